@@ -1,0 +1,208 @@
+-- Laws of lists made by a rule, of parts and of what is put.
+use Prim.Native.Nat.{ℕ, zero, suc, _+_, _-_, _≤_, _<_, min}
+use mathlib.Core.Path.{_≡_, refl, sym, ap, ap₂, _∙_}
+use mathlib.Core.List.{List, [], _∷_, _++_}
+use mathlib.Core.Bool.{Bool, true, false, cond, _&&_}
+use mathlib.Core.Logic.{_⊎_, inl, inr, ⊎-elim}
+use native.Mathlib.Nat.{eq-or-lt-of-le, le-of-suc-le-suc, not-suc-le-zero}
+use native.Mathlib.Numerals.{add-one}
+use native.Mathlib.Omega.{arith}
+use borrow.Author.Tests.{ltb-true, ltb-false, lt-ltb, le-ltb, le-leb, lt-leb}
+use lib.Dec.{leb, ltb}
+use lib.ListN.{length, getD, take, drop, set, length-append, length-take, length-drop, length-set, List·getD-append, List·getD-eq-default}
+use lib.Seq.{ext-getD, getD-at, getD-take, getD-drop, take-suc-set, take-all, getD-set-same, getD-set-other}
+use Rattle.buffers.specs.Bytes.{tab, part, partOr, put}
+
+-- a number is below another or not
+pub below-or-not : (a n : ℕ) → (a < n) ⊎ (n ≤ a)
+below-or-not a n = go (ltb a n) refl
+  where
+    go : (t : Bool) → ltb a n ≡ t → (a < n) ⊎ (n ≤ a)
+    go true e = inl (ltb-true a n e)
+    go false e = inr (ltb-false a n e)
+
+-- past the end of a list
+pub past-end : (d : List ℕ) (k : ℕ) → length d ≤ k → getD d k 0 ≡ 0
+past-end d k h = List·getD-eq-default d 0 h
+
+-- ---- a list made by a rule
+
+pub tab-more : (n : ℕ) (f : ℕ → ℕ) → tab (n + 1) f ≡ tab n f ++ (f n ∷ [])
+unfolding tab
+tab-more n f = rw add-one
+
+pub length-tab : (n : ℕ) (f : ℕ → ℕ) → length (tab n f) ≡ n
+unfolding tab
+length-tab zero f = refl
+length-tab (suc n) f = length-append (tab n f) (f n ∷ []) ∙ ap (λ (k : ℕ). k + 1) (length-tab n f) ∙ add-one n
+
+pub getD-tab : (n : ℕ) (f : ℕ → ℕ) (i : ℕ) → i < n → getD (tab n f) i 0 ≡ f i
+unfolding tab
+getD-tab zero f i h = absurd (not-suc-le-zero h)
+getD-tab (suc n) f i h =
+    ⊎-elim
+    (λ e. rw e (getD-at (tab n f) (f n) [] 0 n (length-tab n f)))
+    (λ l. List·getD-append (tab n f) (f n ∷ []) 0 i (rw length-tab l) ∙ getD-tab n f i l)
+    (eq-or-lt-of-le (le-of-suc-le-suc h))
+
+pub tab-past : (n : ℕ) (f : ℕ → ℕ) (i : ℕ) → n ≤ i → getD (tab n f) i 0 ≡ 0
+tab-past n f i h = past-end (tab n f) i (rw length-tab h)
+
+-- two rules that agree below n make one list
+pub tab-cong : (n : ℕ) (f g : ℕ → ℕ) → ((k : ℕ) → k < n → f k ≡ g k) → tab n f ≡ tab n g
+unfolding tab
+tab-cong zero f g h = refl
+tab-cong (suc n) f g h = ap₂ (λ (l : List ℕ) (x : ℕ). l ++ (x ∷ [])) (tab-cong n f g (λ k l. h k (omega arith))) (h n (omega arith))
+
+-- a list of n elements is what its elements make
+pub tab-of : (n : ℕ) (f : ℕ → ℕ) (l : List ℕ) → length l ≡ n → ((k : ℕ) → k < n → getD l k 0 ≡ f k) → l ≡ tab n f
+tab-of n f l e h =
+    ext-getD 0 l (tab n f) (e ∙ sym (length-tab n f))
+    (λ i k. let m : i < n = omega arith in h i m ∙ sym (getD-tab n f i m))
+
+-- a list that is filled from the front, one store more
+pub fill-more : (l : List ℕ) (i : ℕ) (f : ℕ → ℕ) (v : ℕ) → i < length l → take i l ≡ tab i f → v ≡ f i → take (i + 1) (set l i v) ≡ tab (i + 1) f
+fill-more l i f v h e p = rw (tab-more, add-one) (take-suc-set l i v h ∙ ap₂ (λ (xs : List ℕ) (x : ℕ). xs ++ (x ∷ [])) e p)
+
+pub fill-done : (l : List ℕ) (n : ℕ) (f : ℕ → ℕ) → length l ≡ n → take n l ≡ tab n f → l ≡ tab n f
+fill-done l n f h e = sym (take-all n l (omega arith)) ∙ e
+
+-- ---- a part
+
+pub length-part : (a n : ℕ) (d : List ℕ) → length (part a n d) ≡ n
+unfolding part
+length-part a n d = length-tab n (λ k. getD d (a + k) 0)
+
+pub part-at : (a n : ℕ) (d : List ℕ) (i : ℕ) → i < n → getD (part a n d) i 0 ≡ getD d (a + i) 0
+unfolding part
+part-at a n d i h = getD-tab n (λ k. getD d (a + k) 0) i h
+
+-- parts are equal where their bytes are
+pub part-ext : (a b n : ℕ) (d e : List ℕ) → ((i : ℕ) → i < n → getD d (a + i) 0 ≡ getD e (b + i) 0) → part a n d ≡ part b n e
+unfolding part
+part-ext a b n d e h = tab-cong n (λ k. getD d (a + k) 0) (λ k. getD e (b + k) 0) h
+
+pub part-part : (a n b m : ℕ) (d : List ℕ) → b + m ≤ n → part b m (part a n d) ≡ part (a + b) m d
+part-part a n b m d h =
+    part-ext b (a + b) m (part a n d) d
+    (λ i k. part-at a n d (b + i) (omega arith) ∙ ap (λ (t : ℕ). getD d t 0) (omega arith))
+
+-- a part of a slice, as the code takes one
+pub part-of : (a n : ℕ) (d : List ℕ) → a + n ≤ length d → take n (drop a d) ≡ part a n d
+unfolding part
+part-of a n d h =
+    tab-of n (λ k. getD d (a + k) 0) (take n (drop a d)) (simp (length-take, length-drop) (omega arith))
+    (λ k l. getD-take n (drop a d) k 0 l ∙ getD-drop a d k 0)
+
+pub part-whole : (d : List ℕ) (n : ℕ) → length d ≡ n → part 0 n d ≡ d
+unfolding part
+part-whole d n e = sym (tab-of n (λ k. getD d (0 + k) 0) d e (λ k l. ap (λ (t : ℕ). getD d t 0) (omega arith)))
+
+-- a part that is there, and one that is not
+pub part-in : (a n : ℕ) (d : List ℕ) → a + n ≤ length d → partOr a n d ≡ part a n d
+unfolding partOr
+part-in a n d h = rw (le-leb (a + n) (length d) h)
+
+pub part-out : (a n : ℕ) (d : List ℕ) → length d < a + n → partOr a n d ≡ []
+unfolding partOr
+part-out a n d h = rw (lt-leb (a + n) (length d) h)
+
+-- ---- what is put
+
+abbrev inside : ℕ → ℕ → List ℕ → Bool
+inside a k x = leb a k && ltb k (a + length x)
+
+putByte : List ℕ → ℕ → List ℕ → ℕ → ℕ
+putByte d a x k = cond (inside a k x) (getD x (k - a) 0) (getD d k 0)
+
+pub length-put : (d : List ℕ) (a : ℕ) (x : List ℕ) → length (put d a x) ≡ length d
+unfolding put
+length-put d a x = length-tab (length d) (λ k. cond (inside a k x) (getD x (k - a) 0) (getD d k 0))
+
+put-byte : (d : List ℕ) (a : ℕ) (x : List ℕ) (k : ℕ) → k < length d → getD (put d a x) k 0 ≡ putByte d a x k
+unfolding put putByte
+put-byte d a x k h = getD-tab (length d) (λ k. cond (inside a k x) (getD x (k - a) 0) (getD d k 0)) k h
+
+pub put-in : (d : List ℕ) (a : ℕ) (x : List ℕ) (i : ℕ) → i < length x → a + i < length d → getD (put d a x) (a + i) 0 ≡ getD x i 0
+unfolding putByte
+put-in d a x i h k =
+    put-byte d a x (a + i) k
+    ∙ rw (le-leb a (a + i) (omega arith), lt-ltb (a + i) (a + length x) (omega arith))
+    (ap (λ (t : ℕ). getD x t 0) (omega arith))
+
+pub put-before : (d : List ℕ) (a : ℕ) (x : List ℕ) (k : ℕ) → k < a → getD (put d a x) k 0 ≡ getD d k 0
+unfolding putByte
+put-before d a x k h =
+    ⊎-elim (λ l. put-byte d a x k l ∙ rw (lt-leb a k h))
+    (λ l. past-end (put d a x) k (rw length-put l) ∙ sym (past-end d k l)) (below-or-not k (length d))
+
+pub put-after : (d : List ℕ) (a : ℕ) (x : List ℕ) (k : ℕ) → a + length x ≤ k → getD (put d a x) k 0 ≡ getD d k 0
+unfolding putByte
+put-after d a x k h =
+    ⊎-elim (λ l. put-byte d a x k l ∙ rw (le-leb a k (omega arith), le-ltb k (a + length x) h))
+    (λ l. past-end (put d a x) k (rw length-put l) ∙ sym (past-end d k l)) (below-or-not k (length d))
+
+-- what is put is read, and what lies before or after it stays
+pub part-put : (d : List ℕ) (a : ℕ) (x : List ℕ) → a + length x ≤ length d → part a (length x) (put d a x) ≡ x
+part-put d a x h = part-ext a 0 (length x) (put d a x) x (λ i k. put-in d a x i k (omega arith) ∙ ap (λ (t : ℕ). getD x t 0) (omega arith)) ∙ part-whole x (length x) refl
+
+pub part-put-before : (d : List ℕ) (a : ℕ) (x : List ℕ) (b n : ℕ) → b + n ≤ a → part b n (put d a x) ≡ part b n d
+part-put-before d a x b n h = part-ext b b n (put d a x) d (λ i k. put-before d a x (b + i) (omega arith))
+
+pub part-put-after : (d : List ℕ) (a : ℕ) (x : List ℕ) (b n : ℕ) → a + length x ≤ b → part b n (put d a x) ≡ part b n d
+part-put-after d a x b n h = part-ext b b n (put d a x) d (λ i k. put-after d a x (b + i) (omega arith))
+
+-- the list that has x at a, and d elsewhere, is that one
+pub put-is : (d : List ℕ) (a : ℕ) (x e : List ℕ) → length e ≡ length d → ((i : ℕ) → i < length x → a + i < length d → getD e (a + i) 0 ≡ getD x i 0)
+    → ((k : ℕ) → k < a → getD e k 0 ≡ getD d k 0) → ((k : ℕ) → a + length x ≤ k → k < length d → getD e k 0 ≡ getD d k 0) → e ≡ put d a x
+put-is d a x e l p q r =
+    ext-getD 0 e (put d a x) (l ∙ sym (length-put d a x))
+    (λ k h.
+    let m : k < length d = omega arith in
+    ⊎-elim (λ (b : k < a). q k b ∙ sym (put-before d a x k b))
+    (λ (b : a ≤ k).
+    ⊎-elim
+    (λ (c : k < a + length x).
+    let w : k ≡ a + (k - a) = omega arith in
+    rw w (p (k - a) (omega arith) (omega arith) ∙ sym (put-in d a x (k - a) (omega arith) (omega arith))))
+    (λ (c : a + length x ≤ k). r k c m ∙ sym (put-after d a x k c))
+    (below-or-not k (a + length x)))
+    (below-or-not k a))
+
+-- nothing put, and one byte more of a run
+pub put-none : (d : List ℕ) (a : ℕ) (x : List ℕ) → d ≡ put d a (take 0 x)
+put-none d a x = put-is d a [] d refl (λ i h k. absurd (not-suc-le-zero h)) (λ k h. refl) (λ k h m. refl)
+
+pub put-more : (d : List ℕ) (a : ℕ) (x : List ℕ) (j : ℕ) → j < length x → a + j < length d
+    → set (put d a (take j x)) (a + j) (getD x j 0) ≡ put d a (take (j + 1) x)
+put-more d a x j h m =
+    put-is d a (take (j + 1) x) (set (put d a (take j x)) (a + j) (getD x j 0))
+    (length-set (put d a (take j x)) (a + j) (getD x j 0) ∙ length-put d a (take j x))
+    (λ i k l.
+    let k′ : i < j + 1 = omega (arith, length-take (j + 1) x) in
+    ⊎-elim
+    (λ (e : i ≡ j). rw (e, getD-take (j + 1) x j 0 (omega arith)) (getD-set-same (put d a (take j x)) (a + j) (getD x j 0) 0 (rw length-put m)))
+    (λ (c : i < j).
+    getD-set-other (put d a (take j x)) (a + j) (a + i) (getD x j 0) 0 (omega arith)
+    ∙ put-in d a (take j x) i (omega (arith, length-take j x)) l ∙ getD-take j x i 0 c ∙ sym (getD-take (j + 1) x i 0 k′))
+    (eq-or-lt-of-le (le-of-suc-le-suc (rw add-one at k′))))
+    (λ k l. getD-set-other (put d a (take j x)) (a + j) k (getD x j 0) 0 (omega arith) ∙ put-before d a (take j x) k l)
+    (λ k l n.
+    let z : length (take (j + 1) x) ≡ j + 1 = omega (arith, length-take (j + 1) x) in
+    let y : length (take j x) ≡ j = omega (arith, length-take j x) in
+    getD-set-other (put d a (take j x)) (a + j) k (getD x j 0) 0 (omega arith) ∙ put-after d a (take j x) k (omega arith))
+
+-- all of a run
+pub put-all : (d : List ℕ) (a : ℕ) (x : List ℕ) (j : ℕ) → length x ≤ j → put d a (take j x) ≡ put d a x
+put-all d a x j h = ap (put d a) (take-all j x h)
+
+-- what lies past the end is left out
+pub put-past : (d : List ℕ) (a : ℕ) (x : List ℕ) → length d ≤ a → d ≡ put d a x
+put-past d a x h = put-is d a x d refl (λ i k l. absurd (omega arith)) (λ k l. refl) (λ k l m. refl)
+
+pub put-cut : (d : List ℕ) (a : ℕ) (x : List ℕ) (j : ℕ) → length d ≤ a + j → j ≤ length x → put d a (take j x) ≡ put d a x
+put-cut d a x j h m =
+    let y : length (take j x) ≡ j = omega (arith, length-take j x) in
+    put-is d a x (put d a (take j x)) (length-put d a (take j x))
+    (λ i k l. put-in d a (take j x) i (omega arith) l ∙ getD-take j x i 0 (omega arith))
+    (λ k l. put-before d a (take j x) k l) (λ k l n. absurd (omega arith))

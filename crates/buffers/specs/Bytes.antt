@@ -1,0 +1,34 @@
+-- Lists of bytes: made by a rule, a part read, a part put.
+use Prim.Native.Nat.{ℕ, zero, suc, _+_, _-_}
+use mathlib.Core.List.{List, [], _∷_, _++_}
+use mathlib.Core.Bool.{Bool, true, false, cond, _&&_, _||_}
+use lib.Dec.{leb, ltb}
+use lib.ListN.{length, getD}
+
+-- the list f 0, f 1, .., f (n - 1)
+unfoldable pub tab : ℕ → (ℕ → ℕ) → List ℕ
+tab zero f = []
+tab (suc n) f = tab n f ++ (f n ∷ [])
+
+-- the n bytes of d at a; past the end of d they are 0
+unfoldable pub part : ℕ → ℕ → List ℕ → List ℕ
+part a n d = tab n (λ k. getD d (a + k) 0)
+
+-- those bytes where d has them all, and none where it does not
+unfoldable pub partOr : ℕ → ℕ → List ℕ → List ℕ
+partOr a n d = cond (leb (a + n) (length d)) (part a n d) []
+
+-- d with the bytes x put at a; what would lie past the end of d is left out
+unfoldable pub put : List ℕ → ℕ → List ℕ → List ℕ
+put d a x =
+    tab (length d) (λ k. cond (leb a k && ltb k (a + length x)) (getD x (k - a) 0) (getD d k 0))
+
+-- how many of the numbers below n
+unfoldable pub count : ℕ → (ℕ → Bool) → ℕ
+count zero p = 0
+count (suc n) p = count n p + cond (p n) 1 0
+
+-- whether one of the numbers below n
+unfoldable pub any : ℕ → (ℕ → Bool) → Bool
+any zero p = false
+any (suc n) p = any n p || p n

@@ -1,0 +1,60 @@
+// Bytes of a lent buffer: a byte, a part, a run of bytes copied.
+ghost use mathlib.Core.Path.{_≡_};
+ghost use Prim.Native.Nat.{ℕ, _+_, _-_, _≤_, _<_};
+ghost use lib.ListN.{length, getD};
+ghost use Rattle.buffers.specs.Bytes.{put, partOr};
+
+// The byte at a place, and 0 past the end.
+pub fn byte_at(s: &[u8], i: usize) -> u8
+    ensures { λ r. ⌜ r ≡ getD (now (s .entry)) i 0 ⌝ }
+{
+    if i < s.len() { s[i] } else { 0 }
+}
+
+// The same as a number that can be reckoned with.
+pub fn num_at(s: &[u8], i: usize) -> usize
+    ensures { λ r. ⌜ (r ≡ getD (now (s .entry)) i 0) × (r < 256) ⌝ }
+{
+    byte_at(s, i) as usize
+}
+
+// The `n` bytes at a place, uncopied; an empty part where they are not all there.
+pub fn part_at(s: &[u8], at: usize, n: usize) -> &[u8]
+    ensures { λ r. ⌜ now r ≡ partOr at n (now (s .entry)) ⌝ }
+{
+    if s.len() < at {
+        return &s[0..0];
+    }
+    if s.len() - at < n {
+        return &s[0..0];
+    }
+    let end = at + n;
+    &s[at..end]
+}
+
+// All of `from`, put at a place of `out` where it fits: one loop of plain stores, which the compiler makes a block copy.
+fn copy(out: &mut [u8], at: usize, from: &[u8])
+    requires { ⌜ at + length (now from) ≤ length (now out) ⌝ }
+    ensures { λ _. ⌜ now (out .exit) ≡ put (now (out .entry)) at (now (from .entry)) ⌝ }
+{
+    let mut j: usize = 0;
+    while j < from.len() {
+        out[at + j] = from[j];
+        j += 1;
+    }
+}
+
+// Puts `from` at a place of `out`; what would lie past the end of `out` is left out.
+pub fn copy_into(out: &mut [u8], at: usize, from: &[u8])
+    ensures { λ _. ⌜ now (out .exit) ≡ put (now (out .entry)) at (now (from .entry)) ⌝ }
+{
+    if out.len() <= at {
+        return;
+    }
+    let room = out.len() - at;
+    if from.len() <= room {
+        copy(out, at, from);
+    } else {
+        copy(out, at, &from[..room]);
+    }
+}
