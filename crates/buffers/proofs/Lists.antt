@@ -9,9 +9,9 @@ use native.Mathlib.Numerals.{add-one}
 use native.Mathlib.Omega.{arith}
 use borrow.Author.Tests.{ltb-true, ltb-false, lt-ltb, le-ltb, le-leb, lt-leb}
 use lib.Dec.{leb, ltb}
-use lib.ListN.{length, getD, take, drop, set, length-append, length-take, length-drop, length-set, List·getD-append, List·getD-eq-default}
-use lib.Seq.{ext-getD, getD-at, getD-take, getD-drop, take-suc-set, take-all, getD-set-same, getD-set-other}
-use Rattle.buffers.specs.Bytes.{tab, part, partOr, put}
+use lib.ListN.{length, getD, take, drop, set, length-append, length-take, length-drop, length-set, List·getD-append, List·getD-eq-default, drop-of-length-le}
+use lib.Seq.{ext-getD, getD-at, getD-take, getD-drop, take-suc-set, take-all, take-nil, getD-set-same, getD-set-other}
+use Rattle.buffers.specs.Bytes.{tab, part, put}
 
 -- a number is below another or not
 pub below-or-not : (a n : ℕ) → (a < n) ⊎ (n ≤ a)
@@ -69,43 +69,46 @@ fill-done l n f h e = sym (take-all n l (omega arith)) ∙ e
 
 -- ---- a part
 
-pub length-part : (a n : ℕ) (d : List ℕ) → length (part a n d) ≡ n
+pub length-part : (a n : ℕ) (d : List ℕ) → length (part a n d) ≡ min n (length d - a)
 unfolding part
-length-part a n d = length-tab n (λ k. getD d (a + k) 0)
+length-part a n d = simp (length-take, length-drop)
+
+pub part-long : (a n : ℕ) (d : List ℕ) → a + n ≤ length d → length (part a n d) ≡ n
+part-long a n d h = omega (arith, length-part a n d)
 
 pub part-at : (a n : ℕ) (d : List ℕ) (i : ℕ) → i < n → getD (part a n d) i 0 ≡ getD d (a + i) 0
 unfolding part
-part-at a n d i h = getD-tab n (λ k. getD d (a + k) 0) i h
+part-at a n d i h = rw (getD-take, getD-drop)
 
--- parts are equal where their bytes are
-pub part-ext : (a b n : ℕ) (d e : List ℕ) → ((i : ℕ) → i < n → getD d (a + i) 0 ≡ getD e (b + i) 0) → part a n d ≡ part b n e
-unfolding part
-part-ext a b n d e h = tab-cong n (λ k. getD d (a + k) 0) (λ k. getD e (b + k) 0) h
+-- parts of lists of one length are equal where their bytes are
+pub part-ext : (a n : ℕ) (d e : List ℕ) → length d ≡ length e → ((i : ℕ) → i < n → getD d (a + i) 0 ≡ getD e (a + i) 0) → part a n d ≡ part a n e
+part-ext a n d e l h =
+    ext-getD 0 (part a n d) (part a n e) (length-part a n d ∙ ap (λ (m : ℕ). min n (m - a)) l ∙ sym (length-part a n e))
+    (λ i k.
+    let m : i < n = omega (arith, length-part a n d) in
+    part-at a n d i m ∙ h i m ∙ sym (part-at a n e i m))
 
 pub part-part : (a n b m : ℕ) (d : List ℕ) → b + m ≤ n → part b m (part a n d) ≡ part (a + b) m d
 part-part a n b m d h =
-    part-ext b (a + b) m (part a n d) d
-    (λ i k. part-at a n d (b + i) (omega arith) ∙ ap (λ (t : ℕ). getD d t 0) (omega arith))
+    ext-getD 0 (part b m (part a n d)) (part (a + b) m d) (omega (arith, length-part b m (part a n d), length-part a n d, length-part (a + b) m d))
+    (λ i k.
+    let l : i < m = omega (arith, length-part b m (part a n d)) in
+    part-at b m (part a n d) i l ∙ part-at a n d (b + i) (omega arith) ∙ ap (λ (t : ℕ). getD d t 0) (omega arith)
+    ∙ sym (part-at (a + b) m d i l))
 
--- a part of a slice, as the code takes one
-pub part-of : (a n : ℕ) (d : List ℕ) → a + n ≤ length d → take n (drop a d) ≡ part a n d
+pub part-whole : (d : List ℕ) (n : ℕ) → length d ≤ n → part 0 n d ≡ d
 unfolding part
-part-of a n d h =
-    tab-of n (λ k. getD d (a + k) 0) (take n (drop a d)) (simp (length-take, length-drop) (omega arith))
-    (λ k l. getD-take n (drop a d) k 0 l ∙ getD-drop a d k 0)
+part-whole d n h = take-all n d h
 
-pub part-whole : (d : List ℕ) (n : ℕ) → length d ≡ n → part 0 n d ≡ d
+pub part-none : (a n : ℕ) (d : List ℕ) → length d ≤ a → part a n d ≡ []
 unfolding part
-part-whole d n e = sym (tab-of n (λ k. getD d (0 + k) 0) d e (λ k l. ap (λ (t : ℕ). getD d t 0) (omega arith)))
+part-none a n d h = rw (drop-of-length-le d h) (take-nil n)
 
--- a part that is there, and one that is not
-pub part-in : (a n : ℕ) (d : List ℕ) → a + n ≤ length d → partOr a n d ≡ part a n d
-unfolding partOr
-part-in a n d h = rw (le-leb (a + n) (length d) h)
-
-pub part-out : (a n : ℕ) (d : List ℕ) → length d < a + n → partOr a n d ≡ []
-unfolding partOr
-part-out a n d h = rw (lt-leb (a + n) (length d) h)
+-- a part whose end is cut at the list's
+pub part-cut : (a n m : ℕ) (d : List ℕ) → length d ≤ a + n → length d ≤ a + m → part a n d ≡ part a m d
+unfolding part
+part-cut a n m d h k =
+    take-all n (drop a d) (omega (arith, length-drop a d)) ∙ sym (take-all m (drop a d) (omega (arith, length-drop a d)))
 
 -- ---- what is put
 
@@ -144,13 +147,18 @@ put-after d a x k h =
 
 -- what is put is read, and what lies before or after it stays
 pub part-put : (d : List ℕ) (a : ℕ) (x : List ℕ) → a + length x ≤ length d → part a (length x) (put d a x) ≡ x
-part-put d a x h = part-ext a 0 (length x) (put d a x) x (λ i k. put-in d a x i k (omega arith) ∙ ap (λ (t : ℕ). getD x t 0) (omega arith)) ∙ part-whole x (length x) refl
+part-put d a x h =
+    let l : length (part a (length x) (put d a x)) ≡ length x = part-long a (length x) (put d a x) (rw length-put h) in
+    ext-getD 0 (part a (length x) (put d a x)) x l
+    (λ i k.
+    let m : i < length x = omega arith in
+    part-at a (length x) (put d a x) i m ∙ put-in d a x i m (omega arith))
 
 pub part-put-before : (d : List ℕ) (a : ℕ) (x : List ℕ) (b n : ℕ) → b + n ≤ a → part b n (put d a x) ≡ part b n d
-part-put-before d a x b n h = part-ext b b n (put d a x) d (λ i k. put-before d a x (b + i) (omega arith))
+part-put-before d a x b n h = part-ext b n (put d a x) d (length-put d a x) (λ i k. put-before d a x (b + i) (omega arith))
 
 pub part-put-after : (d : List ℕ) (a : ℕ) (x : List ℕ) (b n : ℕ) → a + length x ≤ b → part b n (put d a x) ≡ part b n d
-part-put-after d a x b n h = part-ext b b n (put d a x) d (λ i k. put-after d a x (b + i) (omega arith))
+part-put-after d a x b n h = part-ext b n (put d a x) d (length-put d a x) (λ i k. put-after d a x (b + i) (omega arith))
 
 -- the list that has x at a, and d elsewhere, is that one
 pub put-is : (d : List ℕ) (a : ℕ) (x e : List ℕ) → length e ≡ length d → ((i : ℕ) → i < length x → a + i < length d → getD e (a + i) 0 ≡ getD x i 0)

@@ -3,20 +3,16 @@ use Prim.Native.Nat.{ℕ, zero, suc, _+_, _-_}
 use mathlib.Core.List.{List, [], _∷_, _++_}
 use mathlib.Core.Bool.{Bool, true, false, cond, _&&_, _||_}
 use lib.Dec.{leb, ltb}
-use lib.ListN.{length, getD}
+use lib.ListN.{length, getD, take, drop}
 
 -- the list f 0, f 1, .., f (n - 1)
 unfoldable pub tab : ℕ → (ℕ → ℕ) → List ℕ
 tab zero f = []
 tab (suc n) f = tab n f ++ (f n ∷ [])
 
--- the n bytes of d at a; past the end of d they are 0
+-- the n bytes of d at a; fewer where d ends before
 unfoldable pub part : ℕ → ℕ → List ℕ → List ℕ
-part a n d = tab n (λ k. getD d (a + k) 0)
-
--- those bytes where d has them all, and none where it does not
-unfoldable pub partOr : ℕ → ℕ → List ℕ → List ℕ
-partOr a n d = cond (leb (a + n) (length d)) (part a n d) []
+part a n d = take n (drop a d)
 
 -- d with the bytes x put at a; what would lie past the end of d is left out
 unfoldable pub put : List ℕ → ℕ → List ℕ → List ℕ

@@ -2,7 +2,7 @@
 ghost use mathlib.Core.Path.{_≡_};
 ghost use Prim.Native.Nat.{ℕ, _+_, _-_, _≤_, _<_};
 ghost use lib.ListN.{length, getD};
-ghost use Rattle.buffers.specs.Bytes.{put, partOr};
+ghost use Rattle.buffers.specs.Bytes.{part, put};
 
 // The byte at a place, and 0 past the end.
 pub fn byte_at(s: &[u8], i: usize) -> u8
@@ -18,15 +18,16 @@ pub fn num_at(s: &[u8], i: usize) -> usize
     byte_at(s, i) as usize
 }
 
-// The `n` bytes at a place, uncopied; an empty part where they are not all there.
+// The `n` bytes at a place, uncopied; fewer where the slice ends before.
 pub fn part_at(s: &[u8], at: usize, n: usize) -> &[u8]
-    ensures { λ r. ⌜ now r ≡ partOr at n (now (s .entry)) ⌝ }
+    ensures { λ r. ⌜ now r ≡ part at n (now (s .entry)) ⌝ }
 {
-    if s.len() < at {
+    let len = s.len();
+    if len <= at {
         return &s[0..0];
     }
-    if s.len() - at < n {
-        return &s[0..0];
+    if len - at < n {
+        return &s[at..len];
     }
     let end = at + n;
     &s[at..end]
