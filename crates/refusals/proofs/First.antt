@@ -1,0 +1,139 @@
+-- The first refusal in the order is the first: laws of `else`, of rows at a slot and of sweeps over slots.
+use Prim.Native.Nat.{ℕ, zero, suc, _+_, _-_, _≤_, _<_}
+use mathlib.Core.Path.{_≡_, refl, sym, ap, _∙_, subst}
+use mathlib.Core.Bool.{Bool, true, false, cond, true≢false, false≢true}
+use mathlib.Core.List.{List, [], _∷_}
+use mathlib.Core.Logic.{_⊎_, inl, inr, ⊎-elim}
+use mathlib.Core.Option.{Option, none, some, Option·some-ne-none}
+use native.Mathlib.Nat.{eq-or-lt-of-le}
+use native.Mathlib.Numerals.{add-one}
+use native.Mathlib.Omega.{arith}
+use Rattle.refusals.specs.Order.{Refusal, refuse, Reply, _else_, Row, rows, sweepFrom, sweep, Clear, FirstRow, FirstAt}
+
+-- ---- the first of two
+
+module _ {A : Type 0} where
+  pub else-none : (a b : Option A) → a else b ≡ none → (a ≡ none) × (b ≡ none)
+  else-none none b e = (refl, e)
+  else-none (some r) b e = absurd (Option·some-ne-none r e)
+
+  pub none-else : (a b : Option A) → a ≡ none → b ≡ none → a else b ≡ none
+  none-else a b p q = rw p q
+
+  -- an answer is the first one's, or the first has none
+  pub else-some : (a b : Option A) (r : A) → a else b ≡ some r → (a ≡ some r) ⊎ ((a ≡ none) × (b ≡ some r))
+  else-some none b r e = inr (refl, e)
+  else-some (some x) b r e = inl e
+
+-- ---- the rows at a slot
+
+pub rows-clear : (s : ℕ) (rs : List Row) → rows s rs ≡ none → Clear rs
+rows-clear s [] e = tt
+rows-clear s (r ∷ rs) e = by (r .holds) refl e (rows-clear s rs)
+  where
+    by : (t : Bool) → r .holds ≡ t → cond t (some (refuse (r .number) s)) (rows s rs) ≡ none → (rows s rs ≡ none → Clear rs) → (r .holds ≡ false) × Clear rs
+    by true q w k = absurd (Option·some-ne-none (refuse (r .number) s) w)
+    by false q w k = (q, k w)
+
+pub clear-rows : (s : ℕ) (rs : List Row) → Clear rs → rows s rs ≡ none
+clear-rows s [] c = refl
+clear-rows s (r ∷ rs) c = rw (c .0) (clear-rows s rs (c .1))
+
+-- a refusal is the number of a row that holds and has none before it, at that slot
+pub rows-first : (s : ℕ) (rs : List Row) (x : Refusal) → rows s rs ≡ some x → FirstRow (x .number) rs × (x .slot ≡ s)
+rows-first s [] x e = absurd (Option·some-ne-none x (sym e))
+rows-first s (r ∷ rs) x e = by (r .holds) refl e (rows-first s rs x)
+  where
+    by : (t : Bool) → r .holds ≡ t → cond t (some (refuse (r .number) s)) (rows s rs) ≡ some x
+        → (rows s rs ≡ some x → FirstRow (x .number) rs × (x .slot ≡ s)) → FirstRow (x .number) (r ∷ rs) × (x .slot ≡ s)
+    by true q w k =
+        let z : _≡_ {A = Refusal} (refuse (r .number) s) x = cc in
+        (inl (q, ap (λ (y : Refusal). y .number) z), sym (ap (λ (y : Refusal). y .slot) z))
+    by false q w k = let c = k w in (inr (q, c .0), c .1)
+
+pub first-rows : (s : ℕ) (rs : List Row) (n : ℕ) → FirstRow n rs → rows s rs ≡ some (refuse n s)
+first-rows s [] n f = absurd f
+first-rows s (r ∷ rs) n f = ⊎-elim (λ c. rw (c .0) (ap (λ (m : ℕ). some (refuse m s)) (c .1))) (λ c. rw (c .0) (first-rows s rs n (c .1))) f
+
+-- ---- sweeps
+
+module _ {A : Type 0} where
+  -- as a loop meets them: n left, from i
+  pub sweep-end : (n i : ℕ) (f : ℕ → Option A) → n ≡ 0 → sweepFrom n i f ≡ none
+  unfolding sweepFrom
+  sweep-end n i f e = rw e
+
+  pub sweep-skip : (n i : ℕ) (f : ℕ → Option A) → i < n → f i ≡ none → sweepFrom (n - i) i f ≡ sweepFrom (n - (i + 1)) (i + 1) f
+  unfolding sweepFrom
+  sweep-skip n i f h e =
+      let s : n - i ≡ suc (n - (i + 1)) = omega arith in
+      rw (s, e, add-one)
+
+  pub sweep-stop : (n i : ℕ) (f : ℕ → Option A) (a : A) → i < n → f i ≡ some a → sweepFrom (n - i) i f ≡ some a
+  unfolding sweepFrom
+  sweep-stop n i f a h e =
+      let s : n - i ≡ suc (n - (i + 1)) = omega arith in
+      rw (s, e)
+
+  pub sweep-start : (n : ℕ) (f : ℕ → Option A) → sweep n f ≡ sweepFrom (n - 0) 0 f
+  unfolding sweep
+  sweep-start n f = ap (λ (m : ℕ). sweepFrom m 0 f) (omega arith)
+
+  sweepFrom-none : (n i : ℕ) (f : ℕ → Option A) → sweepFrom n i f ≡ none → (j : ℕ) → i ≤ j → j < i + n → f j ≡ none
+  unfolding sweepFrom
+  sweepFrom-none zero i f e j h k = absurd (omega arith)
+  sweepFrom-none (suc n) i f e j h k =
+      let c = else-none (f i) (sweepFrom n (suc i) f) e in
+      ⊎-elim (λ q. subst (λ (m : ℕ). f m ≡ none) q (c .0)) (λ q. sweepFrom-none n (suc i) f (c .1) j q (omega arith)) (eq-or-lt-of-le h)
+
+  none-sweepFrom : (n i : ℕ) (f : ℕ → Option A) → ((j : ℕ) → j < i + n → f j ≡ none) → sweepFrom n i f ≡ none
+  unfolding sweepFrom
+  none-sweepFrom zero i f h = refl
+  none-sweepFrom (suc n) i f h = rw (h i (omega arith)) (none-sweepFrom n (suc i) f (λ j k. h j (omega arith)))
+
+  pub sweep-none : (n : ℕ) (f : ℕ → Option A) → sweep n f ≡ none → (j : ℕ) → j < n → f j ≡ none
+  unfolding sweep
+  sweep-none n f e j h = sweepFrom-none n 0 f e j (omega arith) (omega arith)
+
+  pub none-sweep : (n : ℕ) (f : ℕ → Option A) → ((j : ℕ) → j < n → f j ≡ none) → sweep n f ≡ none
+  unfolding sweep
+  none-sweep n f h = none-sweepFrom n 0 f (λ j k. h j (omega arith))
+
+  -- two that agree below n
+  sweepFrom-cong : (n i : ℕ) (f g : ℕ → Option A) → ((j : ℕ) → j < i + n → f j ≡ g j) → sweepFrom n i f ≡ sweepFrom n i g
+  unfolding sweepFrom
+  sweepFrom-cong zero i f g h = refl
+  sweepFrom-cong (suc n) i f g h = rw (h i (omega arith), sweepFrom-cong n (suc i) f g (λ j k. h j (omega arith)))
+
+  pub sweep-cong : (n : ℕ) (f g : ℕ → Option A) → ((j : ℕ) → j < n → f j ≡ g j) → sweep n f ≡ sweep n g
+  unfolding sweep
+  sweep-cong n f g h = sweepFrom-cong n 0 f g (λ j k. h j (omega arith))
+
+  -- an answer is the first number's that has one
+  go-first : (n i : ℕ) (f : ℕ → Option A) (a : A) → ((k : ℕ) → k < i → f k ≡ none) → sweepFrom n i f ≡ some a → FirstAt (i + n) f a
+  unfolding sweepFrom
+  go-first zero i f a b e = absurd (Option·some-ne-none a (sym e))
+  go-first (suc n) i f a b e = by (f i) refl e (go-first n (suc i) f a)
+    where
+      more : f i ≡ none → (k : ℕ) → k < suc i → f k ≡ none
+      more q k h = ⊎-elim (λ w. subst (λ (m : ℕ). f m ≡ none) (sym w) q) (λ w. b k w) (eq-or-lt-of-le (omega arith))
+
+      by : (o : Option A) → f i ≡ o → o else sweepFrom n (suc i) f ≡ some a
+          → (((k : ℕ) → k < suc i → f k ≡ none) → sweepFrom n (suc i) f ≡ some a → FirstAt (suc i + n) f a) → FirstAt (i + suc n) f a
+      by none q w k = let r = k (more q) w in record { at = r .at; below = omega (arith, r .below); before = r .before; here = r .here }
+      by (some x) q w k = record { at = i; below = omega arith; before = b; here = q ∙ w }
+
+  pub sweep-first : (n : ℕ) (f : ℕ → Option A) (a : A) → sweep n f ≡ some a → FirstAt n f a
+  unfolding sweep
+  sweep-first n f a e =
+      let r = go-first n 0 f a (λ k h. absurd (omega arith)) e in
+      record { at = r .at; below = omega (arith, r .below); before = r .before; here = r .here }
+
+  pub first-sweep : (n : ℕ) (f : ℕ → Option A) (a : A) → FirstAt n f a → sweep n f ≡ some a
+  unfolding sweep sweepFrom
+  first-sweep n f a w = go n 0 (omega arith) (omega (arith, w .below))
+    where
+      go : (m i : ℕ) → i ≤ w .at → w .at < i + m → sweepFrom m i f ≡ some a
+      go zero i p q = absurd (omega arith)
+      go (suc m) i p q =
+          ⊎-elim (λ e. let z : f i ≡ some a = ap f e ∙ w .here in rw z) (λ l. rw (w .before i l) (go m (suc i) l (omega arith))) (eq-or-lt-of-le p)

@@ -1,0 +1,78 @@
+-- The paper's number and values for each case of an answer.
+use Prim.Native.Nat.{ℕ}
+use mathlib.Core.Option.{Option, none, some}
+use Rattle.refusals.specs.Order.{Refusal, Reply, refuse}
+use Rattle.refusals.specs.declared.Reason.{Reason}
+use Rattle.refusals.specs.declared.Reason.the-variants.{NotAnImage, KindUnknown, NameMissing, CountOutOfRange, BitsDiffer, FirstNotOwn, LengthTooGreat, SectorShared, NameTwice, ChainBroken, HeaderDiffers, NameNotUsable, KindNotCarried, StartOutOfRange, NameNotFound, NameTaken, FileProtected, NoFreeSlot, TooFewSectors, BufferTooShort, NoSuchSector}
+use Rattle.refusals.specs.declared.Refused.{Refused}
+use Rattle.refusals.specs.declared.Verdict.{Verdict}
+use Rattle.refusals.specs.declared.Verdict.the-variants.{Sound, Unsound}
+use Rattle.refusals.specs.declared.Answer.{Answer}
+use Rattle.refusals.specs.declared.Answer.the-variants.{Done, No}
+
+-- "Numbers of refusal"
+abbrev pub numberOf : Reason → ℕ
+-- the image is not 819,200 bytes
+numberOf NotAnImage = 1
+-- the kind is not known
+numberOf KindUnknown = 2
+-- the first name byte is 0
+numberOf NameMissing = 3
+-- the count is not 1 to 1,560
+numberOf CountOutOfRange = 4
+-- the map's set bits are not as many as the count
+numberOf BitsDiffer = 5
+-- the first address is not a data sector, or its bit is clear
+numberOf FirstNotOwn = 6
+-- carried kind, and 510 × count is below 9 + length
+numberOf LengthTooGreat = 7
+-- the map shares a bit with an earlier live slot
+numberOf SectorShared = 8
+-- the ten name bytes equal an earlier live slot's
+numberOf NameTwice = 9
+-- the chain is broken
+numberOf ChainBroken = 10
+-- carried kind, and the header differs from the slot
+numberOf HeaderDiffers = 11
+-- the name is not usable
+numberOf NameNotUsable = 12
+-- the kind asked for, or found, is not carried
+numberOf KindNotCarried = 13
+-- start page above 31, or offset outside 32,768 to 49,151
+numberOf StartOutOfRange = 14
+-- no live slot has the name
+numberOf NameNotFound = 15
+-- a live slot has the new name
+numberOf NameTaken = 16
+-- protected
+numberOf FileProtected = 17
+-- no slot has byte 0 zero
+numberOf NoFreeSlot = 18
+-- fewer free sectors than the save takes
+numberOf TooFewSectors = 19
+-- a lent output buffer is too short
+numberOf BufferTooShort = 20
+-- no such drive, track or sector
+numberOf NoSuchSector = 21
+
+abbrev pub refusalOf : Refused → Refusal
+refusalOf r = refuse (numberOf (r .reason)) (r .slot)
+
+-- what a check replies
+abbrev pub replyOf : Verdict → Reply
+replyOf Sound = none
+replyOf (Unsound r) = some (refusalOf r)
+
+-- what a call gives: its value and the free sectors, or a refusal
+pub data Outcome : Type 0 where
+  done : ℕ → ℕ → Outcome
+  refused : Refusal → Outcome
+
+abbrev pub outcomeOf : Answer → Outcome
+outcomeOf (Done v f) = done v f
+outcomeOf (No r) = refused (refusalOf r)
+
+-- an outcome, unless there is a refusal
+abbrev pub unless : Reply → Outcome → Outcome
+unless (some r) o = refused r
+unless none o = o

@@ -1,0 +1,73 @@
+-- The first refusal in a fixed order: rows at a slot, slots from the lowest, one pass after another.
+use Prim.Native.Nat.{ℕ, zero, suc, _<_}
+use mathlib.Core.Path.{_≡_}
+use mathlib.Core.Bool.{Bool, true, false, cond}
+use mathlib.Core.List.{List, [], _∷_}
+use mathlib.Core.Logic.{_⊎_}
+use mathlib.Core.Option.{Option, none, some}
+
+-- "A refused call returns the number, and the slot ..": the table's number, and the slot, from 1, or 0
+pub record Refusal : Type 0 where
+  pub number : ℕ
+  pub slot : ℕ
+
+abbrev pub refuse : ℕ → ℕ → Refusal
+refuse n s = record { number = n; slot = s }
+
+-- no refusal, or the one that is given
+abbrev pub Reply : Type 0
+Reply = Option Refusal
+
+-- the first of two that there is
+module _ {A : Type 0} where
+  infixr 60 _else_
+  abbrev pub _else_ : Option A → Option A → Option A
+  some r else q = some r
+  none else q = q
+
+-- a row of the table: its number, given when its test holds
+pub record Row : Type 0 where
+  pub number : ℕ
+  pub holds : Bool
+
+infix 20 _when_
+abbrev pub _when_ : ℕ → Bool → Row
+n when t = record { number = n; holds = t }
+
+-- the first row that holds, at a slot
+abbrev pub rows : ℕ → List Row → Reply
+rows s [] = none
+rows s (r ∷ rs) = cond (r .holds) (some (refuse (r .number) s)) (rows s rs)
+
+-- one row at a slot
+abbrev pub row : ℕ → ℕ → Bool → Reply
+row n s t = rows s ((n when t) ∷ [])
+
+-- the first answer among n numbers from i on
+module _ {A : Type 0} where
+  unfoldable pub sweepFrom : ℕ → ℕ → (ℕ → Option A) → Option A
+  sweepFrom zero i f = none
+  sweepFrom (suc n) i f = f i else sweepFrom n (suc i) f
+
+  -- the first answer among the numbers below n
+  unfoldable pub sweep : ℕ → (ℕ → Option A) → Option A
+  sweep n f = sweepFrom n 0 f
+
+-- ---- what it means to be the first
+
+-- no row holds
+abbrev pub Clear : List Row → Type 0
+Clear [] = Unit {0}
+Clear (r ∷ rs) = (r .holds ≡ false) × Clear rs
+
+-- a number whose row holds, and no row before it does
+abbrev pub FirstRow : ℕ → List Row → Type 0
+FirstRow n [] = ⊥
+FirstRow n (r ∷ rs) = ((r .holds ≡ true) × (r .number ≡ n)) ⊎ ((r .holds ≡ false) × FirstRow n rs)
+
+-- the first number below n that has an answer, and that answer
+pub record FirstAt {A : Type 0} (n : ℕ) (f : ℕ → Option A) (a : A) : Type 0 where
+  pub at : ℕ
+  pub below : at < n
+  pub before : (k : ℕ) → k < at → f k ≡ none
+  pub here : f at ≡ some a

@@ -1,0 +1,76 @@
+// The table of refusals: why a call refuses, and the slot it was found at.
+ghost use mathlib.Core.Path.{_≡_};
+ghost use Prim.Native.Nat.{_≤_};
+ghost use Rattle.refusals.specs.Answers.{numberOf};
+
+// The rows of the table, in its order: the first is number 1.
+pub enum Reason {
+    NotAnImage,
+    KindUnknown,
+    NameMissing,
+    CountOutOfRange,
+    BitsDiffer,
+    FirstNotOwn,
+    LengthTooGreat,
+    SectorShared,
+    NameTwice,
+    ChainBroken,
+    HeaderDiffers,
+    NameNotUsable,
+    KindNotCarried,
+    StartOutOfRange,
+    NameNotFound,
+    NameTaken,
+    FileProtected,
+    NoFreeSlot,
+    TooFewSectors,
+    BufferTooShort,
+    NoSuchSector,
+}
+
+// A refusal: its reason, and the slot (from 1) it was found at, or 0.
+pub struct Refused {
+    pub reason: Reason,
+    pub slot: usize,
+}
+
+// What a check finds.
+pub enum Verdict {
+    Sound,
+    Unsound(Refused),
+}
+
+// What a call answers: a value (how many, a length, an address) with the free sectors of a listing, or a refusal.
+pub enum Answer {
+    Done(usize, usize),
+    No(Refused),
+}
+
+// The number of a reason in the table.
+pub fn number_of(reason: Reason) -> usize
+    ensures { λ r. ⌜ (r ≡ numberOf reason) × (r ≤ 21) ⌝ }
+{
+    match reason {
+        Reason::NotAnImage => 1,
+        Reason::KindUnknown => 2,
+        Reason::NameMissing => 3,
+        Reason::CountOutOfRange => 4,
+        Reason::BitsDiffer => 5,
+        Reason::FirstNotOwn => 6,
+        Reason::LengthTooGreat => 7,
+        Reason::SectorShared => 8,
+        Reason::NameTwice => 9,
+        Reason::ChainBroken => 10,
+        Reason::HeaderDiffers => 11,
+        Reason::NameNotUsable => 12,
+        Reason::KindNotCarried => 13,
+        Reason::StartOutOfRange => 14,
+        Reason::NameNotFound => 15,
+        Reason::NameTaken => 16,
+        Reason::FileProtected => 17,
+        Reason::NoFreeSlot => 18,
+        Reason::TooFewSectors => 19,
+        Reason::BufferTooShort => 20,
+        Reason::NoSuchSector => 21,
+    }
+}
