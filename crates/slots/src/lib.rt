@@ -1,0 +1,150 @@
+// One slot of the directory: its fields, its name, and rows 2 to 7 of the table. A slot is 256 bytes; of a shorter
+// slice the missing bytes count as 0.
+ghost use mathlib.Core.Path.{_≡_};
+ghost use Prim.Native.Nat.{ℕ, _+_, _*_, _≤_, _<_};
+ghost use Rattle.buffers.specs.Bytes.{part};
+ghost use Rattle.slots.specs.Slot.{isLive, hidden, protected, kindOf, known, carried, nameOf, countOf, firstOf, mapOf, pageOf, offsetOf, pagesOf, remainderOf, facts, lengthOf};
+ghost use Rattle.slots.specs.Name.{sameName, askable, padded};
+
+pub fn is_live(s: &[u8]) -> bool
+    ensures { λ r. ⌜ r ≡ isLive (now (s .entry)) ⌝ }
+{
+    buffers::byte_at(s, 0) != 0
+}
+
+pub fn is_hidden(s: &[u8]) -> bool
+    ensures { λ r. ⌜ r ≡ hidden (now (s .entry)) ⌝ }
+{
+    buffers::byte_at(s, 0) / 128 % 2 == 1
+}
+
+pub fn is_protected(s: &[u8]) -> bool
+    ensures { λ r. ⌜ r ≡ protected (now (s .entry)) ⌝ }
+{
+    buffers::byte_at(s, 0) / 64 % 2 == 1
+}
+
+pub fn kind_of(s: &[u8]) -> usize
+    ensures { λ r. ⌜ (r ≡ kindOf (now (s .entry))) × (r < 64) ⌝ }
+{
+    buffers::num_at(s, 0) % 64
+}
+
+pub fn is_known(kind: usize) -> bool
+    ensures { λ r. ⌜ r ≡ known kind ⌝ }
+{
+    if kind < 1 {
+        return false;
+    }
+    if kind <= 12 {
+        return true;
+    }
+    if kind < 16 {
+        return false;
+    }
+    kind <= 23
+}
+
+pub fn is_carried(kind: usize) -> bool
+    ensures { λ r. ⌜ r ≡ carried kind ⌝ }
+{
+    if kind < 16 {
+        return false;
+    }
+    kind <= 20
+}
+
+pub fn name_of(s: &[u8]) -> &[u8]
+    ensures { λ r. ⌜ now r ≡ nameOf (now (s .entry)) ⌝ }
+{
+    buffers::part_at(s, 1, 10)
+}
+
+pub fn count_of(s: &[u8]) -> usize
+    ensures { λ r. ⌜ (r ≡ countOf (now (s .entry))) × (r ≤ 65535) ⌝ }
+{
+    buffers::num_at(s, 11) * 256 + buffers::num_at(s, 12)
+}
+
+// The first sector as a map bit: 1,560 where the slot names no data sector.
+pub fn first_of(s: &[u8]) -> usize
+    ensures { λ r. ⌜ (r ≡ firstOf (now (s .entry))) × (r ≤ 1560) ⌝ }
+{
+    geometry::bit_or_end(buffers::num_at(s, 13), buffers::num_at(s, 14))
+}
+
+pub fn map_of(s: &[u8]) -> &[u8]
+    ensures { λ r. ⌜ now r ≡ mapOf (now (s .entry)) ⌝ }
+{
+    buffers::part_at(s, 15, 195)
+}
+
+pub fn page_of(s: &[u8]) -> usize
+    ensures { λ r. ⌜ (r ≡ pageOf (now (s .entry))) × (r < 32) ⌝ }
+{
+    buffers::num_at(s, 236) % 32
+}
+
+pub fn offset_of(s: &[u8]) -> usize
+    ensures { λ r. ⌜ (r ≡ offsetOf (now (s .entry))) × (r ≤ 65535) ⌝ }
+{
+    buffers::num_at(s, 237) + 256 * buffers::num_at(s, 238)
+}
+
+pub fn pages_of(s: &[u8]) -> usize
+    ensures { λ r. ⌜ (r ≡ pagesOf (now (s .entry))) × (r < 256) ⌝ }
+{
+    buffers::num_at(s, 239)
+}
+
+pub fn remainder_of(s: &[u8]) -> usize
+    ensures { λ r. ⌜ (r ≡ remainderOf (now (s .entry))) × (r < 16384) ⌝ }
+{
+    (buffers::num_at(s, 240) + 256 * buffers::num_at(s, 241)) % 16384
+}
+
+// The length of a body, as the slot has it.
+pub fn length_of(s: &[u8]) -> usize
+    ensures { λ r. ⌜ (r ≡ lengthOf (facts (now (s .entry)))) × (r < 4194304) ⌝ }
+{
+    pages_of(s) * 16384 + remainder_of(s)
+}
+
+// Whether two names are the same.
+pub fn same_name(a: &[u8], b: &[u8]) -> bool
+    ensures { λ r. ⌜ r ≡ sameName (now (a .entry)) (now (b .entry)) ⌝ }
+{
+    if a.len() != b.len() {
+        return false;
+    }
+    let mut i: usize = 0;
+    while i < a.len() {
+        if a[i] != b[i] {
+            return false;
+        }
+        i += 1;
+    }
+    true
+}
+
+// Whether a name can be asked for.
+pub fn is_askable(name: &[u8]) -> bool
+    ensures { λ r. ⌜ r ≡ askable (now (name .entry)) ⌝ }
+{
+    if name.len() < 1 {
+        return false;
+    }
+    if 10 < name.len() {
+        return false;
+    }
+    buffers::byte_at(name, 0) != 0
+}
+
+// A name filled to ten bytes; of a longer one the first ten.
+pub fn padded_name(name: &[u8]) -> [u8; 10]
+    ensures { λ r. ⌜ r ≡ part 0 10 (padded (now (name .entry))) ⌝ }
+{
+    let mut filled = [32u8; 10];
+    buffers::copy_into(&mut filled, 0, name);
+    filled
+}
