@@ -1,0 +1,51 @@
+// The raw sector call over the images of drives 1 and 2.
+ghost use mathlib.Core.Path.{_≡_};
+ghost use Rattle.drives.specs.Raw.{rawRefusal, rawSector};
+
+// The refusal's number, 0 for none.
+pub fn raw_refusal(one: &[u8], two: &[u8], drive: usize, track: usize, sector: usize) -> usize
+    ensures { λ r. ⌜ r ≡ rawRefusal (now (one .entry)) (now (two .entry)) drive track sector ⌝ }
+{
+    if one.len() != 819200 {
+        return 1;
+    }
+    if two.len() != 819200 {
+        return 1;
+    }
+    if drive < 1 {
+        return 21;
+    }
+    if drive > 2 {
+        return 21;
+    }
+    if geometry::is_sector(track, sector) {
+        return 0;
+    }
+    21
+}
+
+// The 512 bytes of a sector of the chosen drive, uncopied; an empty part on a refusal.
+pub fn raw_sector<'a>(
+    one: &'a [u8],
+    two: &'a [u8],
+    drive: usize,
+    track: usize,
+    sector: usize,
+) -> &'a [u8]
+    ensures { λ r. ⌜ now r ≡ rawSector (now (one .entry)) (now (two .entry)) drive track sector ⌝ }
+{
+    if raw_refusal(one, two, drive, track, sector) != 0 {
+        return &one[0..0];
+    }
+    match geometry::place(track, sector) {
+        geometry::Spot::At(start) => {
+            let end = start + 512;
+            if drive == 1 {
+                &one[start..end]
+            } else {
+                &two[start..end]
+            }
+        }
+        geometry::Spot::NoSector => &one[0..0],
+    }
+}
