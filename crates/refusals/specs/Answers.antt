@@ -1,6 +1,8 @@
 -- The paper's number and values for each case of an answer.
 use Prim.Native.Nat.{ℕ}
-use mathlib.Core.Option.{Option, none, some}
+use mathlib.Core.List.{List}
+use mathlib.Core.Option.{none, some}
+use Rattle.buffers.specs.Bytes.{put}
 use Rattle.refusals.specs.Order.{Refusal, Reply, refuse}
 use Rattle.refusals.specs.declared.Reason.{Reason}
 use Rattle.refusals.specs.declared.Reason.the-variants.{NotAnImage, KindUnknown, NameMissing, CountOutOfRange, BitsDiffer, FirstNotOwn, LengthTooGreat, SectorShared, NameTwice, ChainBroken, HeaderDiffers, NameNotUsable, KindNotCarried, StartOutOfRange, NameNotFound, NameTaken, FileProtected, NoFreeSlot, TooFewSectors, BufferTooShort, NoSuchSector}
@@ -76,3 +78,16 @@ outcomeOf (No r) = refused (refusalOf r)
 abbrev pub unless : Reply → Outcome → Outcome
 unless (some r) o = refused r
 unless none o = o
+
+-- a call that fills a lent buffer gives its outcome, and the buffer at return
+pub record Out : Type 0 where
+  pub outcome : Outcome
+  pub buffer : List ℕ
+
+abbrev pub out : Outcome → List ℕ → Out
+out o b = record { outcome = o; buffer = b }
+
+-- "Nothing lent changes" where there is a refusal; else bytes are put to the front of the buffer, and the rest stays
+abbrev pub filled : Reply → Outcome → List ℕ → List ℕ → Out
+filled (some r) o x buf = out (refused r) buf
+filled none o x buf = out o (put buf 0 x)

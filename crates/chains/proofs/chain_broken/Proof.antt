@@ -1,0 +1,130 @@
+-- `chains::chain_broken` meets its contract: before each turn the chain is broken exactly where what is left of it strays.
+use mathlib.Core.Path.{sym, ap, _∙_}
+use mathlib.Core.Bool.{not}
+use borrow.Author.Tests.{not-true, not-false}
+use Rattle.chains.proofs.Turns.{Walked, in-map, outside, start, strays-off, strays-back, walked, end}
+use borrow.Author.Needs.{needs}
+use Rattle.chains.proofs.chain_broken.Statement.{statement}
+use Rattle.chains.proofs.chain_broken.Tie as tie
+
+abbrev Inv-loop : tie.InvT-loop
+Inv-loop image s map first left₀ passed₀ b₀ left passed b = Walked image s left passed b
+
+abbrev μ-loop : tie.MeasureT-loop
+μ-loop image s map first left₀ passed₀ b₀ left passed b = left
+
+map-of-requires : tie.Need-map-of-requires Inv-loop μ-loop
+map-of-requires c κs = search needs
+
+first-of-requires : tie.Need-first-of-requires Inv-loop μ-loop
+first-of-requires c κs = search needs
+
+has-bit-requires : tie.Need-has-bit-requires Inv-loop μ-loop
+has-bit-requires c κs = search needs
+
+returns : tie.Need-returns Inv-loop μ-loop
+returns c =
+    let f = c .before .before in
+    outside _ _ _ (f .first-of .ensures .0) (in-map _ _ _ (f .before .map-of .ensures) (c .before .has-bit .ensures) (not-true _ (c .if1 .taken)))
+
+count-of-requires : tie.Need-count-of-requires Inv-loop μ-loop
+count-of-requires c κs = search needs
+
+loop-holds : tie.Need-loop-holds Inv-loop μ-loop
+loop-holds c =
+    let e = c .before in
+    let f = e .before .before in
+    start _ _ _ _ (f .first-of .ensures .0) (c .count-of .ensures .0) (in-map _ _ _ (f .before .map-of .ensures) (e .before .has-bit .ensures) (not-false _ (e .if1 .left)))
+
+slice-aggregate-mark : tie.Need-slice-aggregate-mark Inv-loop μ-loop
+slice-aggregate-mark c = search needs
+
+mark-requires : tie.Need-mark-requires Inv-loop μ-loop
+mark-requires c κs = search needs
+
+sector-at-requires : tie.Need-sector-at-requires Inv-loop μ-loop
+sector-at-requires c κs = search needs
+
+next-of-requires : tie.Need-next-of-requires Inv-loop μ-loop
+next-of-requires c κs = search needs
+
+has-bit-requires-2 : tie.Need-has-bit-requires-2 Inv-loop μ-loop
+has-bit-requires-2 c κs = search needs
+
+returns-2 : tie.Need-returns-2 Inv-loop μ-loop
+returns-2 c =
+    let n = c .before .before in
+    let i = n .before .before .before .before .before in
+    let l = i .before in
+    strays-off _ _ _ _ _ _ _ _ (l .loop .inv) (i .loop-test .taken) (n .before .before .before .mark .ensures) (n .before .sector-at .ensures) (n .next-of .ensures .0)
+    (in-map _ _ _ (l .before .before .before .before .before .map-of .ensures) (c .before .has-bit2 .ensures) (not-true _ (c .if2 .taken)))
+
+slice-aggregate-has-bit : tie.Need-slice-aggregate-has-bit Inv-loop μ-loop
+slice-aggregate-has-bit c = search needs
+
+has-bit-requires-3 : tie.Need-has-bit-requires-3 Inv-loop μ-loop
+has-bit-requires-3 c κs = search needs
+
+returns-3 : tie.Need-returns-3 Inv-loop μ-loop
+returns-3 c =
+    let e = c .before .before .before in
+    let n = e .before .before in
+    let i = n .before .before .before .before .before in
+    let l = i .before in
+    strays-back _ _ _ _ _ _ _ _ (l .loop .inv) (i .loop-test .taken) (n .before .before .before .mark .ensures) (n .before .sector-at .ensures) (n .next-of .ensures .0)
+    (sym (c .before .has-bit3 .ensures) ∙ c .if3 .taken)
+
+sub-left : tie.Need-sub-left Inv-loop μ-loop
+sub-left c = search needs
+
+loop-less : tie.Need-loop-less Inv-loop μ-loop
+loop-less c = search needs
+
+loop-again : tie.Need-loop-again Inv-loop μ-loop
+loop-again c =
+    let e = c .before .before .before in
+    let n = e .before .before in
+    let i = n .before .before .before .before .before in
+    let l = i .before in
+    walked _ _ _ _ _ _ _ _ (l .loop .inv) (i .loop-test .taken) (n .before .before .before .mark .ensures) (n .before .sector-at .ensures) (n .next-of .ensures .0)
+    (in-map _ _ _ (l .before .before .before .before .before .map-of .ensures) (e .before .has-bit2 .ensures) (not-false _ (e .if2 .left)))
+    (sym (c .before .has-bit3 .ensures) ∙ c .if3 .left)
+
+sector-at-requires-2 : tie.Need-sector-at-requires-2 Inv-loop μ-loop
+sector-at-requires-2 c κs = search needs
+
+is-last-requires : tie.Need-is-last-requires Inv-loop μ-loop
+is-last-requires c κs = search needs
+
+returns-4 : tie.Need-returns-4 Inv-loop μ-loop
+returns-4 c =
+    let a = c .before .before in
+    ap not (c .is-last .ensures) ∙ sym (end _ _ _ _ _ _ (a .before .loop .inv) (a .loop-test .left) (c .before .sector-at2 .ensures))
+
+pub chain-broken-spec : {M : Type 1} → statement M
+chain-broken-spec =
+    tie.close
+    (tie.spec
+    Inv-loop
+    μ-loop
+    map-of-requires
+    first-of-requires
+    has-bit-requires
+    returns
+    count-of-requires
+    loop-holds
+    slice-aggregate-mark
+    mark-requires
+    sector-at-requires
+    next-of-requires
+    has-bit-requires-2
+    returns-2
+    slice-aggregate-has-bit
+    has-bit-requires-3
+    returns-3
+    sub-left
+    loop-less
+    loop-again
+    sector-at-requires-2
+    is-last-requires
+    returns-4)

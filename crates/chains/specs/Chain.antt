@@ -1,0 +1,68 @@
+-- A file's chain of sectors, its header, and its body. The words of document 01 stand above what they define.
+use Prim.Native.Nat.{ℕ, zero, suc, _+_, _-_, _*_, _/_, _%_}
+use mathlib.Core.Bool.{Bool, true, false, not, cond, _&&_, _||_}
+use mathlib.Core.List.{List, [], _∷_}
+use lib.Dec.{eqb}
+use lib.ListN.{getD}
+use Rattle.buffers.specs.Bytes.{tab}
+use Rattle.geometry.specs.Disk.{bitOf}
+use Rattle.maps.specs.Bits.{has}
+use Rattle.refusals.specs.Order.{Row, _when_, Reply, rows}
+use Rattle.slots.specs.Slot.{Facts, facts, carried, lengthOf}
+use Rattle.chains.specs.File.{File, fileOf}
+
+-- "Bytes 511 and 512 of a data sector, counted from one, are the next track and sector." The map bit that a sector's
+-- bytes lead to; 1,560, which no map has, where they name no data sector.
+unfoldable pub nextOf : List ℕ → ℕ
+nextOf h = bitOf (getD h 510 0) (getD h 511 0)
+
+-- "The last sector has 0, 0"
+unfoldable pub isLast : List ℕ → Bool
+isLast h = eqb (getD h 510 0) 0 && eqb (getD h 511 0) 0
+
+-- with bit b passed as well
+abbrev pub passing : (ℕ → Bool) → ℕ → ℕ → Bool
+passing passed b c = eqb c b || passed c
+
+-- From bit b on, with n links to follow before the last: "a link before the last is no data sector of the slot's own map
+-- or repeats a sector already passed, or the last link is not 0, 0."
+unfoldable pub strays : List ℕ → (ℕ → List ℕ) → ℕ → ℕ → (ℕ → Bool) → Bool
+strays map sec zero b passed = not (isLast (sec b))
+strays map sec (suc n) b passed =
+    cond (has map (nextOf (sec b)) && not (passing passed b (nextOf (sec b)))) (strays map sec n (nextOf (sec b)) (passing passed b))
+    true
+
+-- "Refusal 10: following exactly count sectors from the first, .." A first sector outside the map is no chain either.
+unfoldable pub broken : Facts → (ℕ → List ℕ) → Bool
+broken x sec = cond (has (x .map) (x .first)) (strays (x .map) sec (x .count - 1) (x .first) (λ c. false)) true
+
+-- "The first sector begins with nine bytes: kind; remainder (2) and offset (2), both low byte first; two unused; pages;
+-- start page." "the header's first byte (whole), remainder (mod 16,384) or pages differ from the slot's kind, remainder, pages"
+unfoldable pub headerDiffers : Facts → List ℕ → Bool
+headerDiffers x h =
+    not (eqb (getD h 0 0) (x .kind) && (eqb ((getD h 1 0 + 256 * getD h 2 0) % 16384) (x .remainder) && eqb (getD h 7 0) (x .pages)))
+
+-- rows 10 and 11 of one file
+abbrev pub later : Facts → (ℕ → List ℕ) → List Row
+later x sec =
+    -- the chain is broken
+    (10 when broken x sec)
+    -- carried kind, and the header's first byte, remainder or pages differ from the slot's
+    ∷ (11 when carried (x .kind) && headerDiffers x (sec (x .first)))
+    ∷ []
+
+-- their reply at a slot
+unfoldable pub laterReply : ℕ → File → Reply
+laterReply slot f = rows slot (later (facts (f .bytes)) (f .sectors))
+
+-- the bit that i links lead to from b
+unfoldable pub linked : (ℕ → List ℕ) → ℕ → ℕ → ℕ
+linked sec b zero = b
+linked sec b (suc i) = nextOf (sec (linked sec b i))
+
+-- "Body bytes follow, 510 payload bytes to a sector." Byte k of a body, past the nine of the header, along the links.
+unfoldable pub bodyByte : File → ℕ → ℕ
+bodyByte f k = getD (f .sectors (linked (f .sectors) (facts (f .bytes) .first) ((9 + k) / 510))) ((9 + k) % 510) 0
+
+unfoldable pub body : File → List ℕ
+body f = tab (lengthOf (facts (f .bytes))) (bodyByte f)

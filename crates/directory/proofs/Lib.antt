@@ -1,0 +1,5 @@
+pub mod Places
+pub mod Live
+pub mod Union
+pub mod Pass
+pub mod Search

@@ -1,0 +1,87 @@
+-- What the directory says of a slot: its bytes where it is live, and nothing of another; and the directory lies in front.
+use Prim.Native.Nat.{ℕ, _≤_, _<_}
+use mathlib.Core.Path.{_≡_, refl, sym, ap, ap₂, _∙_, fun-ext}
+use mathlib.Core.Bool.{Bool, true, false, cond, _&&_}
+use mathlib.Core.List.{List, []}
+use mathlib.Core.Logic.{⊎-elim}
+use mathlib.Core.Option.{Option, none, some, Option·some-ne-none}
+use native.Mathlib.Omega.{arith}
+use borrow.Author.Tests.{ltb-true, lt-ltb, le-ltb}
+use lib.Dec.{ltb}
+use Rattle.buffers.specs.Bytes.{part}
+use Rattle.buffers.proofs.Lists.{below-or-not, part-part}
+use Rattle.slots.specs.Slot.{isLive, nameOf}
+use Rattle.slots.specs.Name.{sameName}
+use Rattle.directory.specs.Places.{slots, slotAt, slotBytes}
+use Rattle.directory.specs.Directory.{seen, directory, slotOr}
+use Rattle.directory.proofs.Places.{slot-front}
+
+-- ---- the bytes of a slot that is read
+
+pub slot-read : (d : List ℕ) (i : ℕ) → i < slots → slotOr d i ≡ slotBytes d i
+unfolding slotOr seen
+slot-read d i h = rw (lt-ltb i slots h)
+
+pub slot-past : (d : List ℕ) (i : ℕ) → slots ≤ i → slotOr d i ≡ []
+unfolding slotOr seen
+slot-past d i h = rw (le-ltb i slots h)
+
+-- ---- live, erased, or none at all
+
+pub directory-live : (d : List ℕ) (i : ℕ) → i < slots → isLive (slotBytes d i) ≡ true → directory d i ≡ some (slotBytes d i)
+unfolding directory seen
+directory-live d i h e = rw (lt-ltb i slots h, e)
+
+pub directory-dead : (d : List ℕ) (i : ℕ) → i < slots → isLive (slotBytes d i) ≡ false → directory d i ≡ none
+unfolding directory seen
+directory-dead d i h e = rw (lt-ltb i slots h, e)
+
+pub directory-past : (d : List ℕ) (i : ℕ) → slots ≤ i → directory d i ≡ none
+unfolding directory seen
+directory-past d i h = rw (le-ltb i slots h)
+
+-- by the bytes that are read, for any slot
+pub directory-read : (d : List ℕ) (i : ℕ) → directory d i ≡ cond (isLive (slotOr d i)) (some (slotOr d i)) none
+unfolding directory slotOr
+directory-read d i = by (seen d i)
+  where
+    by : (t : Bool) → cond (t && isLive (slotBytes d i)) (some (slotBytes d i)) none ≡ cond (isLive (cond t (slotBytes d i) [])) (some (cond t (slotBytes d i) [])) none
+    by true = refl
+    by false = refl
+
+pub directory-some : (d : List ℕ) (i : ℕ) (s : List ℕ) → directory d i ≡ some s → (i < slots) × (s ≡ slotBytes d i) × (isLive s ≡ true)
+unfolding directory seen
+directory-some d i s e = by (ltb i slots) (isLive (slotBytes d i)) refl refl e
+  where
+    by : (t l : Bool) → ltb i slots ≡ t → isLive (slotBytes d i) ≡ l → cond (t && l) (some (slotBytes d i)) none ≡ some s
+        → (i < slots) × (s ≡ slotBytes d i) × (isLive s ≡ true)
+    by true true p q w =
+        let z : s ≡ slotBytes d i = cc in
+        (ltb-true i slots p, z, ap isLive z ∙ q)
+    by true false p q w = absurd (Option·some-ne-none s (sym w))
+    by false l p q w = absurd (Option·some-ne-none s (sym w))
+
+-- ---- as the code meets a slot: its bytes s, and r that says whether it is live
+
+module _ (d : List ℕ) (i : ℕ) {s : List ℕ} (e : s ≡ slotOr d i) {r : Bool} (l : r ≡ isLive s) where
+  pub met-live : r ≡ true → directory d i ≡ some s
+  met-live t = directory-read d i ∙ rw (← e, ← l, t)
+
+  pub met-dead : r ≡ false → directory d i ≡ none
+  met-dead t = directory-read d i ∙ rw (← e, ← l, t)
+
+-- what a comparison of its name m with n says of the name k that n is
+pub met-name : (s : List ℕ) {m n k : List ℕ} {r t : Bool} → m ≡ nameOf s → n ≡ k → r ≡ sameName m n → r ≡ t → sameName (nameOf s) k ≡ t
+met-name s p q e w = ap₂ sameName (sym p) (sym q) ∙ sym e ∙ w
+
+-- ---- the directory is its first 40,960 bytes
+
+slot-in-front : (d : List ℕ) (i : ℕ) → i < slots → slotBytes (part 0 40960 d) i ≡ slotBytes d i
+slot-in-front d i h = part-part 0 40960 (slotAt i) 256 d (slot-front i h) ∙ ap (λ (a : ℕ). part a 256 d) (omega arith)
+
+at-front : (d : List ℕ) (i : ℕ) → directory d i ≡ directory (part 0 40960 d) i
+unfolding directory seen
+at-front d i = ⊎-elim (λ h. rw (lt-ltb i slots h, slot-in-front d i h)) (λ h. rw (le-ltb i slots h)) (below-or-not i slots)
+
+pub directory-front : (d : List ℕ) → directory d ≡ directory (part 0 40960 d)
+directory-front d = fun-ext (at-front d)

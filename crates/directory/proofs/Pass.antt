@@ -1,0 +1,219 @@
+-- The pass over rows 2 to 9: the reply at a slot by its own rows and by those against the slots before it, and what holds
+-- of a slot that has none.
+use Prim.Native.Nat.{ℕ, suc, _+_, _-_, _*_, _≤_, _<_}
+use mathlib.Core.Path.{_≡_, refl, sym, ap, ap₂, _∙_}
+use mathlib.Core.Bool.{Bool, true, false, cond, _&&_, and-eq-true-iff}
+use mathlib.Core.List.{List, [], _∷_, _++_}
+use mathlib.Core.Option.{Option, none, some}
+use native.Mathlib.Numerals.{add-one}
+use native.Mathlib.Omega.{arith}
+use borrow.Author.Tests.{not-false, leb-true, eqb-true, le-leb, eq-eqb}
+use lib.Dec.{eqb, leb, ltb}
+use lib.ListN.{length, getD}
+use Rattle.buffers.proofs.Counts.{any-more, any-none, none-any, any-some}
+use Rattle.buffers.specs.Bytes.{any}
+use Rattle.maps.specs.Bits.{has, bitsOf, share, clear, join}
+use Rattle.refusals.specs.Order.{refuse, _else_, Row, rows, sweepFrom}
+use Rattle.refusals.specs.Answers.{refusalOf, replyOf}
+use Rattle.refusals.specs.declared.Refused.{Refused}
+use Rattle.refusals.specs.declared.Verdict.{Verdict}
+use Rattle.refusals.specs.declared.Verdict.the-variants.{Sound, Unsound}
+use Rattle.refusals.proofs.First.{rows-clear, clear-rows, sweep-start, sweep-stop, sweep-end, sweep-none, none-sweep}
+use Rattle.slots.specs.Slot.{kindOf, countOf, firstOf, nameOf, mapOf, facts, known, carried, lengthOf}
+use Rattle.slots.specs.Name.{sameName}
+use Rattle.slots.specs.Rows.{own, ownReply, dataCount}
+use Rattle.directory.specs.Places.{slots}
+use Rattle.directory.specs.Directory.{held, Directory, directory}
+use Rattle.directory.specs.Survey.{earlier, cross, surveyAt, survey, union, counted, usedMap}
+use Rattle.directory.specs.Steps.{Apart, Reached, Surveyed}
+use Rattle.directory.specs.declared.Survey.{Survey}
+use Rattle.directory.specs.declared.UsedMap.{UsedMap}
+use Rattle.directory.proofs.Union.{union-dead, union-live, length-union, share-union}
+
+-- ---- an earlier live slot, as a loop looks for it
+
+abbrev tried : Directory → (List ℕ → Bool) → ℕ → Bool
+tried v t j = held false t (v j)
+
+pub earlier-start : (v : Directory) (t : List ℕ → Bool) → earlier v 0 t ≡ false
+unfolding earlier any
+earlier-start v t = refl
+
+pub earlier-dead : (v : Directory) (t : List ℕ → Bool) (j : ℕ) → v j ≡ none → earlier v j t ≡ false → earlier v (j + 1) t ≡ false
+unfolding earlier
+earlier-dead v t j p e = any-more j (tried v t) ∙ rw (e, p)
+
+pub earlier-other : (v : Directory) (t : List ℕ → Bool) (j : ℕ) (s : List ℕ) → v j ≡ some s → t s ≡ false → earlier v j t ≡ false → earlier v (j + 1) t ≡ false
+unfolding earlier
+earlier-other v t j s p q e = any-more j (tried v t) ∙ rw (e, p) q
+
+pub earlier-hit : (v : Directory) (t : List ℕ → Bool) (i j : ℕ) (s : List ℕ) → j < i → v j ≡ some s → t s ≡ true → earlier v i t ≡ true
+unfolding earlier
+earlier-hit v t i j s h p q = any-some i (tried v t) j h (ap (held false t) p ∙ q)
+
+-- there is none: the test applies to no live slot before
+pub earlier-none : (v : Directory) (t : List ℕ → Bool) (i : ℕ) → earlier v i t ≡ false → (j : ℕ) (s : List ℕ) → j < i → v j ≡ some s → t s ≡ false
+unfolding earlier
+earlier-none v t i e j s h p = sym (ap (held false t) p) ∙ any-none i (tried v t) e j h
+
+pub none-earlier : (v : Directory) (t : List ℕ → Bool) (i : ℕ) → ((j : ℕ) (s : List ℕ) → j < i → v j ≡ some s → t s ≡ false) → earlier v i t ≡ false
+unfolding earlier
+none-earlier v t i h = none-any i (tried v t) (λ j l. by (v j) (λ s p. h j s l p))
+  where
+    by : (o : Option (List ℕ)) → ((s : List ℕ) → o ≡ some s → t s ≡ false) → held false t o ≡ false
+    by none k = refl
+    by (some s) k = k s refl
+
+-- ---- the reply at a slot
+
+pub rows-append : (s : ℕ) (a b : List Row) → rows s (a ++ b) ≡ (rows s a else rows s b)
+rows-append s [] b = refl
+rows-append s (r ∷ a) b = by (r .holds) (rows-append s a b)
+  where
+    by : (t : Bool) → rows s (a ++ b) ≡ (rows s a else rows s b)
+        → cond t (some (refuse (r .number) s)) (rows s (a ++ b)) ≡ (cond t (some (refuse (r .number) s)) (rows s a) else rows s b)
+    by true e = refl
+    by false e = e
+
+pub survey-dead : (n : ℕ) (v : Directory) (i : ℕ) → v i ≡ none → surveyAt n v i ≡ none
+unfolding surveyAt
+survey-dead n v i e = rw e
+
+pub survey-live : (n : ℕ) (v : Directory) (i : ℕ) (s : List ℕ) → v i ≡ some s → surveyAt n v i ≡ (ownReply n (suc i) s else rows (suc i) (cross v i s))
+unfolding surveyAt ownReply
+survey-live n v i s e = rw e (rows-append (suc i) (own n (facts s)) (cross v i s))
+
+-- as the code meets a live slot: the verdict r on its own rows, the used map u so far
+module _ (v : Directory) (i : ℕ) (s u : List ℕ) (here : v i ≡ some s) (used : u ≡ union v i) (r : Verdict) (own-is : replyOf r ≡ ownReply 0 (i + 1) s) where
+  at-slot : surveyAt 0 v i
+      ≡ (replyOf r else cond (share u (mapOf s)) (some (refuse 8 (i + 1))) (cond (earlier v i (λ t. sameName (nameOf t) (nameOf s))) (some (refuse 9 (i + 1))) none))
+  at-slot = survey-live 0 v i s here ∙ rw (own-is, add-one, used, share-union v i (mapOf s))
+
+  pub slot-own : (f : Refused) → r ≡ Unsound f → replyOf (Unsound f) ≡ surveyAt 0 v i
+  slot-own f e = sym (at-slot ∙ rw e)
+
+  -- its own rows hold nowhere; q says whether its map m shares a bit with the used map
+  module _ (e : r ≡ Sound) {m : List ℕ} (em : m ≡ mapOf s) {q : Bool} (eq : q ≡ share u m) where
+    shares : {t : Bool} → q ≡ t → share u (mapOf s) ≡ t
+    shares w = ap (share u) (sym em) ∙ sym eq ∙ w
+
+    pub slot-shared : q ≡ true → some (refuse 8 (i + 1)) ≡ surveyAt 0 v i
+    slot-shared w = sym (at-slot ∙ rw (e, shares w))
+
+    -- p says whether a slot before it has its name n
+    module _ (w : q ≡ false) {n : List ℕ} (en : n ≡ nameOf s) {p : Bool} (ep : p ≡ earlier v i (λ t. sameName (nameOf t) n)) where
+      twice : {t : Bool} → p ≡ t → earlier v i (λ t. sameName (nameOf t) (nameOf s)) ≡ t
+      twice x = ap (λ (l : List ℕ). earlier v i (λ t. sameName (nameOf t) l)) (sym en) ∙ sym ep ∙ x
+
+      pub slot-twice : p ≡ true → some (refuse 9 (i + 1)) ≡ surveyAt 0 v i
+      slot-twice x = sym (at-slot ∙ rw (e, shares w, twice x))
+
+      pub slot-clear : p ≡ false → none ≡ surveyAt 0 v i
+      slot-clear x = sym (at-slot ∙ rw (e, shares w, twice x))
+
+-- ---- a live slot at which no row holds
+
+pub record Passed (n : ℕ) (v : Directory) (i : ℕ) (s : List ℕ) : Type 0 where
+  pub kind : known (kindOf s) ≡ true
+  pub named : eqb (getD s 1 0) 0 ≡ false
+  pub least : 1 ≤ countOf s
+  pub most : countOf s ≤ dataCount n
+  pub bits : bitsOf (mapOf s) ≡ countOf s
+  pub first : has (mapOf s) (firstOf s) ≡ true
+  pub fits : (carried (kindOf s) && ltb (510 * countOf s) (9 + lengthOf (facts s))) ≡ false
+  pub unshared : earlier v i (λ t. share (mapOf t) (mapOf s)) ≡ false
+  pub single : earlier v i (λ t. sameName (nameOf t) (nameOf s)) ≡ false
+
+pub passed-at : (n : ℕ) (v : Directory) (i : ℕ) (s : List ℕ) → v i ≡ some s → surveyAt n v i ≡ none → Passed n v i s
+unfolding surveyAt facts
+passed-at n v i s e h =
+    let c = rows-clear (suc i) (own n (facts s) ++ cross v i s) (rw e at h) in
+    let r = and-eq-true-iff (leb 1 (countOf s)) (leb (countOf s) (dataCount n)) .0 (not-false _ (c .1 .1 .0)) in
+    record {
+      kind = not-false (known (kindOf s)) (c .0);
+      named = c .1 .0;
+      least = leb-true 1 (countOf s) (r .0);
+      most = leb-true (countOf s) (dataCount n) (r .1);
+      bits = eqb-true (bitsOf (mapOf s)) (countOf s) (not-false _ (c .1 .1 .1 .0));
+      first = not-false (has (mapOf s) (firstOf s)) (c .1 .1 .1 .1 .0);
+      fits = c .1 .1 .1 .1 .1 .0;
+      unshared = c .1 .1 .1 .1 .1 .1 .0;
+      single = c .1 .1 .1 .1 .1 .1 .1 .0;
+    }
+
+pub at-passed : (n : ℕ) (v : Directory) (i : ℕ) (s : List ℕ) → v i ≡ some s → Passed n v i s → surveyAt n v i ≡ none
+unfolding surveyAt facts
+at-passed n v i s e h =
+    rw e
+    (clear-rows (suc i) (own n (facts s) ++ cross v i s)
+    (rw (h .kind), (h .named, (rw (le-leb 1 (countOf s) (h .least), le-leb (countOf s) (dataCount n) (h .most)), (rw (eq-eqb (bitsOf (mapOf s)) (countOf s) (h .bits)), (rw (h .first), (h .fits, (h .unshared, (h .single, tt)))))))))
+
+-- every live slot of a directory that is not refused
+pub survey-passed : (n : ℕ) (v : Directory) → survey n v ≡ none → (i : ℕ) (s : List ℕ) → i < slots → v i ≡ some s → Passed n v i s
+unfolding survey
+survey-passed n v e i s h p = passed-at n v i s p (sweep-none slots (surveyAt n v) e i h)
+
+pub passed-survey : (n : ℕ) (v : Directory) → ((i : ℕ) (s : List ℕ) → i < slots → v i ≡ some s → Passed n v i s) → survey n v ≡ none
+unfolding survey
+passed-survey n v h = none-sweep slots (surveyAt n v) (λ i l. by i l (v i) refl)
+  where
+    by : (i : ℕ) → i < slots → (o : Option (List ℕ)) → v i ≡ o → surveyAt n v i ≡ none
+    by i l none p = survey-dead n v i p
+    by i l (some s) p = at-passed n v i s p (h i s l p)
+
+-- ---- the pass, turn by turn: the used map so far, and the reply of the slots from i on
+
+pub survey-start : (n : ℕ) (v : Directory) → survey n v ≡ sweepFrom (slots - 0) 0 (surveyAt n v)
+unfolding survey
+survey-start n v = sweep-start slots (surveyAt n v)
+
+pub used-start : (v : Directory) (u : UsedMap) → u ≡ counted clear → u ≡ counted (union v 0)
+unfolding union
+used-start v u e = e
+
+counted-bytes : (m : List ℕ) (u : UsedMap) → u ≡ counted m → u .bytes ≡ m
+unfolding counted
+counted-bytes m u e = ap (λ (x : UsedMap). x .bytes) e
+
+counted-count : (m : List ℕ) (u : UsedMap) → u ≡ counted m → u .count ≡ bitsOf m
+unfolding counted
+counted-count m u e = ap (λ (x : UsedMap). x .count) e
+
+pub used-dead : (v : Directory) (i : ℕ) (u : UsedMap) → u ≡ counted (union v i) → v i ≡ none → u ≡ counted (union v (i + 1))
+used-dead v i u e p = e ∙ ap counted (sym (union-dead v i p))
+
+module _ (d : List ℕ) (i : ℕ) (u : UsedMap) (used : u ≡ counted (union (directory d) i)) (s : List ℕ) (here : directory d i ≡ some s) where
+  pub reached : i < slots → Reached d i s (u .bytes)
+  reached h = record { slot = h; here = here; used = counted-bytes (union (directory d) i) u used }
+
+  -- past its rows: m is its map, k its count
+  module _ {m : List ℕ} (em : m ≡ mapOf s) where
+    pub apart : {k : ℕ} → k ≡ countOf s → surveyAt 0 (directory d) i ≡ none → Apart u m k
+    apart ek e =
+        let c = counted-bytes (union (directory d) i) u used in
+        let h = passed-at 0 (directory d) i s here e in
+        record {
+          long = ap length c ∙ length-union (directory d) i;
+          count = counted-count (union (directory d) i) u used ∙ ap bitsOf (sym c);
+          own-count = ek ∙ sym (h .bits) ∙ ap bitsOf (sym em);
+          apart = ap₂ share c em ∙ share-union (directory d) i (mapOf s) ∙ h .unshared;
+        }
+
+    pub used-more : (w : UsedMap) → w ≡ counted (join (u .bytes) m) → w ≡ counted (union (directory d) (i + 1))
+    used-more w e =
+        e ∙ ap₂ (λ (a b : List ℕ). counted (join a b)) (counted-bytes (union (directory d) i) u used) em
+        ∙ ap counted (sym (union-live (directory d) i s here))
+
+-- what the pass gives: at a slot that is refused, and at the end
+module _ (d : List ℕ) (r : Survey) (i : ℕ) (left : survey 0 (directory d) ≡ sweepFrom (slots - i) i (surveyAt 0 (directory d))) where
+  pub pass-stops : (f : Refused) → i < slots → r .verdict ≡ Unsound f → replyOf (Unsound f) ≡ surveyAt 0 (directory d) i → r .used ≡ counted clear → Surveyed d r
+  pass-stops f h p e w =
+      let z : survey 0 (directory d) ≡ some (refusalOf f) = left ∙ sweep-stop slots i (surveyAt 0 (directory d)) (refusalOf f) h (sym e) in
+      record { reply = rw (p, z); used = rw z w }
+
+  pub pass-ends : slots ≤ i → i ≤ slots → r .verdict ≡ Sound → r .used ≡ counted (union (directory d) i) → Surveyed d r
+  unfolding usedMap
+  pass-ends h l p w =
+      let n : i ≡ slots = omega arith in
+      let z : survey 0 (directory d) ≡ none = left ∙ sweep-end (slots - i) i (surveyAt 0 (directory d)) (omega arith) in
+      record { reply = rw (p, z); used = rw z (w ∙ ap (λ (k : ℕ). counted (union (directory d) k)) n) }

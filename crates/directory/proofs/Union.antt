@@ -1,0 +1,70 @@
+-- The used map against the live slots before: how long it is, which bits it has, and what it shares with another map.
+use Prim.Native.Nat.{ℕ, zero, suc, _+_, _<_}
+use mathlib.Core.Path.{_≡_, sym, ap, ap₂, _∙_}
+use mathlib.Core.Bool.{Bool, true, false, _||_, or-false, true≢false}
+use mathlib.Core.List.{List}
+use mathlib.Core.Option.{Option, none, some}
+use native.Mathlib.Numerals.{add-one}
+use native.Mathlib.Omega.{arith}
+use lib.ListN.{length, length-replicate}
+use Rattle.buffers.specs.Bytes.{any}
+use Rattle.maps.specs.Bits.{has, bitsOf, share, clear, join}
+use Rattle.maps.proofs.Laws.{has-clear, none-share, length-join, has-join, bits-clear, bits-join, share-join}
+use Rattle.slots.specs.Slot.{mapOf}
+use Rattle.directory.specs.Directory.{held, Directory}
+use Rattle.directory.specs.Survey.{earlier, union, counted}
+use Rattle.directory.specs.declared.UsedMap.{UsedMap}
+
+-- ---- one slot more
+
+pub union-dead : (v : Directory) (k : ℕ) → v k ≡ none → union v (k + 1) ≡ union v k
+unfolding union
+union-dead v k e = rw (add-one, e)
+
+pub union-live : (v : Directory) (k : ℕ) (s : List ℕ) → v k ≡ some s → union v (k + 1) ≡ join (union v k) (mapOf s)
+unfolding union
+union-live v k s e = rw (add-one, e)
+
+-- ---- the union of the first k
+
+pub length-union : (v : Directory) (k : ℕ) → length (union v k) ≡ 195
+unfolding union
+length-union v zero = length-replicate {A = ℕ} 195 0
+length-union v (suc k) = by (v k) (length-union v k)
+  where
+    by : (o : Option (List ℕ)) → length (union v k) ≡ 195 → length (held (union v k) (λ s. join (union v k) (mapOf s)) o) ≡ 195
+    by none h = h
+    by (some s) h = length-join (union v k) (mapOf s) ∙ h
+
+-- a bit is used where a live slot's map has it
+pub has-union : (v : Directory) (k b : ℕ) → b < 1560 → has (union v k) b ≡ any k (λ i. held false (λ s. has (mapOf s) b) (v i))
+unfolding union any
+has-union v zero b h = has-clear b
+has-union v (suc k) b h = by (v k) (length-union v k) (has-union v k b h)
+  where
+    by : (o : Option (List ℕ)) → length (union v k) ≡ 195 → has (union v k) b ≡ any k (λ i. held false (λ s. has (mapOf s) b) (v i))
+        → has (held (union v k) (λ s. join (union v k) (mapOf s)) o) b ≡ (any k (λ i. held false (λ s. has (mapOf s) b) (v i)) || held false (λ s. has (mapOf s) b) o)
+    by none l e = e ∙ sym (or-false (any k (λ i. held false (λ s. has (mapOf s) b) (v i))))
+    by (some s) l e = has-join (union v k) (mapOf s) b (omega arith) ∙ ap (λ (t : Bool). t || has (mapOf s) b) e
+
+-- a map shares a bit with the used map where it does with an earlier live slot's
+pub share-union : (v : Directory) (i : ℕ) (m : List ℕ) → share (union v i) m ≡ earlier v i (λ t. share (mapOf t) m)
+unfolding union earlier any
+share-union v zero m = none-share clear m (λ b h p q. true≢false (sym p ∙ has-clear b))
+share-union v (suc i) m = by (v i) (length-union v i) (share-union v i m)
+  where
+    by : (o : Option (List ℕ)) → length (union v i) ≡ 195 → share (union v i) m ≡ any i (λ j. held false (λ t. share (mapOf t) m) (v j))
+        → share (held (union v i) (λ s. join (union v i) (mapOf s)) o) m ≡ (any i (λ j. held false (λ t. share (mapOf t) m) (v j)) || held false (λ t. share (mapOf t) m) o)
+    by none l e = e ∙ sym (or-false (any i (λ j. held false (λ t. share (mapOf t) m) (v j))))
+    by (some s) l e = share-join (union v i) (mapOf s) m l ∙ ap (λ (t : Bool). t || share (mapOf s) m) e
+
+-- ---- with its count
+
+pub counted-clear : (u : UsedMap) → u .bytes ≡ clear → u .count ≡ 0 → u ≡ counted clear
+unfolding counted
+counted-clear u e f = ap₂ {C = UsedMap} (λ (b : List ℕ) (n : ℕ). record { bytes = b; count = n }) e (f ∙ sym bits-clear)
+
+pub counted-join : (u : UsedMap) (m d : List ℕ) → u .bytes ≡ join m d → u .count ≡ bitsOf m + bitsOf d → length m ≡ 195 → share m d ≡ false
+    → u ≡ counted (join m d)
+unfolding counted
+counted-join u m d e f l a = ap₂ {C = UsedMap} (λ (b : List ℕ) (n : ℕ). record { bytes = b; count = n }) e (f ∙ sym (bits-join m d l a))

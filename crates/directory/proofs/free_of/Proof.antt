@@ -1,0 +1,17 @@
+-- `directory::free_of` meets its contract.
+use native.Mathlib.Omega.{arith}
+use Rattle.slots.specs.Rows.{dataCount}
+use Rattle.directory.specs.Survey.{freeOf}
+use Rattle.directory.proofs.free_of.Statement.{statement}
+use Rattle.directory.proofs.free_of.Tie as tie
+
+returns : tie.Need-returns
+unfolding freeOf dataCount
+returns c = omega arith
+
+returns-2 : tie.Need-returns-2
+unfolding freeOf dataCount
+returns-2 c = omega arith
+
+pub free-of-spec : {M : Type 1} → statement M
+free-of-spec = tie.close (tie.spec returns returns-2)

@@ -1,0 +1,131 @@
+-- `directory::survey_slots` meets its contract: the reply is that of the slots from `i` on, and the used map that of those before.
+use Prim.Native.Nat.{_-_, _≤_}
+use mathlib.Core.Path.{_≡_, refl, sym, ap, _∙_}
+use mathlib.Core.Option.{none, some}
+use native.Mathlib.Omega.{arith}
+use denote.Ref.{now}
+use Rattle.refusals.specs.Order.{sweepFrom}
+use Rattle.refusals.specs.Answers.{replyOf}
+use Rattle.refusals.proofs.First.{sweep-skip}
+use Rattle.directory.specs.Places.{slots}
+use Rattle.directory.specs.Directory.{directory}
+use Rattle.directory.specs.Survey.{surveyAt, survey, union, counted}
+use Rattle.directory.proofs.Live.{met-live, met-dead}
+use Rattle.directory.proofs.Pass.{survey-dead, survey-start, used-start, used-dead, reached, apart, used-more, pass-stops, pass-ends}
+use borrow.Author.Needs.{needs}
+use Rattle.directory.proofs.survey_slots.Statement.{statement}
+use Rattle.directory.proofs.survey_slots.Tie as tie
+
+abbrev Inv-loop : tie.InvT-loop
+Inv-loop dir used₀ i₀ used i =
+    (i ≤ slots) × (used ≡ counted (union (directory dir) i)) × (survey 0 (directory dir) ≡ sweepFrom (slots - i) i (surveyAt 0 (directory dir)))
+
+abbrev μ-loop : tie.MeasureT-loop
+μ-loop dir used₀ i₀ used i = slots - i
+
+live : (c : tie.Then1 Inv-loop μ-loop) → directory (now (c .before .before .before .before .before .before .before .args .dir)) (c .before .before .before .before .loop .i) ≡ some (now (c .before .before .slot-at .result))
+live c = met-live _ _ (c .before .before .slot-at .ensures) (c .before .is-live .ensures) (c .if1 .taken)
+
+sound : (c : tie.After-enum-told Inv-loop μ-loop) → surveyAt 0 (directory (now (c .before .before .before .before .before .before .before .before .before .before .before .before .before .args .dir))) (c .before .before .before .before .before .before .before .before .before .before .loop .i) ≡ none
+sound c = sym (ap replyOf (sym (c .enum-told .given .1)) ∙ c .before .before .live-rows .ensures)
+
+unused-requires : tie.Need-unused-requires Inv-loop μ-loop
+unused-requires c κs = search needs
+
+loop-holds : tie.Need-loop-holds Inv-loop μ-loop
+loop-holds c = (omega arith, used-start _ _ (c .unused .ensures), survey-start _ _)
+
+slot-at-requires : tie.Need-slot-at-requires Inv-loop μ-loop
+slot-at-requires c κs = search needs
+
+add-i : tie.Need-add-i Inv-loop μ-loop
+add-i c = search needs
+
+is-live-requires : tie.Need-is-live-requires Inv-loop μ-loop
+is-live-requires c κs = search needs
+
+live-rows-requires : tie.Need-live-rows-requires Inv-loop μ-loop
+live-rows-requires c κs =
+    let y = c .before .before .before in
+    let a = y .before .before .before .before .loop in
+    reached _ (a .i) _ (a .inv .1) _ (live y) (omega arith)
+
+enum-known-f : tie.Need-enum-known-f Inv-loop μ-loop
+enum-known-f c = search needs
+
+unused-requires-2 : tie.Need-unused-requires-2 Inv-loop μ-loop
+unused-requires-2 c κs = search needs
+
+returns : tie.Need-returns Inv-loop μ-loop
+returns c =
+    let f = c .before .before in
+    let y = f .before .before .before .before .before .before in
+    let a = y .before .before .before .before .loop in
+    pass-stops _ _ (a .i) (a .inv .2) _ (omega arith) refl (ap replyOf (sym (f .f .given .1)) ∙ f .before .before .live-rows .ensures) (c .unused2 .ensures)
+
+enum-told : tie.Need-enum-told Inv-loop μ-loop
+enum-told c = search needs
+
+map-of-requires : tie.Need-map-of-requires Inv-loop μ-loop
+map-of-requires c κs = search needs
+
+count-of-requires : tie.Need-count-of-requires Inv-loop μ-loop
+count-of-requires c κs = search needs
+
+joined-requires : tie.Need-joined-requires Inv-loop μ-loop
+joined-requires c κs =
+    let t = c .before .before in
+    let y = t .before .before .before .before .before .before in
+    let a = y .before .before .before .before .loop in
+    apart _ (a .i) _ (a .inv .1) _ (live y) (c .before .map-of .ensures) (c .count-of .ensures .0) (sound t)
+
+loop-less : tie.Need-loop-less Inv-loop μ-loop
+loop-less c = search needs
+
+loop-again : tie.Need-loop-again Inv-loop μ-loop
+loop-again c =
+    let t = c .before .before .before in
+    let y = t .before .before .before .before .before .before in
+    let a = y .before .before .before .before .loop in (
+      omega arith,
+      used-more _ (a .i) _ (a .inv .1) _ (live y) (c .before .before .map-of .ensures) _ (c .joined .ensures),
+      a .inv .2 ∙ sweep-skip slots (a .i) _ (omega arith) (sound t),
+    )
+
+loop-less-2 : tie.Need-loop-less-2 Inv-loop μ-loop
+loop-less-2 c = search needs
+
+loop-again-2 : tie.Need-loop-again-2 Inv-loop μ-loop
+loop-again-2 c =
+    let s = c .before .before in
+    let a = s .before .before .loop in
+    let e = met-dead _ _ (s .slot-at .ensures) (c .before .is-live .ensures) (c .if1 .left) in
+    (omega arith, used-dead _ (a .i) _ (a .inv .1) e, a .inv .2 ∙ sweep-skip slots (a .i) _ (omega arith) (survey-dead 0 _ (a .i) e))
+
+returns-2 : tie.Need-returns-2 Inv-loop μ-loop
+returns-2 c = let a = c .before .loop in pass-ends _ _ (a .i) (a .inv .2) (c .loop-test .left) (a .inv .0) refl (a .inv .1)
+
+pub survey-slots-spec : {M : Type 1} → statement M
+survey-slots-spec =
+    tie.close
+    (tie.spec
+    Inv-loop
+    μ-loop
+    unused-requires
+    loop-holds
+    slot-at-requires
+    add-i
+    is-live-requires
+    live-rows-requires
+    enum-known-f
+    unused-requires-2
+    returns
+    enum-told
+    map-of-requires
+    count-of-requires
+    joined-requires
+    loop-less
+    loop-again
+    loop-less-2
+    loop-again-2
+    returns-2)

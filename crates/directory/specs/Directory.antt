@@ -1,0 +1,29 @@
+-- The directory: the bytes of its live slots.
+use Prim.Native.Nat.{ℕ}
+use mathlib.Core.Bool.{Bool, cond, _&&_}
+use mathlib.Core.List.{List, []}
+use mathlib.Core.Option.{Option, none, some}
+use lib.Dec.{ltb}
+use Rattle.slots.specs.Slot.{isLive}
+use Rattle.directory.specs.Places.{slots, slotBytes}
+
+-- by what a slot holds: nothing, or this
+module _ {A B : Type 0} where
+  abbrev pub held : B → (A → B) → Option A → B
+  held b k none = b
+  held b k (some a) = k a
+
+abbrev pub Directory : Type 0
+Directory = ℕ → Option (List ℕ)
+
+-- slot i is read
+unfoldable pub seen : List ℕ → ℕ → Bool
+seen d i = ltb i slots
+
+-- "Byte 0 zero means erased or free." "Erased slots are not examined."
+unfoldable pub directory : List ℕ → Directory
+directory d i = cond (seen d i && isLive (slotBytes d i)) (some (slotBytes d i)) none
+
+-- the bytes of a slot that is read, and none of another
+unfoldable pub slotOr : List ℕ → ℕ → List ℕ
+slotOr d i = cond (seen d i) (slotBytes d i) []

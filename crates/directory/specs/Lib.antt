@@ -1,0 +1,5 @@
+pub mod Places
+pub mod Directory
+pub mod Survey
+pub mod Find
+pub mod Steps

@@ -1,0 +1,60 @@
+-- The pass over rows 2 to 9, a function of the directory alone, and the used map.
+use Prim.Native.Nat.{ℕ, zero, suc, _-_}
+use mathlib.Core.Bool.{Bool, false}
+use mathlib.Core.List.{List, [], _∷_, _++_}
+use mathlib.Core.Option.{Option, none, some}
+use Rattle.buffers.specs.Bytes.{any}
+use Rattle.maps.specs.Bits.{bitsOf, share, clear, join}
+use Rattle.refusals.specs.Order.{Row, _when_, Reply, rows, sweep}
+use Rattle.slots.specs.Slot.{nameOf, mapOf, facts}
+use Rattle.slots.specs.Name.{sameName}
+use Rattle.slots.specs.Rows.{own, dataCount}
+use Rattle.directory.specs.Places.{slots}
+use Rattle.directory.specs.Directory.{held, Directory}
+use Rattle.directory.specs.declared.UsedMap.{UsedMap}
+
+-- an earlier live slot to which a test applies
+unfoldable pub earlier : Directory → ℕ → (List ℕ → Bool) → Bool
+earlier v i t = any i (λ j. held false t (v j))
+
+-- rows 8 and 9 of the live slot i
+abbrev pub cross : Directory → ℕ → List ℕ → List Row
+cross v i s =
+    -- the map shares a bit with an earlier live slot
+    (8 when earlier v i (λ t. share (mapOf t) (mapOf s)))
+    -- the ten name bytes equal an earlier live slot's
+    ∷ (9 when earlier v i (λ t. sameName (nameOf t) (nameOf s)))
+    ∷ []
+
+-- rows 2 to 9 at slot i, with n directory tracks beyond the four: "at a slot the lowest number"
+unfoldable pub surveyAt : ℕ → Directory → ℕ → Reply
+surveyAt n v i = held none (λ s. rows (suc i) (own n (facts s) ++ cross v i s)) (v i)
+
+-- "then all slots for 2 to 9, lowest slot first"
+unfoldable pub survey : ℕ → Directory → Reply
+survey n v = sweep slots (surveyAt n v)
+
+-- "The used map is the bitwise or of all live maps": of those among the first k slots,
+-- starting from "a map with all 195 bytes clear"
+unfoldable pub union : Directory → ℕ → List ℕ
+union v zero = clear
+union v (suc k) = held (union v k) (λ s. join (union v k) (mapOf s)) (v k)
+
+-- "one record of 195 map bytes together with their count"
+unfoldable pub counted : List ℕ → UsedMap
+counted m = record { bytes = m; count = bitsOf m }
+
+unfoldable pub usedMap : Directory → UsedMap
+usedMap v = counted (union v slots)
+
+-- "Free sectors are 1,560 less that count."
+unfoldable pub freeOf : ℕ → UsedMap → ℕ
+freeOf n u = dataCount n - u .count
+
+unfoldable pub free : ℕ → Directory → ℕ
+free n v = freeOf n (usedMap v)
+
+-- the used map of a directory that is not refused; a clear one of another
+abbrev pub usedOr : Reply → Directory → UsedMap
+usedOr none v = usedMap v
+usedOr (some r) v = counted clear

@@ -1,0 +1,171 @@
+// The directory: its slots, the pass over rows 2 to 9 with the used map, and a slot by its name. All of it goes by the
+// directory's bytes alone, and answers for a slice of any length.
+ghost use mathlib.Core.Path.{_≡_};
+ghost use Rattle.maps.specs.Bits.{clear, join};
+ghost use Rattle.refusals.specs.Answers.{replyOf};
+ghost use Rattle.slots.specs.Slot.{nameOf};
+ghost use Rattle.slots.specs.Name.{sameName};
+ghost use Rattle.directory.specs.Directory.{directory, slotOr};
+ghost use Rattle.directory.specs.Survey.{earlier, surveyAt, counted, freeOf};
+ghost use Rattle.directory.specs.Find.{find, foundAt};
+ghost use Rattle.directory.specs.Steps.{Apart, Reached, Surveyed};
+use refusals::Reason;
+use refusals::Refused;
+use refusals::Verdict;
+
+// The used map: 195 map bytes together with their number of set bits.
+pub struct UsedMap {
+    pub bytes: [u8; 195],
+    pub count: usize,
+}
+
+// What the pass over rows 2 to 9 gives: its verdict, and the used map where that is sound (else a clear one).
+pub struct Survey {
+    pub verdict: Verdict,
+    pub used: UsedMap,
+}
+
+// A live slot, counted from 0, or none.
+pub enum Found {
+    At(usize),
+    Nothing,
+}
+
+// The 256 bytes of slot `i`, counted from 0, uncopied; none past the last slot.
+pub fn slot_at(dir: &[u8], i: usize) -> &[u8]
+    ensures { λ r. ⌜ now r ≡ slotOr (now (dir .entry)) i ⌝ }
+{
+    if 80 <= i {
+        return buffers::part_at(dir, 0, 0);
+    }
+    buffers::part_at(dir, i / 20 * 10240 + i % 20 * 256, 256)
+}
+
+// Whether a live slot before slot `i` has a name.
+fn named_before(dir: &[u8], i: usize, name: &[u8]) -> bool
+    ensures { λ r. ⌜ r ≡ earlier (directory (now (dir .entry))) i (λ t. sameName (nameOf t) (now (name .entry))) ⌝ }
+{
+    let mut j: usize = 0;
+    while j < i {
+        let t = slot_at(dir, j);
+        j += 1;
+        if slots::is_live(t) {
+            if slots::same_name(slots::name_of(t), name) {
+                return true;
+            }
+        }
+    }
+    false
+}
+
+// Rows 2 to 9 at the live slot `i`, whose bytes are `s`; `used` is the used map of the slots before it.
+fn live_rows(dir: &[u8], i: usize, s: &[u8], used: &[u8]) -> Verdict
+    requires { ⌜ Reached (now dir) i (now s) (now used) ⌝ }
+    ensures { λ r. ⌜ replyOf r ≡ surveyAt 0 (directory (now (dir .entry))) i ⌝ }
+{
+    let slot = i + 1;
+    match slots::own_rows(s, slot) {
+        Verdict::Unsound(f) => Verdict::Unsound(f),
+        Verdict::Sound => {
+            if maps::shares(used, slots::map_of(s)) {
+                return Verdict::Unsound(Refused {
+                    reason: Reason::SectorShared,
+                    slot,
+                });
+            }
+            if named_before(dir, i, slots::name_of(s)) {
+                return Verdict::Unsound(Refused {
+                    reason: Reason::NameTwice,
+                    slot,
+                });
+            }
+            Verdict::Sound
+        }
+    }
+}
+
+// The used map of no slot.
+fn unused() -> UsedMap
+    ensures { λ r. ⌜ r ≡ counted clear ⌝ }
+{
+    UsedMap {
+        bytes: [0; 195],
+        count: 0,
+    }
+}
+
+// The used map with one more map, of which it has no bit yet; `own` is that map's number of set bits, counted before.
+fn joined(used: UsedMap, map: &[u8], own: usize) -> UsedMap
+    requires { ⌜ Apart used (now map) own ⌝ }
+    ensures { λ r. ⌜ r ≡ counted (join (used .bytes) (now (map .entry))) ⌝ }
+{
+    let mut bytes = used.bytes;
+    maps::join_into(&mut bytes, map);
+    let count = used.count + own;
+    UsedMap { bytes, count }
+}
+
+// Rows 2 to 9 at all slots, and the used map.
+pub fn survey_slots(dir: &[u8]) -> Survey
+    ensures { λ r. ⌜ Surveyed (now (dir .entry)) r ⌝ }
+{
+    let mut used = unused();
+    let mut i: usize = 0;
+    while i < 80 {
+        let s = slot_at(dir, i);
+        let k = i;
+        i += 1;
+        if slots::is_live(s) {
+            match live_rows(dir, k, s, &used.bytes) {
+                Verdict::Unsound(f) => {
+                    let none = unused();
+                    return Survey {
+                        verdict: Verdict::Unsound(f),
+                        used: none,
+                    };
+                }
+                Verdict::Sound => {
+                    let next = joined(used, slots::map_of(s), slots::count_of(s));
+                    used = next;
+                }
+            }
+        }
+    }
+    Survey {
+        verdict: Verdict::Sound,
+        used,
+    }
+}
+
+// The lowest live slot that has a name. Names of more than ten bytes no slot has.
+pub fn find(dir: &[u8], name: &[u8]) -> Found
+    ensures { λ r. ⌜ foundAt r ≡ find (directory (now (dir .entry))) (now (name .entry)) ⌝ }
+{
+    if 10 < name.len() {
+        return Found::Nothing;
+    }
+    let filled = slots::padded_name(name);
+    let mut i: usize = 0;
+    while i < 80 {
+        let entry = slot_at(dir, i);
+        let k = i;
+        i += 1;
+        if slots::is_live(entry) {
+            if slots::same_name(slots::name_of(entry), &filled) {
+                return Found::At(k);
+            }
+        }
+    }
+    Found::Nothing
+}
+
+// The sectors that a used map leaves free: 0 where its count is no map's.
+pub fn free_of(used: UsedMap) -> usize
+    ensures { λ r. ⌜ r ≡ freeOf 0 used ⌝ }
+{
+    let count = used.count;
+    if 1560 < count {
+        return 0;
+    }
+    1560 - count
+}

@@ -1,0 +1,76 @@
+-- The check's reply by the tests that lead to it, with the used map that goes with it.
+use Prim.Native.Nat.{ℕ}
+use mathlib.Core.Path.{_≡_, refl, sym, ap, ap₂, _∙_}
+use mathlib.Core.List.{List}
+use mathlib.Core.Option.{Option, none, some}
+use borrow.Author.Tests.{eq-eqb, ne-eqb}
+use lib.ListN.{length}
+use Rattle.geometry.specs.Disk.{imageSize}
+use Rattle.refusals.specs.Order.{Reply, Refusal, refuse, _else_, sweep}
+use Rattle.refusals.specs.Answers.{replyOf, refusalOf, numberOf}
+use Rattle.refusals.specs.declared.Reason.the-variants.{NotAnImage}
+use Rattle.refusals.specs.declared.Refused.{Refused}
+use Rattle.refusals.specs.declared.Verdict.the-variants.{Sound, Unsound}
+use Rattle.directory.specs.Places.{slots}
+use Rattle.directory.specs.Directory.{Directory, directory}
+use Rattle.directory.specs.Survey.{survey, usedOr}
+use Rattle.directory.specs.Steps.{Surveyed}
+use Rattle.directory.specs.declared.Survey.{Survey}
+use Rattle.disk.specs.Look.{look, slotsOf, extra}
+use Rattle.disk.specs.Check.{chainAt, checkLook, checkDisk, Examined, refusedWith}
+use Rattle.disk.proofs.Look.{look-slots, look-long}
+
+module _ (d : List ℕ) where
+  length-first : (length d ≡ imageSize → ⊥) → checkDisk d ≡ some (refuse 1 0)
+  unfolding checkDisk checkLook
+  length-first h = rw (look-long d, ne-eqb (length d) imageSize h)
+
+  -- of an image of the right length: rows 2 to 9, and then rows 10 and 11
+  passes : length d ≡ imageSize → checkDisk d ≡ (survey 0 (directory d) else sweep slots (chainAt (look d)))
+  unfolding checkDisk checkLook extra
+  passes h =
+      let e : checkDisk d ≡ (survey 0 (slotsOf (look d)) else sweep slots (chainAt (look d))) = rw (look-long d, eq-eqb (length d) imageSize h) in
+      e ∙ ap (λ (v : Directory). survey 0 v else sweep slots (chainAt (look d))) (look-slots d)
+
+  pub examined-length : (length d ≡ imageSize → ⊥) → (x : Survey) → x ≡ refusedWith NotAnImage 0 → Examined d x
+  unfolding refusedWith
+  examined-length h x e = record {
+    reply = ap (λ (x : Survey). replyOf (x .verdict)) e ∙ sym (length-first h);
+    used = ap (λ (x : Survey). x .used) e ∙ ap (λ (q : Reply). usedOr q (directory d)) (sym (length-first h));
+  }
+
+  module _ (h : length d ≡ imageSize) (s : Survey) (w : Surveyed d s) where
+    survey-refuses : (r : Refused) → s .verdict ≡ Unsound r → checkDisk d ≡ survey 0 (directory d)
+    survey-refuses r e =
+        let q : survey 0 (directory d) ≡ some (refusalOf r) = sym (w .reply) ∙ ap replyOf e in
+        passes h ∙ rw q
+
+    pub examined-survey : (r : Refused) → s .verdict ≡ Unsound r → Examined d s
+    examined-survey r e = record {
+      reply = w .reply ∙ sym (survey-refuses r e);
+      used = w .used ∙ ap (λ (q : Reply). usedOr q (directory d)) (sym (survey-refuses r e));
+    }
+
+    module _ (e : s .verdict ≡ Sound) where
+      no-refusal : survey 0 (directory d) ≡ none
+      no-refusal = sym (w .reply) ∙ ap replyOf e
+
+      chains-then : checkDisk d ≡ sweep slots (chainAt (look d))
+      chains-then = passes h ∙ rw no-refusal
+
+      pub examined-chains : (r : Refused) → some (refusalOf r) ≡ sweep slots (chainAt (look d)) → (x : Survey) → x ≡ refusedWith (r .reason) (r .slot) → Examined d x
+      unfolding refusedWith
+      examined-chains r q x f =
+          let c : checkDisk d ≡ some (refusalOf r) = chains-then ∙ sym q in
+          record {
+            reply = ap (λ (x : Survey). replyOf (x .verdict)) f ∙ sym c;
+            used = ap (λ (x : Survey). x .used) f ∙ ap (λ (q : Reply). usedOr q (directory d)) (sym c);
+          }
+
+      pub examined-sound : none ≡ sweep slots (chainAt (look d)) → Examined d s
+      examined-sound q =
+          let c : checkDisk d ≡ none = chains-then ∙ sym q in
+          record {
+            reply = ap replyOf e ∙ sym c;
+            used = w .used ∙ ap (λ (q : Reply). usedOr q (directory d)) (no-refusal ∙ sym c);
+          }

@@ -1,0 +1,5 @@
+pub mod Order
+pub mod Rows
+pub mod Sound
+pub mod Look
+pub mod Examined

@@ -1,0 +1,146 @@
+-- The check gives a refusal exactly when its row holds and none before it in the order does.
+use Prim.Native.Nat.{ℕ, suc, _<_}
+use mathlib.Core.Path.{_≡_, refl, sym, ap, _∙_}
+use mathlib.Core.Bool.{Bool, true, false, not}
+use mathlib.Core.List.{List, _++_}
+use mathlib.Core.Logic.{_⊎_, inl, inr, ⊎-elim}
+use mathlib.Core.Option.{Option, none, some, Option·some-ne-none}
+use borrow.Author.Tests.{eqb-true, eqb-false, eq-eqb, ne-eqb}
+use lib.Dec.{eqb}
+use Rattle.refusals.specs.Order.{Refusal, refuse, Reply, _else_, row, rows, sweep, Row, Clear, FirstAt}
+use Rattle.refusals.proofs.First.{else-none, else-some, rows-clear, clear-rows, rows-first, first-rows, sweep-none, none-sweep, sweep-cong, sweep-first, first-sweep}
+use Rattle.geometry.specs.Disk.{imageSize}
+use Rattle.slots.specs.Slot.{facts}
+use Rattle.slots.specs.Rows.{own}
+use Rattle.chains.specs.File.{File}
+use Rattle.chains.specs.Chain.{laterReply}
+use Rattle.directory.specs.Places.{slots}
+use Rattle.directory.specs.Directory.{held}
+use Rattle.directory.specs.Survey.{survey, surveyAt, cross}
+use Rattle.disk.specs.Look.{Look, slotsOf, extra}
+use Rattle.disk.specs.Check.{chainAt, checkLook}
+use Rattle.disk.specs.Given.{rows9, rows11, AllClear, RowAt, Given, by-length, by-slot, by-chain}
+
+-- a pass over the live slots of a look
+abbrev pub passAt : Look → (ℕ → File → List Row) → ℕ → Reply
+passAt l rs i = held none (λ f. rows (suc i) (rs i f)) (l .files i)
+
+abbrev pub pass : Look → (ℕ → File → List Row) → Reply
+pass l rs = sweep slots (passAt l rs)
+
+module _ (l : Look) (rs : ℕ → File → List Row) where
+  pass-here : (i : ℕ) (f : File) → l .files i ≡ some f → passAt l rs i ≡ rows (suc i) (rs i f)
+  pass-here i f q = ap (held none (λ f. rows (suc i) (rs i f))) q
+
+  clear-at : (i : ℕ) → ((f : File) → l .files i ≡ some f → Clear (rs i f)) → passAt l rs i ≡ none
+  clear-at i h = by (l .files i) refl
+    where
+      by : (o : Option File) → l .files i ≡ o → held none (λ f. rows (suc i) (rs i f)) o ≡ none
+      by none q = refl
+      by (some f) q = clear-rows (suc i) (rs i f) (h f q)
+
+  pub pass-clear : pass l rs ≡ none → AllClear l rs slots
+  pass-clear e j g h q = rows-clear (suc j) (rs j g) (sym (pass-here j g q) ∙ sweep-none slots (passAt l rs) e j h)
+
+  pub clear-pass : AllClear l rs slots → pass l rs ≡ none
+  clear-pass c = none-sweep slots (passAt l rs) (λ j h. clear-at j (λ f q. c j f h q))
+
+  pub pass-first : (r : Refusal) → pass l rs ≡ some r → RowAt l rs r
+  pass-first r e = by (l .files (w .at)) refl
+    where
+      w : FirstAt slots (passAt l rs) r
+      w = sweep-first slots (passAt l rs) r e
+
+      by : (o : Option File) → l .files (w .at) ≡ o → RowAt l rs r
+      by none q = absurd (Option·some-ne-none r (sym (sym (ap (held none (λ f. rows (suc (w .at)) (rs (w .at) f))) q) ∙ w .here)))
+      by (some f) q =
+          let c = rows-first (suc (w .at)) (rs (w .at) f) r (sym (pass-here (w .at) f q) ∙ w .here) in
+          record {
+            at = w .at;
+            below = w .below;
+            file = f;
+            here = q;
+            slot = c .1;
+            number = c .0;
+            before = λ j g h p. rows-clear (suc j) (rs j g) (sym (pass-here j g p) ∙ w .before j h);
+          }
+
+  pub first-pass : (r : Refusal) → RowAt l rs r → pass l rs ≡ some r
+  first-pass r w =
+      first-sweep slots (passAt l rs) r
+      (record {
+        at = w .at;
+        below = w .below;
+        before = λ k h. clear-at k (λ f q. w .before k f h q);
+        here = pass-here (w .at) (w .file) (w .here) ∙ first-rows (suc (w .at)) (rs (w .at) (w .file)) (r .number) (w .number) ∙ ap some (named r (suc (w .at)) (w .slot));
+      })
+    where
+      named : (r : Refusal) (s : ℕ) → r .slot ≡ s → _≡_ {A = Refusal} (refuse (r .number) s) r
+      named r s e = ap (refuse (r .number)) (sym e)
+
+-- ---- the check as the passes over its rows
+
+survey-pass : (l : Look) → survey (extra l) (slotsOf l) ≡ pass l (rows9 l)
+unfolding survey surveyAt slotsOf
+survey-pass l = sweep-cong slots (surveyAt (extra l) (slotsOf l)) (passAt l (rows9 l)) (λ j h. by j (l .files j))
+  where
+    by : (j : ℕ) (o : Option File)
+        → held none (λ s. rows (suc j) (own (extra l) (facts s) ++ cross (slotsOf l) j s)) (held none (λ f. some (f .bytes)) o)
+        ≡ held none (λ f. rows (suc j) (rows9 l j f)) o
+    by j none = refl
+    by j (some f) = refl
+
+chain-pass : (l : Look) → sweep slots (chainAt l) ≡ pass l (rows11 l)
+unfolding chainAt laterReply
+chain-pass l = refl
+
+pub check-passes : (l : Look) → checkLook l ≡ row 1 0 (not (eqb (l .long) imageSize)) else pass l (rows9 l) else pass l (rows11 l)
+unfolding checkLook
+check-passes l = rw (survey-pass l, chain-pass l)
+
+length-none : (l : Look) → row 1 0 (not (eqb (l .long) imageSize)) ≡ none → l .long ≡ imageSize
+length-none l e = by (eqb (l .long) imageSize) refl e
+  where
+    by : (t : Bool) → eqb (l .long) imageSize ≡ t → row 1 0 (not t) ≡ none → l .long ≡ imageSize
+    by true q w = eqb-true (l .long) imageSize q
+    by false q w = absurd (Option·some-ne-none (refuse 1 0) w)
+
+length-some : (l : Look) (r : Refusal) → row 1 0 (not (eqb (l .long) imageSize)) ≡ some r → (l .long ≡ imageSize → ⊥) × (r ≡ refuse 1 0)
+length-some l r e = by (eqb (l .long) imageSize) refl e
+  where
+    by : (t : Bool) → eqb (l .long) imageSize ≡ t → row 1 0 (not t) ≡ some r → (l .long ≡ imageSize → ⊥) × (r ≡ refuse 1 0)
+    by true q w = absurd (Option·some-ne-none r (sym w))
+    by false q w = (eqb-false (l .long) imageSize q, cc)
+
+pub record Accepted (l : Look) : Type 0 where
+  pub long : l .long ≡ imageSize
+  pub survey : AllClear l (rows9 l) slots
+  pub chains : AllClear l (rows11 l) slots
+
+-- no row holds
+pub accepted : (l : Look) → checkLook l ≡ none → Accepted l
+accepted l e =
+    let a = else-none (row 1 0 (not (eqb (l .long) imageSize))) (pass l (rows9 l) else pass l (rows11 l)) (sym (check-passes l) ∙ e) in
+    let b = else-none (pass l (rows9 l)) (pass l (rows11 l)) (a .1) in
+    record { long = length-none l (a .0); survey = pass-clear l (rows9 l) (b .0); chains = pass-clear l (rows11 l) (b .1) }
+
+pub accepted-only : (l : Look) → Accepted l → checkLook l ≡ none
+accepted-only l w =
+    check-passes l
+    ∙ rw (eq-eqb (l .long) imageSize (w .long), clear-pass l (rows9 l) (w .survey), clear-pass l (rows11 l) (w .chains))
+
+-- a refusal is the first in the order
+pub given : (l : Look) (r : Refusal) → checkLook l ≡ some r → Given l r
+given l r e =
+    ⊎-elim (λ a. let c = length-some l r a in by-length (c .0) (c .1))
+    (λ a.
+    ⊎-elim (λ b. by-slot (length-none l (a .0)) (pass-first l (rows9 l) r b))
+    (λ b. by-chain (length-none l (a .0)) (pass-clear l (rows9 l) (b .0)) (pass-first l (rows11 l) r (b .1)))
+    (else-some (pass l (rows9 l)) (pass l (rows11 l)) r (a .1)))
+    (else-some (row 1 0 (not (eqb (l .long) imageSize))) (pass l (rows9 l) else pass l (rows11 l)) r (sym (check-passes l) ∙ e))
+
+pub given-only : (l : Look) (r : Refusal) → Given l r → checkLook l ≡ some r
+given-only l r (by-length n e) = check-passes l ∙ rw (ne-eqb (l .long) imageSize n, e)
+given-only l r (by-slot n w) = check-passes l ∙ rw (eq-eqb (l .long) imageSize n, first-pass l (rows9 l) r w)
+given-only l r (by-chain n c w) =
+    check-passes l ∙ rw (eq-eqb (l .long) imageSize n, clear-pass l (rows9 l) c, first-pass l (rows11 l) r w)

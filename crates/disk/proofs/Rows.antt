@@ -1,0 +1,177 @@
+-- What it means that no row holds at a file: the rows' tests as facts, both ways.
+use Prim.Native.Nat.{ℕ, suc, _+_, _-_, _*_, _%_, _≤_, _<_}
+use mathlib.Core.Path.{_≡_, refl, sym, ap, _∙_}
+use mathlib.Core.Bool.{Bool, true, false, not, cond, _&&_, _||_, true≢false, false≢true}
+use mathlib.Core.List.{List, [], _∷_, _++_}
+use mathlib.Core.Logic.{_⊎_, inl, inr, ⊎-elim}
+use borrow.Author.Tests.{eqb-true, eqb-false, eq-eqb, ne-eqb, leb-true, leb-false, le-leb, lt-leb, ltb-true, ltb-false, lt-ltb, le-ltb, not-true, not-false}
+use native.Mathlib.Omega.{arith}
+use lib.Dec.{eqb, leb, ltb}
+use lib.ListN.{getD, length}
+use Rattle.geometry.specs.Disk.{isData, bitOf}
+use Rattle.geometry.proofs.Laws.{bit-data}
+use Rattle.maps.specs.Bits.{has, bitsOf}
+use Rattle.refusals.specs.Order.{Row, Clear}
+use Rattle.slots.specs.Slot.{Facts, facts, known, carried, kindOf, countOf, mapOf, firstOf, pagesOf, remainderOf, lengthOf}
+use Rattle.slots.specs.Rows.{own, dataCount}
+use Rattle.chains.specs.Chain.{broken, headerDiffers, later}
+use Rattle.disk.specs.Sound.{Known, Carried, Agrees}
+
+-- ---- Booleans
+
+pub and-both : (a b : Bool) → (a && b) ≡ true → (a ≡ true) × (b ≡ true)
+and-both true b e = (refl, e)
+and-both false b e = absurd (false≢true e)
+
+both-and : (a b : Bool) → a ≡ true → b ≡ true → (a && b) ≡ true
+both-and a b p q = rw (p, q)
+
+or-either : (a b : Bool) → (a || b) ≡ true → (a ≡ true) ⊎ (b ≡ true)
+or-either true b e = inl refl
+or-either false b e = inr e
+
+either-or : (a b : Bool) → (a ≡ true) ⊎ (b ≡ true) → (a || b) ≡ true
+either-or true b e = refl
+either-or false b e = ⊎-elim (λ w. absurd (false≢true w)) (λ w. w) e
+
+-- a test that fails where another holds
+guard : (a b : Bool) → (a && b) ≡ false → a ≡ true → b ≡ false
+guard true b e p = e
+guard false b e p = absurd (false≢true p)
+
+guarded : (a b : Bool) → (a ≡ true → b ≡ false) → (a && b) ≡ false
+guarded true b h = h refl
+guarded false b h = refl
+
+-- ---- kinds
+
+range : (lo k hi : ℕ) → (leb lo k && leb k hi) ≡ true → (lo ≤ k) × (k ≤ hi)
+range lo k hi e = let c = and-both (leb lo k) (leb k hi) e in (leb-true lo k (c .0), leb-true k hi (c .1))
+
+in-range : (lo k hi : ℕ) → (lo ≤ k) × (k ≤ hi) → (leb lo k && leb k hi) ≡ true
+in-range lo k hi h = both-and (leb lo k) (leb k hi) (le-leb lo k (h .0)) (le-leb k hi (h .1))
+
+pub known-is : (k : ℕ) → known k ≡ true → Known k
+unfolding known
+known-is k e =
+    ⊎-elim (λ w. inl (range 1 k 12 w)) (λ w. inr (range 16 k 23 w)) (or-either (leb 1 k && leb k 12) (leb 16 k && leb k 23) e)
+
+pub is-known : (k : ℕ) → Known k → known k ≡ true
+unfolding known
+is-known k h =
+    either-or (leb 1 k && leb k 12) (leb 16 k && leb k 23) (⊎-elim (λ w. inl (in-range 1 k 12 w)) (λ w. inr (in-range 16 k 23 w)) h)
+
+pub carried-is : (k : ℕ) → carried k ≡ true → Carried k
+unfolding carried
+carried-is k e = range 16 k 20 e
+
+pub is-carried : (k : ℕ) → Carried k → carried k ≡ true
+unfolding carried
+is-carried k h = in-range 16 k 20 h
+
+-- ---- rows 2 to 7
+
+-- no row of one slot's own holds: the tests as facts
+pub record Own (n : ℕ) (s : List ℕ) : Type 0 where
+  pub kind : Known (kindOf s)
+  pub named : getD s 1 0 ≡ 0 → ⊥
+  pub some-sectors : 1 ≤ countOf s
+  pub few-sectors : countOf s ≤ dataCount n
+  pub bits : bitsOf (mapOf s) ≡ countOf s
+  pub first-own : has (mapOf s) (firstOf s) ≡ true
+  pub fits : Carried (kindOf s) → 9 + lengthOf (facts s) ≤ 510 * countOf s
+
+pub own-clear : (n : ℕ) (s : List ℕ) → Clear (own n (facts s)) → Own n s
+unfolding facts
+own-clear n s c =
+    let q = range 1 (countOf s) (dataCount n) (not-false (leb 1 (countOf s) && leb (countOf s) (dataCount n)) (c .1 .1 .0)) in
+    record {
+      kind = known-is (kindOf s) (not-false (known (kindOf s)) (c .0));
+      named = eqb-false (getD s 1 0) 0 (c .1 .0);
+      some-sectors = q .0;
+      few-sectors = q .1;
+      bits = eqb-true (bitsOf (mapOf s)) (countOf s) (not-false (eqb (bitsOf (mapOf s)) (countOf s)) (c .1 .1 .1 .0));
+      first-own = not-false (has (mapOf s) (firstOf s)) (c .1 .1 .1 .1 .0);
+      fits = λ h.
+          ltb-false (510 * countOf s) (9 + lengthOf (facts s))
+          (guard (carried (kindOf s)) (ltb (510 * countOf s) (9 + lengthOf (facts s))) (c .1 .1 .1 .1 .1 .0) (is-carried (kindOf s) h));
+    }
+
+pub clear-own : (n : ℕ) (s : List ℕ) → Own n s → Clear (own n (facts s))
+unfolding facts
+clear-own n s w = (
+  ap not (is-known (kindOf s) (w .kind)),
+  (
+    ne-eqb (getD s 1 0) 0 (w .named),
+    (
+      ap not (in-range 1 (countOf s) (dataCount n) (w .some-sectors, w .few-sectors)),
+      (
+        ap not (eq-eqb (bitsOf (mapOf s)) (countOf s) (w .bits)),
+        (
+          ap not (w .first-own),
+          (
+            guarded (carried (kindOf s)) (ltb (510 * countOf s) (9 + lengthOf (facts s)))
+                (λ e. le-ltb (510 * countOf s) (9 + lengthOf (facts s)) (w .fits (carried-is (kindOf s) e))),
+            tt,
+          ),
+        ),
+      ),
+    ),
+  ),
+)
+
+-- ---- row 11
+
+pub agrees : (s h : List ℕ) → headerDiffers (facts s) h ≡ false → Agrees s h
+unfolding headerDiffers facts
+agrees s h e =
+    let a = and-both (eqb (getD h 0 0) (kindOf s)) (eqb ((getD h 1 0 + 256 * getD h 2 0) % 16384) (remainderOf s) && eqb (getD h 7 0) (pagesOf s)) (not-false _ e) in
+    let b = and-both (eqb ((getD h 1 0 + 256 * getD h 2 0) % 16384) (remainderOf s)) (eqb (getD h 7 0) (pagesOf s)) (a .1) in
+    record {
+      kind = eqb-true (getD h 0 0) (kindOf s) (a .0);
+      remainder = eqb-true ((getD h 1 0 + 256 * getD h 2 0) % 16384) (remainderOf s) (b .0);
+      pages = eqb-true (getD h 7 0) (pagesOf s) (b .1);
+    }
+
+pub agree-same : (s h : List ℕ) → Agrees s h → headerDiffers (facts s) h ≡ false
+unfolding headerDiffers facts
+agree-same s h w =
+    ap not
+    (both-and (eqb (getD h 0 0) (kindOf s)) (eqb ((getD h 1 0 + 256 * getD h 2 0) % 16384) (remainderOf s) && eqb (getD h 7 0) (pagesOf s))
+    (eq-eqb (getD h 0 0) (kindOf s) (w .kind))
+    (both-and (eqb ((getD h 1 0 + 256 * getD h 2 0) % 16384) (remainderOf s)) (eqb (getD h 7 0) (pagesOf s))
+    (eq-eqb ((getD h 1 0 + 256 * getD h 2 0) % 16384) (remainderOf s) (w .remainder)) (eq-eqb (getD h 7 0) (pagesOf s) (w .pages))))
+
+-- rows 10 and 11 of a file: its chain is not broken, and a carried header agrees
+pub later-clear : (s : List ℕ) (sec : ℕ → List ℕ) → Clear (later (facts s) sec)
+    → (broken (facts s) sec ≡ false) × (Carried (kindOf s) → Agrees s (sec (facts s .first)))
+unfolding facts
+later-clear s sec c = (
+  c .0,
+  λ h. agrees s (sec (facts s .first))
+      (guard (carried (kindOf s)) (headerDiffers (facts s) (sec (facts s .first))) (c .1 .0) (is-carried (kindOf s) h)),
+)
+
+pub clear-later : (s : List ℕ) (sec : ℕ → List ℕ) → broken (facts s) sec ≡ false → (Carried (kindOf s) → Agrees s (sec (facts s .first)))
+    → Clear (later (facts s) sec)
+unfolding facts
+clear-later s sec b w = (
+  b,
+  (
+    guarded (carried (kindOf s)) (headerDiffers (facts s) (sec (facts s .first)))
+        (λ e. agree-same s (sec (facts s .first)) (w (carried-is (kindOf s) e))),
+    tt,
+  ),
+)
+
+-- ---- two lists of rows, one after the other
+
+pub clear-parts : (a b : List Row) → Clear (a ++ b) → Clear a × Clear b
+unfolding _++_
+clear-parts [] b c = (tt, c)
+clear-parts (r ∷ a) b c = let d = clear-parts a b (c .1) in ((c .0, d .0), d .1)
+
+pub parts-clear : (a b : List Row) → Clear a → Clear b → Clear (a ++ b)
+unfolding _++_
+parts-clear [] b p q = q
+parts-clear (r ∷ a) b p q = (p .0, parts-clear a b (p .1) q)

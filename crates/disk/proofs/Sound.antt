@@ -1,0 +1,134 @@
+-- The check accepts exactly the sound disks.
+use Prim.Native.Nat.{ℕ, suc, _+_, _-_, _*_, _≤_, _<_, min}
+use mathlib.Core.Path.{_≡_, refl, sym, ap, _∙_}
+use mathlib.Core.Bool.{Bool, true, false, false≢true}
+use mathlib.Core.List.{List, _++_}
+use mathlib.Core.Option.{Option, none, some}
+use native.Mathlib.Omega.{arith}
+use lib.ListN.{getD, length}
+use Rattle.buffers.specs.Bytes.{any}
+use Rattle.buffers.proofs.Lists.{length-part}
+use Rattle.buffers.proofs.Counts.{any-none, none-any}
+use Rattle.geometry.specs.Disk.{isData, bitOf}
+use Rattle.geometry.proofs.Laws.{bit-data}
+use Rattle.maps.specs.Bits.{has, share}
+use Rattle.maps.proofs.Laws.{share-none, none-share}
+use Rattle.refusals.specs.Order.{Clear}
+use Rattle.slots.specs.Slot.{facts, mapOf, nameOf, firstOf}
+use Rattle.slots.specs.Name.{sameName}
+use Rattle.slots.specs.Rows.{own}
+use Rattle.slots.proofs.Names.{same-refl, same-is}
+use Rattle.chains.specs.File.{File}
+use Rattle.chains.specs.Chain.{later}
+use Rattle.chains.proofs.Laws.{map-small}
+use Rattle.chains.proofs.Whole.{whole, of-whole}
+use Rattle.directory.specs.Places.{slots}
+use Rattle.directory.specs.Directory.{held, Directory}
+use Rattle.directory.specs.Survey.{earlier, cross}
+use Rattle.disk.specs.Look.{Look, slotsOf, extra}
+use Rattle.disk.specs.Check.{checkLook}
+use Rattle.disk.specs.Sound.{GoodFile, Sound}
+use Rattle.disk.specs.Given.{rows9, rows11}
+use Rattle.disk.proofs.Order.{Accepted, accepted, accepted-only}
+use Rattle.disk.proofs.Rows.{Own, own-clear, clear-own, later-clear, clear-later, clear-parts, parts-clear}
+
+map-few : (s : List ℕ) → length (facts s .map) ≤ 195
+unfolding facts
+map-few s = omega (arith, length-part 15 195 s)
+
+-- ---- one file
+
+good : (n : ℕ) (f : File) → Own n (f .bytes) → Clear (later (facts (f .bytes)) (f .sectors)) → GoodFile n f
+unfolding facts
+good n f o c =
+    let h = later-clear (f .bytes) (f .sectors) c in
+    record {
+      kind = o .kind;
+      named = o .named;
+      some-sectors = o .some-sectors;
+      few-sectors = o .few-sectors;
+      bits = o .bits;
+      first-data = bit-data (getD (f .bytes) 13 0) (getD (f .bytes) 14 0) (map-small (f .bytes) (firstOf (f .bytes)) (o .first-own));
+      first-own = o .first-own;
+      fits = o .fits;
+      chain = whole (facts (f .bytes)) (f .sectors) (map-few (f .bytes)) (o .some-sectors) (h .0);
+      header = h .1;
+    }
+
+good-own : (n : ℕ) (f : File) → GoodFile n f → Own n (f .bytes)
+good-own n f g = record {
+  kind = g .kind;
+  named = g .named;
+  some-sectors = g .some-sectors;
+  few-sectors = g .few-sectors;
+  bits = g .bits;
+  first-own = g .first-own;
+  fits = g .fits;
+}
+
+good-later : (n : ℕ) (f : File) → GoodFile n f → Clear (later (facts (f .bytes)) (f .sectors))
+unfolding facts
+good-later n f g =
+    clear-later (f .bytes) (f .sectors) (of-whole (facts (f .bytes)) (f .sectors) (map-few (f .bytes)) (g .some-sectors) (g .chain)) (g .header)
+
+-- ---- two files
+
+module _ (l : Look) where
+  there : (j : ℕ) (g : File) → l .files j ≡ some g → slotsOf l j ≡ some (g .bytes)
+  unfolding slotsOf
+  there j g q = ap (held none (λ f. some (f .bytes))) q
+
+  earlier-none : (i : ℕ) (t : List ℕ → Bool) → earlier (slotsOf l) i t ≡ false → (j : ℕ) (g : File) → j < i → l .files j ≡ some g → t (g .bytes) ≡ false
+  unfolding earlier
+  earlier-none i t e j g h q = sym (ap (held false t) (there j g q)) ∙ any-none i (λ j. held false t (slotsOf l j)) e j h
+
+  none-earlier : (i : ℕ) (t : List ℕ → Bool) → ((j : ℕ) (g : File) → j < i → l .files j ≡ some g → t (g .bytes) ≡ false) → earlier (slotsOf l) i t ≡ false
+  unfolding earlier slotsOf
+  none-earlier i t h = none-any i (λ j. held false t (slotsOf l j)) (λ j k. by j k (l .files j) refl)
+    where
+      by : (j : ℕ) → j < i → (o : Option File) → l .files j ≡ o → held false t (held none (λ f. some (f .bytes)) o) ≡ false
+      by j k none q = refl
+      by j k (some g) q = h j g k q
+
+differ : (a b : List ℕ) → sameName a b ≡ false → a ≡ b → ⊥
+differ a b e p = false≢true (sym e ∙ ap (sameName a) (sym p) ∙ same-refl a)
+
+not-same : (a b : List ℕ) → (a ≡ b → ⊥) → sameName a b ≡ false
+not-same a b h = by (sameName a b) refl
+  where
+    by : (t : Bool) → sameName a b ≡ t → t ≡ false
+    by true q = absurd (h (same-is a b q))
+    by false q = refl
+
+-- ---- the whole disk
+
+pub sound : (l : Look) → checkLook l ≡ none → Sound l
+sound l e = record {
+  long = a .long;
+  good = λ i f h q. good (extra l) f (own-clear (extra l) (f .bytes) (parts i f h q .0)) (a .chains i f h q);
+  sectors = λ i j f g k h q p. share-none (mapOf (g .bytes)) (mapOf (f .bytes)) (earlier-none l i (λ t. share (mapOf t) (mapOf (f .bytes))) (parts i f h q .1 .0) j g k p);
+  names = λ i j f g k h q p. differ (nameOf (g .bytes)) (nameOf (f .bytes)) (earlier-none l i (λ t. sameName (nameOf t) (nameOf (f .bytes))) (parts i f h q .1 .1 .0) j g k p);
+}
+  where
+    a : Accepted l
+    a = accepted l e
+
+    parts : (i : ℕ) (f : File) → i < slots → l .files i ≡ some f → Clear (own (extra l) (facts (f .bytes))) × Clear (cross (slotsOf l) i (f .bytes))
+    parts i f h q = clear-parts (own (extra l) (facts (f .bytes))) (cross (slotsOf l) i (f .bytes)) (a .survey i f h q)
+
+pub sound-only : (l : Look) → Sound l → checkLook l ≡ none
+sound-only l w =
+    accepted-only l
+    (record {
+      long = w .long;
+      survey = λ i f h q.
+          parts-clear (own (extra l) (facts (f .bytes))) (cross (slotsOf l) i (f .bytes))
+          (clear-own (extra l) (f .bytes) (good-own (extra l) f (w .good i f h q))) (
+            none-earlier l i (λ t. share (mapOf t) (mapOf (f .bytes))) (λ j g k p. none-share (mapOf (g .bytes)) (mapOf (f .bytes)) (w .sectors i j f g k h q p)),
+            (
+              none-earlier l i (λ t. sameName (nameOf t) (nameOf (f .bytes))) (λ j g k p. not-same (nameOf (g .bytes)) (nameOf (f .bytes)) (w .names i j f g k h q p)),
+              tt,
+            ),
+          );
+      chains = λ i f h q. good-later (extra l) f (w .good i f h q);
+    })

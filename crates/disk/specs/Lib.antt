@@ -1,0 +1,4 @@
+pub mod Look
+pub mod Check
+pub mod Sound
+pub mod Given

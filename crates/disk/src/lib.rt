@@ -1,0 +1,72 @@
+// The disk check, whole: the first refusal of the table in its order, and with it the used map.
+ghost use mathlib.Core.Path.{_≡_};
+ghost use Rattle.refusals.specs.Order.{sweep};
+ghost use Rattle.refusals.specs.Answers.{replyOf};
+ghost use Rattle.directory.specs.Places.{slots};
+ghost use Rattle.disk.specs.Look.{look};
+ghost use Rattle.disk.specs.Check.{chainAt, checkDisk, Examined, refusedWith};
+use directory::Survey;
+use directory::UsedMap;
+use refusals::Reason;
+use refusals::Refused;
+use refusals::Verdict;
+
+// Rows 10 and 11 at all slots.
+fn all_chains(image: &[u8]) -> Verdict
+    ensures { λ r. ⌜ replyOf r ≡ sweep slots (chainAt (look (now (image .entry)))) ⌝ }
+{
+    let mut i: usize = 0;
+    while i < 80 {
+        let s = directory::slot_at(image, i);
+        i += 1;
+        if slots::is_live(s) {
+            match chains::later_rows(image, s, i) {
+                Verdict::Unsound(r) => {
+                    return Verdict::Unsound(r);
+                }
+                Verdict::Sound => {}
+            }
+        }
+    }
+    Verdict::Sound
+}
+
+fn refused(reason: Reason, slot: usize) -> Survey
+    ensures { λ r. ⌜ r ≡ refusedWith reason slot ⌝ }
+{
+    let verdict = Verdict::Unsound(Refused { reason, slot });
+    let used = UsedMap {
+        bytes: [0; 195],
+        count: 0,
+    };
+    Survey { verdict, used }
+}
+
+// The check with the used map of an accepted disk; a clear map where the disk is refused.
+pub fn examine(image: &[u8]) -> Survey
+    ensures { λ r. ⌜ Examined (now (image .entry)) r ⌝ }
+{
+    if image.len() != 819200 {
+        return refused(Reason::NotAnImage, 0);
+    }
+    let found = directory::survey_slots(image);
+    let verdict = found.verdict;
+    match verdict {
+        Verdict::Unsound(_) => found,
+        Verdict::Sound => match all_chains(image) {
+            Verdict::Unsound(r) => {
+                let reason = r.reason;
+                refused(reason, r.slot)
+            }
+            Verdict::Sound => found,
+        },
+    }
+}
+
+// The check.
+pub fn check(image: &[u8]) -> Verdict
+    ensures { λ r. ⌜ replyOf r ≡ checkDisk (now (image .entry)) ⌝ }
+{
+    let found = examine(image);
+    found.verdict
+}
