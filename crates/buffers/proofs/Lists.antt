@@ -10,7 +10,7 @@ use native.Mathlib.Omega.{arith}
 use borrow.Author.Tests.{ltb-true, ltb-false, lt-ltb, le-ltb, le-leb, lt-leb}
 use lib.Dec.{leb, ltb}
 use lib.ListN.{length, getD, take, drop, set, length-append, length-take, length-drop, length-set, List·getD-append, List·getD-eq-default, drop-of-length-le}
-use lib.Seq.{ext-getD, getD-at, getD-take, getD-drop, take-suc-set, take-all, take-nil, getD-set-same, getD-set-other}
+use lib.Seq.{ext-getD, getD-at, getD-append-add, getD-take, getD-drop, take-suc-set, take-all, take-nil, getD-set-same, getD-set-other}
 use Rattle.buffers.specs.Bytes.{tab, part, put}
 
 -- a number is below another or not
@@ -214,3 +214,20 @@ put-cut d a x j h m =
     put-is d a x (put d a (take j x)) (length-put d a (take j x))
     (λ i k l. put-in d a (take j x) i (omega arith) l ∙ getD-take j x i 0 (omega arith))
     (λ k l. put-before d a (take j x) k l) (λ k l n. absurd (omega arith))
+
+-- one run put after another
+pub put-append : (d : List ℕ) (a : ℕ) (x y : List ℕ) → put (put d a x) (a + length x) y ≡ put d a (x ++ y)
+put-append d a x y =
+    put-is d a (x ++ y) (put (put d a x) (a + length x) y) (length-put (put d a x) (a + length x) y ∙ length-put d a x)
+    (λ i h l.
+    ⊎-elim
+    (λ (c : i < length x). put-before (put d a x) (a + length x) y (a + i) (omega arith) ∙ put-in d a x i c l ∙ sym (List·getD-append x y 0 i c))
+    (λ (c : length x ≤ i).
+    let e : a + i ≡ a + length x + (i - length x) = omega arith in
+    let f : i ≡ length x + (i - length x) = omega arith in
+    ap (λ (k : ℕ). getD (put (put d a x) (a + length x) y) k 0) e
+    ∙ put-in (put d a x) (a + length x) y (i - length x) (omega (arith, length-append x y)) (omega (arith, length-put d a x))
+    ∙ sym (ap (λ (k : ℕ). getD (x ++ y) k 0) f ∙ getD-append-add x y (i - length x) 0))
+    (below-or-not i (length x)))
+    (λ k h. put-before (put d a x) (a + length x) y k (omega arith) ∙ put-before d a x k h)
+    (λ k h l. put-after (put d a x) (a + length x) y k (omega (arith, length-append x y)) ∙ put-after d a x k (omega (arith, length-append x y)))

@@ -28,7 +28,7 @@ use Rattle.directory.specs.Survey.{earlier, cross, surveyAt, survey, uni
 use Rattle.directory.specs.Steps.{Apart, Reached, Surveyed}
 use Rattle.directory.specs.declared.Survey.{Survey}
 use Rattle.directory.specs.declared.UsedMap.{UsedMap}
-use Rattle.directory.proofs.Union.{union-dead, union-live, length-union, share-union}
+use Rattle.directory.proofs.Union.{union-dead, union-live, length-union, share-union, counted-bytes, counted-count}
 
 -- ---- an earlier live slot, as a loop looks for it
 
@@ -171,14 +171,6 @@ pub used-start : (v : Directory) (u : UsedMap) → u ≡ counted clear → u ≡
 unfolding union
 used-start v u e = e
 
-counted-bytes : (m : List ℕ) (u : UsedMap) → u ≡ counted m → u .bytes ≡ m
-unfolding counted
-counted-bytes m u e = ap (λ (x : UsedMap). x .bytes) e
-
-counted-count : (m : List ℕ) (u : UsedMap) → u ≡ counted m → u .count ≡ bitsOf m
-unfolding counted
-counted-count m u e = ap (λ (x : UsedMap). x .count) e
-
 pub used-dead : (v : Directory) (i : ℕ) (u : UsedMap) → u ≡ counted (union v i) → v i ≡ none → u ≡ counted (union v (i + 1))
 used-dead v i u e p = e ∙ ap counted (sym (union-dead v i p))
 
@@ -217,3 +209,12 @@ module _ (d : List ℕ) (r : Survey) (i : ℕ) (left : survey 0 (directory d) �
       let n : i ≡ slots = omega arith in
       let z : survey 0 (directory d) ≡ none = left ∙ sweep-end (slots - i) i (surveyAt 0 (directory d)) (omega arith) in
       record { reply = rw (p, z); used = rw z (w ∙ ap (λ (k : ℕ). counted (union (directory d) k)) n) }
+
+-- what its caller learns by the verdict
+pub surveyed-sound : (d : List ℕ) (r : Survey) → Surveyed d r → r .verdict ≡ Sound → (survey 0 (directory d) ≡ none) × (r .used ≡ usedMap (directory d))
+surveyed-sound d r h e =
+    let z : survey 0 (directory d) ≡ none = sym (h .reply) ∙ ap replyOf e in
+    (z, h .used ∙ rw z)
+
+pub surveyed-unsound : (d : List ℕ) (r : Survey) (f : Refused) → Surveyed d r → r .verdict ≡ Unsound f → survey 0 (directory d) ≡ some (refusalOf f)
+surveyed-unsound d r f h e = sym (h .reply) ∙ ap replyOf e

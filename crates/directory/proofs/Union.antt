@@ -36,15 +36,22 @@ length-union v (suc k) = by (v k) (length-union v k)
     by none h = h
     by (some s) h = length-join (union v k) (mapOf s) ∙ h
 
+-- whether a slot's map has bit b, or shares a bit with m
+abbrev hasBit : ℕ → Option (List ℕ) → Bool
+hasBit b o = held false (λ s. has (mapOf s) b) o
+
+abbrev sharesBit : List ℕ → Option (List ℕ) → Bool
+sharesBit m o = held false (λ t. share (mapOf t) m) o
+
 -- a bit is used where a live slot's map has it
 pub has-union : (v : Directory) (k b : ℕ) → b < 1560 → has (union v k) b ≡ any k (λ i. held false (λ s. has (mapOf s) b) (v i))
 unfolding union any
 has-union v zero b h = has-clear b
 has-union v (suc k) b h = by (v k) (length-union v k) (has-union v k b h)
   where
-    by : (o : Option (List ℕ)) → length (union v k) ≡ 195 → has (union v k) b ≡ any k (λ i. held false (λ s. has (mapOf s) b) (v i))
-        → has (held (union v k) (λ s. join (union v k) (mapOf s)) o) b ≡ (any k (λ i. held false (λ s. has (mapOf s) b) (v i)) || held false (λ s. has (mapOf s) b) o)
-    by none l e = e ∙ sym (or-false (any k (λ i. held false (λ s. has (mapOf s) b) (v i))))
+    by : (o : Option (List ℕ)) → length (union v k) ≡ 195 → has (union v k) b ≡ any k (λ i. hasBit b (v i))
+        → has (held (union v k) (λ s. join (union v k) (mapOf s)) o) b ≡ (any k (λ i. hasBit b (v i)) || hasBit b o)
+    by none l e = e ∙ sym (or-false (any k (λ i. hasBit b (v i))))
     by (some s) l e = has-join (union v k) (mapOf s) b (omega arith) ∙ ap (λ (t : Bool). t || has (mapOf s) b) e
 
 -- a map shares a bit with the used map where it does with an earlier live slot's
@@ -53,12 +60,20 @@ unfolding union earlier any
 share-union v zero m = none-share clear m (λ b h p q. true≢false (sym p ∙ has-clear b))
 share-union v (suc i) m = by (v i) (length-union v i) (share-union v i m)
   where
-    by : (o : Option (List ℕ)) → length (union v i) ≡ 195 → share (union v i) m ≡ any i (λ j. held false (λ t. share (mapOf t) m) (v j))
-        → share (held (union v i) (λ s. join (union v i) (mapOf s)) o) m ≡ (any i (λ j. held false (λ t. share (mapOf t) m) (v j)) || held false (λ t. share (mapOf t) m) o)
-    by none l e = e ∙ sym (or-false (any i (λ j. held false (λ t. share (mapOf t) m) (v j))))
+    by : (o : Option (List ℕ)) → length (union v i) ≡ 195 → share (union v i) m ≡ any i (λ j. sharesBit m (v j))
+        → share (held (union v i) (λ s. join (union v i) (mapOf s)) o) m ≡ (any i (λ j. sharesBit m (v j)) || sharesBit m o)
+    by none l e = e ∙ sym (or-false (any i (λ j. sharesBit m (v j))))
     by (some s) l e = share-join (union v i) (mapOf s) m l ∙ ap (λ (t : Bool). t || share (mapOf s) m) e
 
 -- ---- with its count
+
+pub counted-bytes : (m : List ℕ) (u : UsedMap) → u ≡ counted m → u .bytes ≡ m
+unfolding counted
+counted-bytes m u e = ap (λ (x : UsedMap). x .bytes) e
+
+pub counted-count : (m : List ℕ) (u : UsedMap) → u ≡ counted m → u .count ≡ bitsOf m
+unfolding counted
+counted-count m u e = ap (λ (x : UsedMap). x .count) e
 
 pub counted-clear : (u : UsedMap) → u .bytes ≡ clear → u .count ≡ 0 → u ≡ counted clear
 unfolding counted

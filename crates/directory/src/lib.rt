@@ -41,7 +41,7 @@ pub fn slot_at(dir: &[u8], i: usize) -> &[u8]
     buffers::part_at(dir, i / 20 * 10240 + i % 20 * 256, 256)
 }
 
-// Whether a live slot before slot `i` has a name.
+// Whether a live slot before slot `i` has that name.
 fn named_before(dir: &[u8], i: usize, name: &[u8]) -> bool
     ensures { λ r. ⌜ r ≡ earlier (directory (now (dir .entry))) i (λ t. sameName (nameOf t) (now (name .entry))) ⌝ }
 {
@@ -137,7 +137,7 @@ pub fn survey_slots(dir: &[u8]) -> Survey
     }
 }
 
-// The lowest live slot that has a name. Names of more than ten bytes no slot has.
+// The lowest live slot that has that name, filled to ten bytes; no slot has a longer one.
 pub fn find(dir: &[u8], name: &[u8]) -> Found
     ensures { λ r. ⌜ foundAt r ≡ find (directory (now (dir .entry))) (now (name .entry)) ⌝ }
 {

@@ -19,6 +19,7 @@ use Rattle.directory.specs.declared.Survey.{Survey}
 use Rattle.disk.specs.Look.{look, slotsOf, extra}
 use Rattle.disk.specs.Check.{chainAt, checkLook, checkDisk, Examined, refusedWith}
 use Rattle.disk.proofs.Look.{look-slots, look-long}
+use Rattle.disk.proofs.Order.{accepted}
 
 module _ (d : List ℕ) where
   length-first : (length d ≡ imageSize → ⊥) → checkDisk d ≡ some (refuse 1 0)
@@ -74,3 +75,8 @@ module _ (d : List ℕ) where
             reply = ap replyOf e ∙ sym c;
             used = w .used ∙ ap (λ (q : Reply). usedOr q (directory d)) (no-refusal ∙ sym c);
           }
+
+-- an accepted image has its size
+pub accepted-size : (d : List ℕ) → checkDisk d ≡ none → length d ≡ imageSize
+unfolding checkDisk
+accepted-size d e = sym (look-long d) ∙ accepted (look d) e .long

@@ -1,0 +1,157 @@
+-- Laws of the listing: entries and live slots, one slot more, and how long the entries are.
+use Prim.Native.Nat.{ℕ, zero, suc, _+_, _-_, _*_, _/_, _%_, _≤_, _<_}
+use mathlib.Core.Path.{_≡_, refl, sym, ap, ap₂, _∙_}
+use mathlib.Core.Bool.{Bool, true, false, cond}
+use mathlib.Core.List.{List, [], _∷_, _++_, append-nil}
+use mathlib.Core.Option.{Option, none, some}
+use native.Mathlib.Numerals.{add-one}
+use native.Mathlib.Omega.{arith}
+use borrow.Author.Tests.{lt-ltb, le-ltb}
+use lib.Dec.{ltb}
+use lib.ListN.{length, length-append}
+use Rattle.buffers.specs.Bytes.{put, count}
+use Rattle.buffers.proofs.Lists.{length-put, put-none, put-append, part-long}
+use Rattle.buffers.proofs.Counts.{count-more, count-le, count-add}
+use Rattle.directory.specs.Places.{slots, slotBytes, slotAt}
+use Rattle.directory.specs.Directory.{held, Directory, directory}
+use Rattle.directory.proofs.Live.{directory-some}
+use Rattle.directory.proofs.Places.{slot-front}
+use Rattle.directory.specs.Survey.{free, freeOf, usedMap, usedOr}
+use Rattle.directory.specs.declared.UsedMap.{UsedMap}
+use Rattle.directory.specs.declared.Survey.{Survey}
+use Rattle.refusals.specs.Order.{Refusal, refuse, Reply, _else_, row}
+use Rattle.refusals.specs.Answers.{Outcome, Out, out, filled, done, refused, refusalOf, replyOf}
+use Rattle.refusals.specs.declared.Refused.{Refused}
+use Rattle.refusals.specs.declared.Verdict.the-variants.{Sound, Unsound}
+use Rattle.disk.specs.Look.{extra}
+use Rattle.disk.specs.Check.{checkDisk, Examined}
+use Rattle.disk.proofs.Look.{look-slots}
+use Rattle.disk.proofs.Examined.{accepted-size}
+use Rattle.files.specs.Calls.{entry, entries, liveAmong, listLook, listing}
+use Rattle.files.specs.Steps.{Accepted}
+
+module _ (v : Directory) (i : ℕ) where
+  pub entries-dead : v i ≡ none → entries v (i + 1) ≡ entries v i
+  unfolding entries
+  entries-dead e = rw (add-one i, e) (append-nil (entries v i))
+
+  pub entries-live : (s : List ℕ) → v i ≡ some s → entries v (i + 1) ≡ entries v i ++ entry (i + 1) s
+  unfolding entries
+  entries-live s e = rw (add-one i, e)
+
+  pub among-dead : v i ≡ none → liveAmong v (i + 1) ≡ liveAmong v i
+  unfolding liveAmong
+  among-dead e = count-more i (λ i. held false (λ s. true) (v i)) ∙ rw e (omega arith)
+
+  pub among-live : (s : List ℕ) → v i ≡ some s → liveAmong v (i + 1) ≡ liveAmong v i + 1
+  unfolding liveAmong
+  among-live s e = count-more i (λ i. held false (λ s. true) (v i)) ∙ rw e
+
+pub among-few : (v : Directory) (i : ℕ) → liveAmong v i ≤ i
+unfolding liveAmong
+among-few v i = count-le i (λ i. held false (λ s. true) (v i))
+
+pub among-none : (v : Directory) → liveAmong v 0 ≡ 0
+unfolding liveAmong count
+among-none v = refl
+
+pub entries-none : (v : Directory) → entries v 0 ≡ []
+unfolding entries
+entries-none v = refl
+
+-- a slot of a whole directory is 256 bytes
+slot-long : (d : List ℕ) (i : ℕ) (s : List ℕ) → directory d i ≡ some s → 40960 ≤ length d → length s ≡ 256
+slot-long d i s q h =
+    let w = directory-some d i s q in
+    ap length (w .1) ∙ part-long (slotAt i) 256 d (omega (arith, slot-front i (w .0)))
+
+-- every entry of a whole directory is 258 bytes
+pub entries-long : (d : List ℕ) → 40960 ≤ length d → (k : ℕ) → k ≤ slots → length (entries (directory d) k) ≡ 258 * liveAmong (directory d) k
+unfolding entries liveAmong count
+entries-long d h zero l = refl
+entries-long d h (suc k) l =
+    length-append (entries (directory d) k) (held [] (entry (suc k)) (directory d k))
+    ∙ by (directory d k) refl (entries-long d h k (omega arith))
+  where
+    by : (o : Option (List ℕ)) → directory d k ≡ o → length (entries (directory d) k) ≡ 258 * liveAmong (directory d) k
+        → length (entries (directory d) k) + length (held [] (entry (suc k)) o) ≡ 258 * (liveAmong (directory d) k + cond (held false (λ s. true) o) 1 0)
+    by none q e = omega arith
+    by (some s) q e =
+        omega (arith, slot-long d k s q h)
+
+-- the two bytes of a number, and then the slot's
+pub put-number : (d e f : List ℕ) (a x y : ℕ) (s : List ℕ) → e ≡ put d a (x ∷ y ∷ []) → f ≡ put e (a + 2) s → f ≡ put d a (x ∷ y ∷ s)
+put-number d e f a x y s p q = q ∙ ap (λ (l : List ℕ). put l (a + 2) s) p ∙ put-append d a (x ∷ y ∷ []) s
+
+-- after i slots: the place of the next entry, and the buffer with those before it
+pub record Listed (d buf : List ℕ) (i at : ℕ) (now : List ℕ) : Type 0 where
+  pub place : at ≡ length (entries (directory d) i)
+  pub bytes : now ≡ put buf 0 (entries (directory d) i)
+
+module _ (d buf : List ℕ) where
+  pub listed-none : Listed d buf 0 0 buf
+  unfolding entries
+  listed-none = record { place = refl; bytes = put-none buf 0 [] }
+
+  module _ (i at : ℕ) (now : List ℕ) (w : Listed d buf i at now) where
+    pub listed-more : (s : List ℕ) → directory d i ≡ some s → i < slots → 40960 ≤ length d → (next : List ℕ) → next ≡ put now at (entry (i + 1) s) → Listed d buf (i + 1) (at + 258) next
+    listed-more s e h l next p =
+        let z : at ≡ 0 + length (entries (directory d) i) = omega (arith, w .place) in
+        record {
+          place = omega (arith, w .place, ap length (entries-live (directory d) i s e), length-append (entries (directory d) i) (entry (i + 1) s), slot-long d i s e l);
+          bytes = p ∙ rw (w .bytes, z, entries-live (directory d) i s e) (put-append buf 0 (entries (directory d) i) (entry (i + 1) s));
+        }
+
+    pub listed-same : directory d i ≡ none → Listed d buf (i + 1) at now
+    listed-same e = record {
+      place = w .place ∙ ap length (sym (entries-dead (directory d) i e));
+      bytes = w .bytes ∙ ap (put buf 0) (sym (entries-dead (directory d) i e));
+    }
+
+    pub listed-long : length now ≡ length buf
+    listed-long = ap length (w .bytes) ∙ length-put buf 0 (entries (directory d) i)
+
+    pub listed-all : i ≡ slots → now ≡ put buf 0 (entries (directory d) slots)
+    listed-all e = w .bytes ∙ ap (λ (k : ℕ). put buf 0 (entries (directory d) k)) e
+
+-- ---- the whole call
+
+-- the reply and the bytes of a listing, over the disk's directory
+pub listing-is : (d buf : List ℕ)
+    → listing d buf
+    ≡ filled (checkDisk d else row 20 0 (ltb (length buf) (length (entries (directory d) slots)))) (done (liveAmong (directory d) slots) (free 0 (directory d)))
+        (entries (directory d) slots) buf
+unfolding listLook checkDisk extra
+listing-is d buf = rw (look-slots d)
+
+pub listing-refused : (d buf : List ℕ) (r : Refusal) → checkDisk d ≡ some r → out (refused r) buf ≡ listing d buf
+listing-refused d buf r e = sym (listing-is d buf ∙ rw e)
+
+module _ (d buf : List ℕ) (u : UsedMap) (w : Accepted d u) where
+  whole : 40960 ≤ length d
+  whole = omega (arith, accepted-size d (w .accepted))
+
+  entries-fit : length (entries (directory d) slots) ≡ 258 * liveAmong (directory d) slots
+  entries-fit = entries-long d whole slots (omega arith)
+
+  pub listing-short : (n : ℕ) → n ≡ liveAmong (directory d) slots → length buf < 258 * n → (o : Outcome) → o ≡ refused (refuse 20 0) → out o buf ≡ listing d buf
+  listing-short n e h o p =
+      let l : length buf < length (entries (directory d) slots) = omega (arith, entries-fit) in
+      rw p (sym (listing-is d buf ∙ rw (w .accepted, lt-ltb (length buf) (length (entries (directory d) slots)) l)))
+
+  pub listing-fits : (n : ℕ) → n ≡ liveAmong (directory d) slots → 258 * n ≤ length buf → (f : ℕ) → f ≡ freeOf 0 u → (x : List ℕ) → x ≡ put buf 0 (entries (directory d) slots)
+      → out (done n f) x ≡ listing d buf
+  unfolding free
+  listing-fits n e h f p x q =
+      let l : length (entries (directory d) slots) ≤ length buf = omega (arith, entries-fit) in
+      let g : f ≡ freeOf 0 (usedMap (directory d)) = p ∙ ap (freeOf 0) (w .used) in
+      rw (e, g, q) (sym (listing-is d buf ∙ rw (w .accepted, le-ltb (length buf) (length (entries (directory d) slots)) l)))
+
+-- what a refused check says of the listing, and an accepted one
+pub listing-unsound : (d buf : List ℕ) (s : Survey) (r : Refused) → Examined d s → s .verdict ≡ Unsound r → out (refused (refusalOf r)) buf ≡ listing d buf
+listing-unsound d buf s r w e = listing-refused d buf (refusalOf r) (sym (w .reply) ∙ ap replyOf e)
+
+pub sound-accepted : (d : List ℕ) (s : Survey) → Examined d s → s .verdict ≡ Sound → Accepted d (s .used)
+sound-accepted d s w e =
+    let a : checkDisk d ≡ none = sym (w .reply) ∙ ap replyOf e in
+    record { accepted = a; used = w .used ∙ ap (λ (q : Reply). usedOr q (directory d)) a }

@@ -1,0 +1,88 @@
+-- `files::list_into` meets its contract: the entries of the first `i` slots are put.
+use Prim.Native.Nat.{_+_, _-_, _*_, _≤_}
+use mathlib.Core.Path.{_≡_, refl, sym, ap, _∙_}
+use mathlib.Core.Option.{none, some}
+use native.Mathlib.Omega.{arith}
+use denote.Ref.{now}
+use lib.ListN.{length}
+use Rattle.buffers.specs.Bytes.{put}
+use Rattle.buffers.proofs.Lists.{length-put}
+use Rattle.directory.specs.Places.{slots}
+use Rattle.directory.specs.Directory.{directory}
+use Rattle.directory.proofs.Live.{met-live, met-dead}
+use Rattle.files.specs.Calls.{entries, liveAmong}
+use Rattle.files.proofs.Listed.{Listed, listed-none, listed-more, listed-same, listed-long, listed-all}
+use borrow.Author.Needs.{needs}
+use Rattle.files.proofs.list_into.Statement.{statement}
+use Rattle.files.proofs.list_into.Tie as tie
+
+abbrev Inv-loop : tie.InvT-loop
+Inv-loop dir buf₀ at₀ i₀ buf at i = (i ≤ slots) × (at ≤ 258 * i) × Listed dir buf₀ i at buf
+
+abbrev μ-loop : tie.MeasureT-loop
+μ-loop dir buf₀ at₀ i₀ buf at i = slots - i
+
+loop-holds : tie.Need-loop-holds Inv-loop μ-loop
+loop-holds c = (omega arith, omega arith, listed-none _ _)
+
+slot-at-requires : tie.Need-slot-at-requires Inv-loop μ-loop
+slot-at-requires c κs = search needs
+
+add-i : tie.Need-add-i Inv-loop μ-loop
+add-i c = search needs
+
+is-live-requires : tie.Need-is-live-requires Inv-loop μ-loop
+is-live-requires c κs = search needs
+
+put-entry-requires : tie.Need-put-entry-requires Inv-loop μ-loop
+put-entry-requires c κs = search needs
+
+add-at : tie.Need-add-at Inv-loop μ-loop
+add-at c = search needs
+
+loop-less : tie.Need-loop-less Inv-loop μ-loop
+loop-less c = search needs
+
+loop-again : tie.Need-loop-again Inv-loop μ-loop
+loop-again c =
+    let p = c .before .before in
+    let y = p .before .before in
+    let s = y .before .before in
+    let a = s .before .before .loop in
+    let e = met-live _ _ (s .slot-at .ensures) (y .before .is-live .ensures) (y .if1 .taken) in
+    (omega arith, omega arith, listed-more _ _ (a .i) _ _ (a .inv .2) _ e (omega arith) (omega arith) _ (p .put-entry .ensures))
+
+loop-less-2 : tie.Need-loop-less-2 Inv-loop μ-loop
+loop-less-2 c = search needs
+
+loop-again-2 : tie.Need-loop-again-2 Inv-loop μ-loop
+loop-again-2 c =
+    let s = c .before .before in
+    let a = s .before .before .loop in
+    let e = met-dead _ _ (s .slot-at .ensures) (c .before .is-live .ensures) (c .if1 .left) in
+    (omega arith, omega arith, listed-same _ _ (a .i) _ _ (a .inv .2) e)
+
+same-length : tie.Need-same-length Inv-loop μ-loop
+same-length c = listed-long _ _ _ _ _ (c .before .loop .inv .2)
+
+returns : tie.Need-returns Inv-loop μ-loop
+returns c = listed-all _ _ _ _ _ (c .before .loop .inv .2) (omega arith)
+
+pub list-into-spec : {M : Type 1} → statement M
+list-into-spec =
+    tie.close
+    (tie.spec
+    Inv-loop
+    μ-loop
+    loop-holds
+    slot-at-requires
+    add-i
+    is-live-requires
+    put-entry-requires
+    add-at
+    loop-less
+    loop-again
+    loop-less-2
+    loop-again-2
+    same-length
+    returns)

@@ -1,0 +1,90 @@
+// The calls that read an accepted disk: its listing, a file's body, a file's start address.
+ghost use mathlib.Core.Path.{_≡_};
+ghost use Prim.Native.Nat.{ℕ, _*_, _≤_, _<_};
+ghost use lib.ListN.{length};
+ghost use Rattle.buffers.specs.Bytes.{put};
+ghost use Rattle.refusals.specs.Order.{refuse};
+ghost use Rattle.refusals.specs.Answers.{numberOf, outcomeOf, out, refused};
+ghost use Rattle.directory.specs.Places.{slots};
+ghost use Rattle.directory.specs.Directory.{directory};
+ghost use Rattle.files.specs.Calls.{entry, entries, liveAmong, listing};
+ghost use Rattle.files.specs.Steps.{Accepted};
+use directory::UsedMap;
+use refusals::{Answer, Reason, Refused, Verdict};
+
+// How many slots are live.
+fn live_count(dir: &[u8]) -> usize
+    ensures { λ r. ⌜ (r ≡ liveAmong (directory (now (dir .entry))) slots) × (r ≤ 80) ⌝ }
+{
+    let mut n: usize = 0;
+    let mut i: usize = 0;
+    while i < 80 {
+        let s = directory::slot_at(dir, i);
+        i += 1;
+        if slots::is_live(s) {
+            n += 1;
+        }
+    }
+    n
+}
+
+// Puts a slot's number, low byte first, and its bytes at a place of a buffer.
+fn put_entry(buf: &mut [u8], at: usize, number: usize, s: &[u8])
+    requires { ⌜ (at ≤ 20640) × (number ≤ 80) ⌝ }
+    ensures { λ _. ⌜ now (buf .exit) ≡ put (now (buf .entry)) at (entry number (now (s .entry))) ⌝ }
+{
+    let head = [(number % 256) as u8, (number / 256) as u8];
+    buffers::copy_into(buf, at, &head);
+    buffers::copy_into(buf, at + 2, s);
+}
+
+// Puts an entry for each live slot to the front of a buffer.
+fn list_into(dir: &[u8], buf: &mut [u8])
+    requires { ⌜ 40960 ≤ length (now dir) ⌝ }
+    ensures { λ _. ⌜ now (buf .exit) ≡ put (now (buf .entry)) 0 (entries (directory (now (dir .entry))) slots) ⌝ }
+{
+    let mut at: usize = 0;
+    let mut i: usize = 0;
+    while i < 80 {
+        let s = directory::slot_at(dir, i);
+        i += 1;
+        if slots::is_live(s) {
+            put_entry(buf, at, i, s);
+            at += 258;
+        }
+    }
+}
+
+fn no(reason: Reason, slot: usize) -> Answer
+    ensures { λ r. ⌜ outcomeOf r ≡ refused (refuse (numberOf reason) slot) ⌝ }
+{
+    Answer::No(Refused { reason, slot })
+}
+
+// Lists the live slots of an accepted disk whose used map is `used`.
+fn list_accepted(image: &[u8], used: UsedMap, buf: &mut [u8]) -> Answer
+    requires { ⌜ Accepted (now image) used ⌝ }
+    ensures { λ r. ⌜ out (outcomeOf r) (now (buf .exit)) ≡ listing (now (image .entry)) (now (buf .entry)) ⌝ }
+{
+    let files = live_count(image);
+    if buf.len() < 258 * files {
+        return no(Reason::BufferTooShort, 0);
+    }
+    list_into(image, buf);
+    Answer::Done(files, directory::free_of(used))
+}
+
+// The listing: 258 bytes for each live slot to the front of `buf`; how many, and the free sectors.
+pub fn list(image: &[u8], buf: &mut [u8]) -> Answer
+    ensures { λ r. ⌜ out (outcomeOf r) (now (buf .exit)) ≡ listing (now (image .entry)) (now (buf .entry)) ⌝ }
+{
+    let found = disk::examine(image);
+    let verdict = found.verdict;
+    match verdict {
+        Verdict::Unsound(r) => Answer::No(r),
+        Verdict::Sound => {
+            let used = found.used;
+            list_accepted(image, used, buf)
+        }
+    }
+}
