@@ -120,7 +120,7 @@ module _ (d buf : List ℕ) where
 pub listing-is : (d buf : List ℕ)
     → listing d buf
     ≡ filled (checkDisk d else row 20 0 (ltb (length buf) (length (entries (directory d) slots)))) (done (liveAmong (directory d) slots) (free 0 (directory d)))
-        (entries (directory d) slots) buf
+    (entries (directory d) slots) buf
 unfolding listLook checkDisk extra
 listing-is d buf = rw (look-slots d)
 

@@ -6,8 +6,8 @@ use mathlib.Core.Option.{Option, none, some}
 use lib.Dec.{leb, ltb}
 use lib.ListN.{length}
 use Rattle.buffers.specs.Bytes.{count}
-use Rattle.refusals.specs.Order.{refuse, Reply, _else_, row}
-use Rattle.refusals.specs.Answers.{Outcome, done, unless, Out, filled}
+use Rattle.refusals.specs.Order.{Refusal, refuse, Reply, _else_, row}
+use Rattle.refusals.specs.Answers.{Outcome, done, unless, Out, filled, refusalOf}
 use Rattle.slots.specs.Slot.{kindOf, carried, facts, lengthOf, pageOf, offsetOf}
 use Rattle.slots.specs.Name.{askable}
 use Rattle.chains.specs.File.{File}
@@ -18,6 +18,8 @@ use Rattle.directory.specs.Survey.{free}
 use Rattle.directory.specs.Find.{find}
 use Rattle.disk.specs.Look.{Look, look, slotsOf, extra}
 use Rattle.disk.specs.Check.{checkLook}
+use Rattle.files.specs.declared.Lookup.{Lookup}
+use Rattle.files.specs.declared.Lookup.the-variants.{At, Barred}
 
 -- ---- listing
 
@@ -58,6 +60,24 @@ abbrev pub named : Look → List ℕ → (ℕ → File → Reply) → Reply
 named l n rest =
     checkLook l else row 12 0 (not (askable n)) else held (some (refuse 15 0)) (λ i. rest (suc i) (fileAt l i)) (find (slotsOf l) n)
 
+-- a slot by its name, or the first refusal that stands before it
+pub data Sought : Type 0 where
+  at : ℕ → Sought
+  barred : Refusal → Sought
+
+abbrev pub soughtBy : Reply → Option ℕ → Sought
+soughtBy (some r) o = barred r
+soughtBy none (some i) = at i
+soughtBy none none = barred (refuse 15 0)
+
+unfoldable pub lookup : Look → List ℕ → Sought
+lookup l n = soughtBy (checkLook l else row 12 0 (not (askable n))) (find (slotsOf l) n)
+
+-- the code's answer
+abbrev pub soughtOf : Lookup → Sought
+soughtOf (At i) = at i
+soughtOf (Barred r) = barred (refusalOf r)
+
 -- the kind found is not carried
 abbrev pub notCarried : ℕ → File → Reply
 notCarried slot f = row 13 slot (not (carried (kindOf (f .bytes))))
@@ -87,6 +107,10 @@ address page offset = page * 16384 + offset - 16384
 
 abbrev pub startOf : List ℕ → ℕ
 startOf s = address (pageOf s) (offsetOf s)
+
+-- what a start address answers at the slot with these bytes
+unfoldable pub startAt : ℕ → List ℕ → Outcome
+startAt slot s = unless (notCarried slot (record { bytes = s; sectors = λ b. [] }) else outOfRange slot (record { bytes = s; sectors = λ b. [] })) (done (startOf s) 0)
 
 unfoldable pub startLook : Look → List ℕ → Outcome
 startLook l n = unless (startReply l n) (done (startOf (fileNamed l n .bytes)) 0)

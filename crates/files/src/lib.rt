@@ -7,10 +7,15 @@ ghost use Rattle.refusals.specs.Order.{refuse};
 ghost use Rattle.refusals.specs.Answers.{numberOf, outcomeOf, out, refused};
 ghost use Rattle.directory.specs.Places.{slots};
 ghost use Rattle.directory.specs.Directory.{directory};
-ghost use Rattle.files.specs.Calls.{entry, entries, liveAmong, listing};
+ghost use Rattle.disk.specs.Look.{look};
+ghost use Rattle.files.specs.Calls.{entry, entries, liveAmong, listing, barred, lookup, soughtOf, startAt, starting};
 ghost use Rattle.files.specs.Steps.{Accepted};
+use directory::Found;
 use directory::UsedMap;
-use refusals::{Answer, Reason, Refused, Verdict};
+use refusals::Answer;
+use refusals::Reason;
+use refusals::Refused;
+use refusals::Verdict;
 
 // How many slots are live.
 fn live_count(dir: &[u8]) -> usize
@@ -86,5 +91,61 @@ pub fn list(image: &[u8], buf: &mut [u8]) -> Answer
             let used = found.used;
             list_accepted(image, used, buf)
         }
+    }
+}
+
+// A live slot, counted from 0, by its name; or what is refused before it is found: the disk check's numbers, 12, 15.
+pub enum Lookup {
+    At(usize),
+    Barred(Refused),
+}
+
+fn barred(reason: Reason) -> Lookup
+    ensures { λ r. ⌜ soughtOf r ≡ barred (refuse (numberOf reason) 0) ⌝ }
+{
+    Lookup::Barred(Refused { reason, slot: 0 })
+}
+
+pub fn look_up(image: &[u8], name: &[u8]) -> Lookup
+    ensures { λ r. ⌜ soughtOf r ≡ lookup (look (now (image .entry))) (now (name .entry)) ⌝ }
+{
+    match disk::check(image) {
+        Verdict::Unsound(r) => Lookup::Barred(r),
+        Verdict::Sound => {
+            if !slots::is_askable(name) {
+                return barred(Reason::NameNotUsable);
+            }
+            match directory::find(image, name) {
+                Found::At(i) => Lookup::At(i),
+                Found::Nothing => barred(Reason::NameNotFound),
+            }
+        }
+    }
+}
+
+// The start address of the file in a slot, whose number is `slot`.
+fn start_at(s: &[u8], slot: usize) -> Answer
+    ensures { λ r. ⌜ outcomeOf r ≡ startAt slot (now (s .entry)) ⌝ }
+{
+    if !slots::is_carried(slots::kind_of(s)) {
+        return no(Reason::KindNotCarried, slot);
+    }
+    let offset = slots::offset_of(s);
+    if offset < 32768 {
+        return no(Reason::StartOutOfRange, slot);
+    }
+    if 49151 < offset {
+        return no(Reason::StartOutOfRange, slot);
+    }
+    Answer::Done(slots::page_of(s) * 16384 + offset - 16384, 0)
+}
+
+// The start address of a file.
+pub fn start(image: &[u8], name: &[u8]) -> Answer
+    ensures { λ r. ⌜ outcomeOf r ≡ starting (now (image .entry)) (now (name .entry)) ⌝ }
+{
+    match look_up(image, name) {
+        Lookup::Barred(r) => Answer::No(r),
+        Lookup::At(i) => start_at(directory::slot_at(image, i), i + 1),
     }
 }
