@@ -1,10 +1,10 @@
 -- Laws of lists made by a rule, of parts and of what is put.
 use Prim.Native.Nat.{ℕ, zero, suc, _+_, _-_, _≤_, _<_, min}
 use mathlib.Core.Path.{_≡_, refl, sym, ap, ap₂, _∙_}
-use mathlib.Core.List.{List, [], _∷_, _++_}
+use mathlib.Core.List.{List, [], _∷_, _++_, append-assoc, append-nil}
 use mathlib.Core.Bool.{Bool, true, false, cond, _&&_}
 use mathlib.Core.Logic.{_⊎_, inl, inr, ⊎-elim}
-use native.Mathlib.Nat.{eq-or-lt-of-le, le-of-suc-le-suc, not-suc-le-zero}
+use native.Mathlib.Nat.{add-zero, add-suc, eq-or-lt-of-le, le-of-suc-le-suc, not-suc-le-zero}
 use native.Mathlib.Numerals.{add-one}
 use native.Mathlib.Omega.{arith}
 use borrow.Author.Tests.{ltb-true, ltb-false, lt-ltb, le-ltb, le-leb, lt-leb}
@@ -44,6 +44,14 @@ getD-tab (suc n) f i h =
     (λ e. rw e (getD-at (tab n f) (f n) [] 0 n (length-tab n f)))
     (λ l. List·getD-append (tab n f) (f n ∷ []) 0 i (rw length-tab l) ∙ getD-tab n f i l)
     (eq-or-lt-of-le (le-of-suc-le-suc h))
+
+-- the first a + n: the first a, and n more
+pub tab-add : (a n : ℕ) (f : ℕ → ℕ) → tab (a + n) f ≡ tab a f ++ tab n (λ j. f (a + j))
+unfolding tab
+tab-add a zero f = rw add-zero (sym (append-nil (tab a f)))
+tab-add a (suc n) f =
+    rw add-suc
+    (ap (λ (l : List ℕ). l ++ (f (a + n) ∷ [])) (tab-add a n f) ∙ append-assoc (tab a f) (tab n (λ j. f (a + j))) (f (a + n) ∷ []))
 
 pub tab-past : (n : ℕ) (f : ℕ → ℕ) (i : ℕ) → n ≤ i → getD (tab n f) i 0 ≡ 0
 tab-past n f i h = past-end (tab n f) i (rw length-tab h)

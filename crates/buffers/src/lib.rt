@@ -1,6 +1,6 @@
 // Bytes of a lent buffer: a byte, a part, a run of bytes copied.
 ghost use mathlib.Core.Path.{_≡_};
-ghost use Prim.Native.Nat.{ℕ, _+_, _-_, _≤_, _<_};
+ghost use Prim.Native.Nat.{ℕ, _+_, _-_, _≤_, _<_, min};
 ghost use lib.ListN.{length, getD};
 ghost use Rattle.buffers.specs.Bytes.{part, put};
 
@@ -16,6 +16,12 @@ pub fn num_at(s: &[u8], i: usize) -> usize
     ensures { λ r. ⌜ (r ≡ getD (now (s .entry)) i 0) × (r < 256) ⌝ }
 {
     byte_at(s, i) as usize
+}
+
+pub fn lesser(a: usize, b: usize) -> usize
+    ensures { λ r. ⌜ r ≡ min a b ⌝ }
+{
+    if a < b { a } else { b }
 }
 
 // The `n` bytes at a place, uncopied; fewer where the slice ends before.

@@ -1,2 +1,3 @@
 pub mod Listed
 pub mod Named
+pub mod Body

@@ -87,6 +87,11 @@ notCarried slot f = row 13 slot (not (carried (kindOf (f .bytes))))
 unfoldable pub readReply : Look → List ℕ → ℕ → Reply
 readReply l n room = named l n (λ slot f. notCarried slot f else row 20 0 (ltb room (lengthOf (facts (f .bytes)))))
 
+-- what a read answers at the slot that holds a file
+unfoldable pub readAt : ℕ → File → List ℕ → Out
+readAt slot f buf =
+    filled (notCarried slot f else row 20 0 (ltb (length buf) (lengthOf (facts (f .bytes))))) (done (lengthOf (facts (f .bytes))) 0) (body f) buf
+
 -- "Reading copies the body to the front of a lent buffer and answers its length; the rest stays."
 unfoldable pub readLook : Look → List ℕ → List ℕ → Out
 readLook l n buf =

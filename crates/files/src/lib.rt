@@ -1,15 +1,19 @@
 // The calls that read an accepted disk: its listing, a file's body, a file's start address.
 ghost use mathlib.Core.Path.{_≡_};
+ghost use mathlib.Core.Bool.{true};
 ghost use Prim.Native.Nat.{ℕ, _*_, _≤_, _<_};
 ghost use lib.ListN.{length};
 ghost use Rattle.buffers.specs.Bytes.{put};
 ghost use Rattle.refusals.specs.Order.{refuse};
 ghost use Rattle.refusals.specs.Answers.{numberOf, outcomeOf, out, refused};
+ghost use Rattle.slots.specs.Slot.{kindOf, carried};
+ghost use Rattle.chains.specs.File.{fileOf};
+ghost use Rattle.chains.specs.Chain.{body};
 ghost use Rattle.directory.specs.Places.{slots};
 ghost use Rattle.directory.specs.Directory.{directory};
 ghost use Rattle.disk.specs.Look.{look};
-ghost use Rattle.files.specs.Calls.{entry, entries, liveAmong, listing, barred, lookup, soughtOf, startAt, starting};
-ghost use Rattle.files.specs.Steps.{Accepted};
+ghost use Rattle.files.specs.Calls.{entry, entries, liveAmong, listing, barred, lookup, soughtOf, startAt, starting, readAt, reading};
+ghost use Rattle.files.specs.Steps.{Accepted, Readable};
 use directory::Found;
 use directory::UsedMap;
 use refusals::Answer;
@@ -147,5 +151,51 @@ pub fn start(image: &[u8], name: &[u8]) -> Answer
     match look_up(image, name) {
         Lookup::Barred(r) => Answer::No(r),
         Lookup::At(i) => start_at(directory::slot_at(image, i), i + 1),
+    }
+}
+
+// Copies the body of slot `s` along its links to the front of `buf`: a run of at most 510 bytes from each sector, and
+// from the first only those past the header's nine.
+fn copy_body(image: &[u8], s: &[u8], buf: &mut [u8])
+    requires { ⌜ Readable (now image) (now s) ⌝ }
+    ensures { λ _. ⌜ now (buf .exit) ≡ put (now (buf .entry)) 0 (body (fileOf (now (image .entry)) (now (s .entry)))) ⌝ }
+{
+    let len = slots::length_of(s);
+    let mut b = slots::first_of(s);
+    let mut from: usize = 9;
+    let mut done: usize = 0;
+    while done < len {
+        let sector = chains::sector_at(image, b);
+        let n = buffers::lesser(510 - from, len - done);
+        buffers::copy_into(buf, done, buffers::part_at(sector, from, n));
+        done += n;
+        from = 0;
+        b = chains::next_of(sector);
+    }
+}
+
+// Reads the file of an accepted disk in a slot, whose number is `slot`.
+fn read_at(image: &[u8], s: &[u8], slot: usize, buf: &mut [u8]) -> Answer
+    requires { ⌜ (carried (kindOf (now s)) ≡ true → Readable (now image) (now s)) ⌝ }
+    ensures { λ r. ⌜ out (outcomeOf r) (now (buf .exit)) ≡ readAt slot (fileOf (now (image .entry)) (now (s .entry))) (now (buf .entry)) ⌝ }
+{
+    if !slots::is_carried(slots::kind_of(s)) {
+        return no(Reason::KindNotCarried, slot);
+    }
+    let len = slots::length_of(s);
+    if buf.len() < len {
+        return no(Reason::BufferTooShort, 0);
+    }
+    copy_body(image, s, buf);
+    Answer::Done(len, 0)
+}
+
+// The body of a file, copied to the front of `buf`; its length.
+pub fn read(image: &[u8], name: &[u8], buf: &mut [u8]) -> Answer
+    ensures { λ r. ⌜ out (outcomeOf r) (now (buf .exit)) ≡ reading (now (image .entry)) (now (name .entry)) (now (buf .entry)) ⌝ }
+{
+    match look_up(image, name) {
+        Lookup::Barred(r) => Answer::No(r),
+        Lookup::At(i) => read_at(image, directory::slot_at(image, i), i + 1, buf),
     }
 }

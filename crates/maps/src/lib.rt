@@ -1,7 +1,7 @@
 // Maps of 195 bytes, a bit for each data sector, worked on by bytes.
 ghost use mathlib.Core.Path.{_≡_};
 ghost use mathlib.Core.Bool.{_&&_};
-ghost use Prim.Native.Nat.{_*_, _≤_, min};
+ghost use Prim.Native.Nat.{_*_, _≤_};
 ghost use lib.Bits.{bitOr, bitAnd};
 ghost use lib.Count.{ones};
 ghost use lib.ListN.{length};
@@ -25,12 +25,6 @@ fn ones8(x: u8) -> u32
     ensures { λ r. ⌜ (r ≡ ones x) × (r ≤ 8) ⌝ }
 {
     u32::count_ones(x as u32)
-}
-
-fn lesser(a: usize, b: usize) -> usize
-    ensures { λ r. ⌜ r ≡ min a b ⌝ }
-{
-    if a < b { a } else { b }
 }
 
 // Whether bit `b` is set; past the end of the map it is not.
@@ -62,7 +56,7 @@ fn bits_in(m: &[u8], n: usize) -> usize
 pub fn bits_of(m: &[u8]) -> usize
     ensures { λ r. ⌜ (r ≡ bitsOf (now (m .entry))) × (r ≤ 1560) ⌝ }
 {
-    let n = lesser(195, m.len());
+    let n = buffers::lesser(195, m.len());
     bits_in(m, n)
 }
 
@@ -84,7 +78,7 @@ fn shares_in(m: &[u8], d: &[u8], n: usize) -> bool
 pub fn shares(m: &[u8], d: &[u8]) -> bool
     ensures { λ r. ⌜ r ≡ share (now (m .entry)) (now (d .entry)) ⌝ }
 {
-    let n = lesser(195, lesser(m.len(), d.len()));
+    let n = buffers::lesser(195, buffers::lesser(m.len(), d.len()));
     shares_in(m, d, n)
 }
 
@@ -92,7 +86,7 @@ pub fn shares(m: &[u8], d: &[u8]) -> bool
 pub fn join_into(m: &mut [u8], d: &[u8])
     ensures { λ _. ⌜ now (m .exit) ≡ join (now (m .entry)) (now (d .entry)) ⌝ }
 {
-    let n = lesser(m.len(), d.len());
+    let n = buffers::lesser(m.len(), d.len());
     let mut i: usize = 0;
     while i < n {
         m[i] = or8(m[i], d[i]);
