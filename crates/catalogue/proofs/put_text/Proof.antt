@@ -1,0 +1,88 @@
+-- `catalogue::put_text` meets its contract: each return has the tests that led there.
+use borrow.Author.Needs.{needs}
+use mathlib.Core.Path.{sym, ap, _∙_}
+use native.Mathlib.Omega.{arith}
+use Rattle.refusals.specs.Answers.{replyOf}
+use Rattle.directory.specs.Places.{slots}
+use Rattle.directory.specs.Directory.{directory}
+use Rattle.catalogue.proofs.Laws.{wrote-then, wrote-as, wrote-long, refusal-fits, text-short, text-refused, text-sound, lines-most, length-free, decimal-most}
+use Rattle.catalogue.proofs.put_text.Statement.{statement}
+use Rattle.catalogue.proofs.put_text.Tie as tie
+
+put-refusal-requires : tie.Need-put-refusal-requires
+put-refusal-requires c κs = refusal-fits _ _ (c .before .before .before .before .pre)
+
+same-length : tie.Need-same-length
+same-length c = search needs
+
+returns : tie.Need-returns
+returns c =
+    let w = c .before .before in
+    wrote-as _ (text-short _ (w .before .before .if1 .taken)) (w .put-refusal .ensures)
+
+survey-slots-requires : tie.Need-survey-slots-requires
+survey-slots-requires c κs = search needs
+
+enum-known-verdict : tie.Need-enum-known-verdict
+enum-known-verdict c = search needs
+
+put-refusal-requires-2 : tie.Need-put-refusal-requires-2
+put-refusal-requires-2 c κs = refusal-fits _ _ (c .before .before .before .before .before .before .before .before .pre)
+
+enum-told : tie.Need-enum-told
+enum-told c = search needs
+
+put-lines-requires : tie.Need-put-lines-requires
+put-lines-requires c κs = search needs
+
+free-of-requires : tie.Need-free-of-requires
+free-of-requires c κs = search needs
+
+put-free-requires : tie.Need-put-free-requires
+put-free-requires c κs =
+    let l = c .before .before .before .before in
+    let s = l .before .before .before .before .before .before .before .before .before in
+    omega (arith, s .pre, l .put-lines .ensures .next, wrote-long (l .put-lines .ensures), lines-most (directory (s .args .input .now)) slots (omega arith), length-free (c .free-of .result), decimal-most (c .free-of .result))
+
+same-length-2 : tie.Need-same-length-2
+same-length-2 c = search needs
+
+returns-2 : tie.Need-returns-2
+returns-2 c =
+    let w = c .before .before in
+    let v = w .before .before .before in
+    let k = v .before .before in
+    wrote-as _ (text-refused _ (k .before .if1 .left) _ (sym (k .survey-slots .ensures .reply) ∙ ap replyOf (v .verdict .given .1))) (w .put-refusal2 .ensures)
+
+same-length-3 : tie.Need-same-length-3
+same-length-3 c = search needs
+
+returns-3 : tie.Need-returns-3
+returns-3 c =
+    let w = c .before .before in
+    let f = w .before in
+    let l = f .before .before .before .before in
+    let t = l .before .before .before in
+    let k = t .before .before in
+    wrote-as _
+    (text-sound _ (k .before .if1 .left) _ _ (sym (k .survey-slots .ensures .reply) ∙ ap replyOf (t .enum-told .given .1)) (k .survey-slots .ensures .used) (f .free-of .ensures))
+    (wrote-then (l .put-lines .ensures) (w .put-free .ensures))
+
+pub put-text-spec : {M : Type 1} → statement M
+put-text-spec =
+    tie.close
+    (tie.spec
+    put-refusal-requires
+    same-length
+    returns
+    survey-slots-requires
+    enum-known-verdict
+    put-refusal-requires-2
+    enum-told
+    put-lines-requires
+    free-of-requires
+    put-free-requires
+    same-length-2
+    returns-2
+    same-length-3
+    returns-3)
