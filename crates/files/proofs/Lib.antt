@@ -1,3 +1,6 @@
 pub mod Listed
 pub mod Named
+pub mod Starting
+pub mod Reading
+pub mod Looks
 pub mod Body

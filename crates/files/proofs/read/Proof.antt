@@ -4,7 +4,8 @@ use native.Mathlib.Omega.{arith}
 use denote.Ref.{now}
 use Rattle.disk.specs.Look.{look}
 use Rattle.files.specs.Calls.{at, lookup, soughtOf}
-use Rattle.files.proofs.Named.{lookup-named, named-slot, readable-at, read-barred, read-met}
+use Rattle.files.proofs.Named.{lookup-named, named-slot}
+use Rattle.files.proofs.Reading.{readable-at, read-barred, read-met}
 use borrow.Author.Needs.{needs}
 use Rattle.files.proofs.read.Statement.{statement}
 use Rattle.files.proofs.read.Tie as tie

@@ -4,7 +4,7 @@ use mathlib.Core.Bool.{Bool, true}
 use borrow.Author.Tests.{not-true, not-false}
 use denote.Ref.{now}
 use Rattle.slots.specs.Slot.{kindOf, carried}
-use Rattle.files.proofs.Named.{read-not-carried, read-short, read-done}
+use Rattle.files.proofs.Reading.{read-not-carried, read-short, read-done}
 use borrow.Author.Needs.{needs}
 use Rattle.files.proofs.read_at.Statement.{statement}
 use Rattle.files.proofs.read_at.Tie as tie

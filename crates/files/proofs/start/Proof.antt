@@ -4,7 +4,8 @@ use native.Mathlib.Omega.{arith}
 use denote.Ref.{now}
 use Rattle.disk.specs.Look.{look}
 use Rattle.files.specs.Calls.{at, lookup, soughtOf, startAt}
-use Rattle.files.proofs.Named.{lookup-named, named-slot, start-barred, start-found}
+use Rattle.files.proofs.Named.{lookup-named, named-slot}
+use Rattle.files.proofs.Starting.{start-barred, start-found}
 use borrow.Author.Needs.{needs}
 use Rattle.files.proofs.start.Statement.{statement}
 use Rattle.files.proofs.start.Tie as tie

@@ -7,7 +7,7 @@ use denote.Ref.{now}
 use Rattle.refusals.specs.Answers.{done}
 use Rattle.slots.specs.Slot.{kindOf, carried}
 use Rattle.files.specs.Calls.{address}
-use Rattle.files.proofs.Named.{at-not-carried, at-out, at-address}
+use Rattle.files.proofs.Starting.{at-not-carried, at-out, at-address}
 use borrow.Author.Needs.{needs}
 use Rattle.files.proofs.start_at.Statement.{statement}
 use Rattle.files.proofs.start_at.Tie as tie
