@@ -17,7 +17,7 @@ use lib.Seq.{getD-set-same, getD-set-other, getD-take}
 use Rattle.buffers.specs.Bytes.{count, any}
 use Rattle.buffers.proofs.Lists.{below-or-not, past-end, length-tab, getD-tab, tab-of}
 use Rattle.buffers.proofs.Counts.{count-cong, count-le, count-add, count-none, any-cong, any-none, none-any}
-use Rattle.maps.specs.Bits.{has, bitsOf, share, clear, join, marked}
+use Rattle.maps.specs.Bits.{has, bitsOf, share, clear, join, marked, word}
 
 -- ---- a byte
 
@@ -186,6 +186,41 @@ bits-clear = count-none 1560 (has clear) (λ b h. has-clear b)
 -- one byte more
 pub bits-more : (m : List ℕ) (i : ℕ) → getD m i 0 < 256 → count (8 * (i + 1)) (has m) ≡ count (8 * i) (has m) + ones (getD m i 0)
 bits-more m i h = count-eight i (has m) (bit (getD m i 0)) (has-byte m i) ∙ ap (λ (x : ℕ). count (8 * i) (has m) + x) (sym (ones-byte (getD m i 0) h))
+
+-- the bits of a byte that stands below others
+low-digit : (a b j : ℕ) → a < 256 → j < 8 → (a + 256 * b) / 2 ^ j % 2 ≡ a / 2 ^ j % 2
+low-digit a b zero h k = omega arith
+low-digit a b (suc zero) h k = omega arith
+low-digit a b (suc (suc zero)) h k = omega arith
+low-digit a b (suc (suc (suc zero))) h k = omega arith
+low-digit a b (suc (suc (suc (suc zero)))) h k = omega arith
+low-digit a b (suc (suc (suc (suc (suc zero))))) h k = omega arith
+low-digit a b (suc (suc (suc (suc (suc (suc zero)))))) h k = omega arith
+low-digit a b (suc (suc (suc (suc (suc (suc (suc zero))))))) h k = omega arith
+low-digit a b (suc (suc (suc (suc (suc (suc (suc (suc j)))))))) h k = absurd (omega arith)
+
+ones-join : (a b : ℕ) → a < 256 → ones (a + 256 * b) ≡ ones a + ones b
+ones-join a b h =
+    let q : (a + 256 * b) / 2 ^ 8 ≡ b = omega arith in
+    ones-count 8 (a + 256 * b) ∙ rw q (ap (λ (x : ℕ). x + ones b) (count-cong 8 (bit (a + 256 * b)) (bit a) (λ j k. ap (λ (x : ℕ). eqb x 1) (low-digit a b j h k)) ∙ sym (ones-byte a h)))
+
+-- the set bits of k bytes are those of the word that they make
+pub word-more : (m : List ℕ) (i : ℕ) → ((b : ℕ) → getD m b 0 < 256) → (k j : ℕ) → count (8 * (i + j + k)) (has m) ≡ count (8 * (i + j)) (has m) + ones (word k m i j)
+unfolding word ones
+word-more m i h zero j = rw add-zero (sym (add-zero (count (8 * (i + j)) (has m))))
+word-more m i h (suc k) j =
+    let e : i + j + suc k ≡ i + suc j + k = omega arith in
+    let f : i + suc j ≡ i + j + 1 = omega arith in
+    let b : count (8 * (i + suc j)) (has m) ≡ count (8 * (i + j)) (has m) + ones (getD m (i + j) 0) = rw f (bits-more m (i + j) (h (i + j))) in
+    rw e (omega (arith, word-more m i h k (suc j), b, ones-join (getD m (i + j) 0) (word k m i (suc j)) (h (i + j))))
+
+-- eight bytes more
+pub words-more : (m : List ℕ) → ((b : ℕ) → getD m b 0 < 256) → (i s x y : ℕ) → s ≡ count (64 * i) (has m) → x ≡ word 8 m (8 * i) 0 → y ≡ ones x → s + y ≡ count (64 * (i + 1)) (has m)
+words-more m h i s x y p q r =
+    let a : 8 * (8 * i + 0 + 8) ≡ 64 * (i + 1) = omega arith in
+    let b : 8 * (8 * i + 0) ≡ 64 * i = omega arith in
+    let e : y ≡ ones (word 8 m (8 * i) 0) = r ∙ ap ones q in
+    sym (ap (λ (n : ℕ). count n (has m)) (sym a) ∙ word-more m (8 * i) h 8 0 ∙ ap₂ _+_ (ap (λ (n : ℕ). count n (has m)) b ∙ sym p) (sym e))
 
 -- the bytes that a map has, of 195, hold all its bits
 pub bits-all : (m : List ℕ) (n : ℕ) → n ≡ min 195 (length m) → count (8 * n) (has m) ≡ bitsOf m

@@ -1,12 +1,12 @@
 // Maps of 195 bytes, a bit for each data sector, worked on by bytes.
 ghost use mathlib.Core.Path.{_≡_};
 ghost use mathlib.Core.Bool.{_&&_};
-ghost use Prim.Native.Nat.{_*_, _≤_};
+ghost use Prim.Native.Nat.{_+_, _*_, _≤_, _<_};
 ghost use lib.Bits.{bitOr, bitAnd};
 ghost use lib.Count.{ones};
 ghost use lib.ListN.{length};
 ghost use Rattle.buffers.specs.Bytes.{count, any};
-ghost use Rattle.maps.specs.Bits.{has, bitsOf, share, join, marked};
+ghost use Rattle.maps.specs.Bits.{has, bitsOf, share, join, marked, word};
 
 // On bytes: or, and, the number of set bits. The compiler inlines them.
 fn or8(x: u8, y: u8) -> u8
@@ -38,13 +38,55 @@ pub fn has_bit(m: &[u8], b: usize) -> bool
     false
 }
 
-// The set bits of the first `n` bytes.
+fn ones64(x: u64) -> u32
+    ensures { λ r. ⌜ (r ≡ ones x) × (r ≤ 64) ⌝ }
+{
+    u64::count_ones(x)
+}
+
+fn wide(x: u8) -> u64
+    ensures { λ r. ⌜ (r ≡ x) × (r < 256) ⌝ }
+{
+    x as u64
+}
+
+// Eight bytes as one number, low byte first, which the compiler makes one load.
+fn eight_at(m: &[u8], i: usize) -> u64
+    requires { ⌜ i + 8 ≤ length (now m) ⌝ }
+    ensures { λ r. ⌜ r ≡ word 8 (now (m .entry)) i 0 ⌝ }
+{
+    wide(m[i])
+        + 256 * wide(m[i + 1])
+        + 65536 * wide(m[i + 2])
+        + 16777216 * wide(m[i + 3])
+        + 4294967296 * wide(m[i + 4])
+        + 1099511627776 * wide(m[i + 5])
+        + 281474976710656 * wide(m[i + 6])
+        + 72057594037927936 * wide(m[i + 7])
+}
+
+// The set bits of the first `8 * n` bytes, eight at a time.
+fn bits_in_words(m: &[u8], n: usize) -> usize
+    requires { ⌜ (n ≤ 24) × (8 * n ≤ length (now m)) ⌝ }
+    ensures { λ r. ⌜ (r ≡ count (64 * n) (has (now (m .entry)))) × (r ≤ 64 * n) ⌝ }
+{
+    let mut sum: usize = 0;
+    let mut i: usize = 0;
+    while i < n {
+        sum += ones64(eight_at(m, 8 * i)) as usize;
+        i += 1;
+    }
+    sum
+}
+
+// The set bits of the first `n` bytes: whole words first, then the bytes that are left.
 fn bits_in(m: &[u8], n: usize) -> usize
     requires { ⌜ (n ≤ 195) × (n ≤ length (now m)) ⌝ }
     ensures { λ r. ⌜ r ≡ count (8 * n) (has (now (m .entry))) ⌝ }
 {
-    let mut sum: usize = 0;
-    let mut i: usize = 0;
+    let words = n / 8;
+    let mut sum = bits_in_words(m, words);
+    let mut i = 8 * words;
     while i < n {
         sum += ones8(m[i]) as usize;
         i += 1;

@@ -1,7 +1,7 @@
--- `maps::bits_in` meets its contract: after i turns the bits of i bytes are counted.
+-- `maps::bits_in` meets its contract: the bits of the first i bytes are counted.
 use borrow.Author.Needs.{needs}
-use Prim.Native.Nat.{_≤_, _<_, _*_, _-_}
-use mathlib.Core.Path.{_≡_, refl}
+use Prim.Native.Nat.{ℕ, _≤_, _<_, _*_, _/_, _-_}
+use mathlib.Core.Path.{_≡_, ap, _∙_}
 use native.Mathlib.Omega.{arith}
 use lib.ListN.{getD}
 use Rattle.buffers.specs.Bytes.{count}
@@ -11,14 +11,24 @@ use Rattle.maps.proofs.bits_in.Statement.{statement}
 use Rattle.maps.proofs.bits_in.Tie as tie
 
 abbrev Inv-loop : tie.InvT-loop
-Inv-loop m n sum₀ i₀ sum i = (i ≤ n) × (sum ≤ 8 * i) × (sum ≡ count (8 * i) (has m))
+Inv-loop m n words sum₀ i₀ sum i = (i ≤ n) × (sum ≤ 8 * i) × (sum ≡ count (8 * i) (has m))
 
 abbrev μ-loop : tie.MeasureT-loop
-μ-loop m n sum₀ i₀ sum i = n - i
+μ-loop m n words sum₀ i₀ sum i = n - i
+
+eight : (n : ℕ) → 64 * (n / 8) ≡ 8 * (8 * (n / 8))
+eight n = omega arith
+
+bits-in-words-requires : tie.Need-bits-in-words-requires Inv-loop μ-loop
+bits-in-words-requires c κs = search needs
+
+mul-i : tie.Need-mul-i Inv-loop μ-loop
+mul-i c = search needs
 
 loop-holds : tie.Need-loop-holds Inv-loop μ-loop
-unfolding count
-loop-holds c = (omega arith, omega arith, refl)
+loop-holds c =
+    let w = c .bits-in-words .ensures in
+    (omega arith, omega arith, w .0 ∙ ap (λ (k : ℕ). count k (has (c .before .before .args .m .now))) (eight (c .before .before .args .n)))
 
 shared-slice-read-ones8 : tie.Need-shared-slice-read-ones8 Inv-loop μ-loop
 shared-slice-read-ones8 c = search needs
@@ -41,14 +51,14 @@ loop-less c = search needs
 loop-again : tie.Need-loop-again Inv-loop μ-loop
 loop-again c =
     let l = c .before .before .before in
-    let m = l .before .before .args .m .now in
+    let m = l .before .before .before .args .m .now in
     let h : getD m (l .loop .i) 0 < 256 = omega (arith, c .before .shared-slice-known2 .given (l .loop .i)) in
     (search needs, search needs, rw (bits-more m (l .loop .i) h) (cc))
 
 returns : tie.Need-returns Inv-loop μ-loop
 returns c =
     let l = c .before in
-    let e : l .loop .i ≡ l .before .before .args .n = omega arith in
+    let e : l .loop .i ≡ l .before .before .before .args .n = omega arith in
     rw (← e) (l .loop .inv .2)
 
 pub bits-in-spec : {M : Type 1} → statement M
@@ -57,6 +67,8 @@ bits-in-spec =
     (tie.spec
     Inv-loop
     μ-loop
+    bits-in-words-requires
+    mul-i
     loop-holds
     shared-slice-read-ones8
     ones8-requires
