@@ -1,0 +1,239 @@
+-- Every outcome of a call keeps to bounds: refusals of the table, slots of the directory, and the greatest value that the call can give.
+use Prim.Native.Nat.{ℕ, suc, _+_, _≤_, _<_}
+use mathlib.Core.Path.{_≡_, refl, sym, ap, _∙_, subst}
+use mathlib.Core.Bool.{Bool, true, false, cond, not, _&&_}
+use mathlib.Core.List.{List, [], _∷_}
+use mathlib.Core.Option.{Option, none, some}
+use native.Mathlib.Omega.{arith}
+use borrow.Author.Tests.{leb-true, eqb-true, not-false}
+use lib.Dec.{eqb, leb, ltb}
+use lib.ListN.{length}
+use Rattle.geometry.specs.Disk.{imageSize, isSector, placeOf}
+use Rattle.geometry.proofs.Laws.{sector-inside}
+use Rattle.refusals.specs.Order.{Refusal, refuse, Reply, _else_, Row, _when_, rows, row, sweep}
+use Rattle.refusals.specs.Answers.{Outcome, done, refused, unless, Out, filled}
+use Rattle.refusals.proofs.First.{else-none, rows-clear, sweep-first}
+use Rattle.slots.specs.Slot.{kindOf, carried, facts, lengthOf, offsetOf}
+use Rattle.slots.specs.Name.{askable}
+use Rattle.slots.specs.Rows.{dataCount}
+use Rattle.chains.specs.File.{File, fileOf}
+use Rattle.chains.specs.Chain.{body}
+use Rattle.drives.specs.Raw.{isImage, isDrive, rawRefusal}
+use Rattle.drives.proofs.Laws.{accepted}
+use Rattle.directory.specs.Places.{slots}
+use Rattle.directory.specs.Directory.{held, directory, slotOr}
+use Rattle.directory.specs.Survey.{free, freeOf}
+use Rattle.directory.specs.Find.{find}
+use Rattle.disk.specs.Look.{Look, look, slotsOf, extra}
+use Rattle.disk.specs.Check.{checkLook, checkDisk}
+use Rattle.disk.specs.Given.{rows9, rows11}
+use Rattle.disk.proofs.Look.{look-some}
+use Rattle.disk.proofs.Order.{passAt, pass, check-passes}
+use Rattle.disk.proofs.Rows.{and-both, carried-is}
+use Rattle.disk.proofs.Sound.{sound}
+use Rattle.files.specs.Calls.{entries, liveAmong, listing, Sought, at, barred, soughtBy, lookup, address, startOf, startAt, starting, readAt, reading}
+use Rattle.files.proofs.Listed.{among-few, listing-is}
+use Rattle.files.proofs.Named.{Named, lookup-named, named-slot, start-barred, start-found, read-barred, read-found}
+use Rattle.varnucht.specs.Packed.{packed, checking, sectorPlace, Within, Told}
+use Rattle.varnucht.proofs.Parts.{within-fits, told}
+
+-- ---- replies
+
+-- a refusal of the table at a slot of the directory, or none
+abbrev pub Small : Reply → Type 0
+Small none = Unit {0}
+Small (some r) = (r .number ≤ 21) × (r .slot ≤ 80)
+
+small-else : (p q : Reply) → Small p → Small q → Small (p else q)
+small-else none q a b = b
+small-else (some r) q a b = a
+
+abbrev few : List Row → Bool
+few [] = true
+few (r ∷ rs) = leb (r .number) 21 && few rs
+
+small-rows : (s : ℕ) (rs : List Row) → s ≤ 80 → few rs ≡ true → Small (rows s rs)
+small-rows s [] h e = tt
+small-rows s (r ∷ rs) h e =
+    let c = and-both (leb (r .number) 21) (few rs) e in
+    by (r .holds) (leb-true (r .number) 21 (c .0)) (small-rows s rs h (c .1))
+  where
+    by : (t : Bool) → r .number ≤ 21 → Small (rows s rs) → Small (cond t (some (refuse (r .number) s)) (rows s rs))
+    by true a b = (a, h)
+    by false a b = b
+
+small-row : (n s : ℕ) (t : Bool) → n ≤ 21 → s ≤ 80 → Small (row n s t)
+small-row n s true p q = (p, q)
+small-row n s false p q = tt
+
+small-sweep : (n : ℕ) (f : ℕ → Reply) → ((i : ℕ) → i < n → Small (f i)) → Small (sweep n f)
+small-sweep n f h = by (sweep n f) refl
+  where
+    by : (q : Reply) → sweep n f ≡ q → Small q
+    by none e = tt
+    by (some r) e = let w = sweep-first n f r e in subst Small (w .here) (h (w .at) (w .below))
+
+small-pass : (l : Look) (rs : ℕ → File → List Row) → ((i : ℕ) (f : File) → few (rs i f) ≡ true) → Small (pass l rs)
+small-pass l rs h = small-sweep slots (passAt l rs) (λ i k. by i k (l .files i))
+  where
+    by : (i : ℕ) → i < slots → (o : Option File) → Small (held none (λ f. rows (suc i) (rs i f)) o)
+    by i k none = tt
+    by i k (some f) = small-rows (suc i) (rs i f) (omega arith) (h i f)
+
+pub check-small : (l : Look) → Small (checkLook l)
+check-small l =
+    subst Small (sym (check-passes l))
+    (small-else (row 1 0 (not (eqb (l .long) imageSize))) (pass l (rows9 l) else pass l (rows11 l)) (small-row 1 0 (not (eqb (l .long) imageSize)) (omega arith) (omega arith))
+    (small-else (pass l (rows9 l)) (pass l (rows11 l)) (small-pass l (rows9 l) (λ i f. refl)) (small-pass l (rows11 l) (λ i f. refl))))
+
+pub check-slot : (l : Look) (r : Refusal) → checkLook l ≡ some r → r .slot ≤ 80
+check-slot l r e = subst Small e (check-small l) .1
+
+-- ---- outcomes
+
+within-refused : (r : Refusal) (v f : ℕ) → Small (some r) → Within (refused r) v f
+within-refused r v f a = record { refusal = a .0; slot = a .1; value = omega arith; free = omega arith }
+
+within-unless : (q : Reply) (x y v f : ℕ) → Small q → (q ≡ none → (x ≤ v) × (y ≤ f)) → Within (unless q (done x y)) v f
+within-unless none x y v f a h = record { refusal = omega arith; slot = omega arith; value = h refl .0; free = h refl .1 }
+within-unless (some r) x y v f a h = within-refused r v f a
+
+filled-outcome : (q : Reply) (o : Outcome) (x buf : List ℕ) → filled q o x buf .outcome ≡ unless q o
+filled-outcome none o x buf = refl
+filled-outcome (some r) o x buf = refl
+
+row-false : (n s : ℕ) (t : Bool) → row n s t ≡ none → t ≡ false
+row-false n s t e = rows-clear s ((n when t) ∷ []) e .0
+
+-- ---- the check
+
+pub checking-within : (d : List ℕ) → Within (checking d) 0 0
+unfolding checkDisk
+checking-within d = within-unless (checkDisk d) 0 0 0 0 (check-small (look d)) (λ e. (omega arith, omega arith))
+
+-- ---- the listing: 80 slots, 1,560 sectors
+
+free-few : (d : List ℕ) → free 0 (directory d) ≤ 1560
+unfolding free freeOf dataCount
+free-few d = omega arith
+
+pub listing-within : (d buf : List ℕ) → Within (listing d buf .outcome) 80 1560
+unfolding checkDisk
+listing-within d buf =
+    let x = entries (directory d) slots in
+    let live = liveAmong (directory d) slots in
+    let short = ltb (length buf) (length x) in
+    let q = checkDisk d else row 20 0 short in
+    let e = ap (λ (o : Out). o .outcome) (listing-is d buf) ∙ filled-outcome q (done live (free 0 (directory d))) x buf in
+    subst (λ (o : Outcome). Within o 80 1560) (sym e)
+    (within-unless q live (free 0 (directory d)) 80 1560
+    (small-else (checkDisk d) (row 20 0 short) (check-small (look d)) (small-row 20 0 short (omega arith) (omega arith)))
+    (λ e. (among-few (directory d) slots, free-few d)))
+
+-- ---- a file by its name
+
+-- page 31, offset 49,151
+address-few : (s : List ℕ) → (leb 32768 (offsetOf s) && leb (offsetOf s) 49151) ≡ true → startOf s ≤ 540671
+unfolding address
+address-few s e = let h : offsetOf s ≤ 49151 = leb-true _ _ (and-both (leb 32768 (offsetOf s)) _ e .1) in omega arith
+
+module _ (d n : List ℕ) where
+  lookup-small : (r : Refusal) → barred r ≡ lookup (look d) n → Small (some r)
+  unfolding lookup
+  lookup-small r e =
+      by (checkLook (look d) else row 12 0 (not (askable n)))
+      (small-else (checkLook (look d)) (row 12 0 (not (askable n))) (check-small (look d)) (small-row 12 0 (not (askable n)) (omega arith) (omega arith))) (find (slotsOf (look d)) n) e
+    where
+      by : (q : Reply) → Small q → (o : Option ℕ) → barred r ≡ soughtBy q o → Small (some r)
+      by (some x) a o w = let z : x ≡ r = cc in subst (λ (r : Refusal). Small (some r)) z a
+      by none a none w = let z : refuse 15 0 ≡ r = cc in subst (λ (r : Refusal). Small (some r)) z (omega arith, omega arith)
+      by none a (some i) w = let z : _≡_ {A = ℕ} 0 1 = cc in absurd (omega arith)
+
+  slot-few : (i : ℕ) → at i ≡ lookup (look d) n → i + 1 ≤ 80
+  slot-few i e = omega (arith, named-slot d n i (lookup-named d n i e) .below)
+
+  -- 510 × 1,560 less the nine bytes of the header
+  length-few : (i : ℕ) → Named d n i → carried (kindOf (slotOr d i)) ≡ true → lengthOf (facts (slotOr d i)) ≤ 795591
+  unfolding checkDisk facts fileOf dataCount extra
+  length-few i w c =
+      let f = named-slot d n i w in
+      let g = sound (look d) (w .accepted) .good i (fileOf d (slotOr d i)) (f .below) (look-some d i (slotOr d i) (f .here)) in
+      omega (arith, g .fits (carried-is (kindOf (slotOr d i)) c), g .few-sectors)
+
+  pub reading-within : (buf : List ℕ) → Within (reading d n buf .outcome) 795591 0
+  unfolding readAt fileOf
+  reading-within buf = by (lookup (look d) n) refl
+    where
+      found : (i : ℕ) → at i ≡ lookup (look d) n → Within (readAt (i + 1) (fileOf d (slotOr d i)) buf .outcome) 795591 0
+      found i e =
+          let f = fileOf d (slotOr d i) in
+          let len = lengthOf (facts (f .bytes)) in
+          let kind = carried (kindOf (f .bytes)) in
+          let short = ltb (length buf) len in
+          let q = row 13 (i + 1) (not kind) else row 20 0 short in
+          subst (λ (o : Outcome). Within o 795591 0) (sym (filled-outcome q (done len 0) (body f) buf))
+          (within-unless q len 0 795591 0
+          (small-else (row 13 (i + 1) (not kind)) (row 20 0 short) (small-row 13 (i + 1) (not kind) (omega arith) (slot-few i e))
+          (small-row 20 0 short (omega arith) (omega arith)))
+          (λ z. (length-few i (lookup-named d n i e) (not-false kind (row-false 13 (i + 1) (not kind) (else-none (row 13 (i + 1) (not kind)) (row 20 0 short) z .0))), omega arith)))
+
+      by : (x : Sought) → x ≡ lookup (look d) n → Within (reading d n buf .outcome) 795591 0
+      by (barred r) e = subst (λ (o : Out). Within (o .outcome) 795591 0) (read-barred d n buf r e) (within-refused r 795591 0 (lookup-small r e))
+      by (at i) e = subst (λ (o : Out). Within (o .outcome) 795591 0) (read-found d n buf i e) (found i e)
+
+  pub starting-within : Within (starting d n) 540671 0
+  unfolding startAt
+  starting-within = by (lookup (look d) n) refl
+    where
+      found : (i : ℕ) → at i ≡ lookup (look d) n → Within (startAt (i + 1) (slotOr d i)) 540671 0
+      found i e =
+          let s = slotOr d i in
+          let p = row 13 (i + 1) (not (carried (kindOf s))) in
+          let inside = leb 32768 (offsetOf s) && leb (offsetOf s) 49151 in
+          let q = row 14 (i + 1) (not inside) in
+          within-unless (p else q) (startOf s) 0 540671 0
+          (small-else p q (small-row 13 (i + 1) (not (carried (kindOf s))) (omega arith) (slot-few i e)) (small-row 14 (i + 1) (not inside) (omega arith) (slot-few i e)))
+          (λ z. (address-few s (not-false inside (row-false 14 (i + 1) (not inside) (else-none p q z .1))), omega arith))
+
+      by : (x : Sought) → x ≡ lookup (look d) n → Within (starting d n) 540671 0
+      by (barred r) e = subst (λ (o : Outcome). Within o 540671 0) (start-barred d n r e) (within-refused r 540671 0 (lookup-small r e))
+      by (at i) e = subst (λ (o : Outcome). Within o 540671 0) (start-found d n i e) (found i e)
+
+-- ---- a raw sector: the last begins 512 bytes before the image's end
+
+module _ (one two : List ℕ) (d t s : ℕ) where
+  raw-few : rawRefusal one two d t s ≤ 21
+  unfolding rawRefusal
+  raw-few = by (isImage one && isImage two) (isDrive d && isSector t s)
+    where
+      by : (a b : Bool) → cond (not a) 1 (cond (not b) 21 0) ≤ 21
+      by false b = omega arith
+      by true false = omega arith
+      by true true = omega arith
+
+  pub sector-within : Within (sectorPlace one two d t s) 818688 0
+  unfolding sectorPlace
+  sector-within = by (eqb (rawRefusal one two d t s) 0) refl
+    where
+      by : (b : Bool) → eqb (rawRefusal one two d t s) 0 ≡ b → Within (cond b (done (placeOf t s) 0) (refused (refuse (rawRefusal one two d t s) 0))) 818688 0
+      by true q =
+          let h = sector-inside t s (accepted one two d t s (eqb-true _ 0 q) .sector) in
+          record { refusal = omega arith; slot = omega arith; value = omega arith; free = omega arith }
+      by false q = within-refused (refuse (rawRefusal one two d t s) 0) 818688 0 (raw-few, omega arith)
+
+-- ---- so every answer can be read in its parts
+
+pub checking-told : (d : List ℕ) → Told (checking d) (packed (checking d))
+checking-told d = told _ (within-fits _ _ _ (omega arith) (omega arith) (checking-within d))
+
+pub listing-told : (d buf : List ℕ) → Told (listing d buf .outcome) (packed (listing d buf .outcome))
+listing-told d buf = told _ (within-fits _ _ _ (omega arith) (omega arith) (listing-within d buf))
+
+pub reading-told : (d n buf : List ℕ) → Told (reading d n buf .outcome) (packed (reading d n buf .outcome))
+reading-told d n buf = told _ (within-fits _ _ _ (omega arith) (omega arith) (reading-within d n buf))
+
+pub starting-told : (d n : List ℕ) → Told (starting d n) (packed (starting d n))
+starting-told d n = told _ (within-fits _ _ _ (omega arith) (omega arith) (starting-within d n))
+
+pub sector-told : (one two : List ℕ) (d t s : ℕ) → Told (sectorPlace one two d t s) (packed (sectorPlace one two d t s))
+sector-told one two d t s = told _ (within-fits _ _ _ (omega arith) (omega arith) (sector-within one two d t s))
