@@ -33,7 +33,9 @@ use Rattle.disk.proofs.Rows.{and-both, carried-is}
 use Rattle.disk.proofs.Sound.{sound}
 use Rattle.files.specs.Calls.{entries, liveAmong, listing, Sought, at, barred, soughtBy, lookup, address, startOf, startAt, starting, readAt, reading}
 use Rattle.files.proofs.Listed.{among-few, listing-is}
-use Rattle.files.proofs.Named.{Named, lookup-named, named-slot, start-barred, start-found, read-barred, read-found}
+use Rattle.files.proofs.Named.{Named, lookup-named, named-slot}
+use Rattle.files.proofs.Reading.{read-barred, read-found}
+use Rattle.files.proofs.Starting.{start-barred, start-found}
 use Rattle.varnucht.specs.Packed.{packed, checking, sectorPlace, Within, Told}
 use Rattle.varnucht.proofs.Parts.{within-fits, told}
 

@@ -1,0 +1,229 @@
+-- What bytes put into one slot, or into one data sector, change of a look, and what they leave.
+use Prim.Native.Nat.{ℕ, _+_, _≤_, _<_}
+use mathlib.Core.Path.{_≡_, refl, sym, ap, ap₂, _∙_, fun-ext}
+use mathlib.Core.Bool.{Bool, true, false, cond, _&&_}
+use mathlib.Core.List.{List}
+use mathlib.Core.Logic.{⊎-elim}
+use mathlib.Core.Option.{Option, none, some, Option·some-ne-none, Option·some-injective}
+use native.Mathlib.Omega.{arith}
+use borrow.Author.Tests.{eqb-true, eqb-false, eq-eqb, ne-eqb}
+use lib.Dec.{eqb, ltb}
+use lib.ListN.{length, getD}
+use Rattle.buffers.specs.Bytes.{part, put}
+use Rattle.buffers.proofs.Lists.{below-or-not, length-put, part-long, part-put, part-put-before, part-put-after, part-at, put-in, put-before, put-after, put-is}
+use Rattle.geometry.specs.Disk.{imageSize, bitNumber, bitPlace}
+use Rattle.geometry.proofs.Laws.{place-inside, number-injective}
+use Rattle.maps.specs.Bits.{has}
+use Rattle.slots.specs.Slot.{isLive, mapOf}
+use Rattle.chains.specs.File.{File, sectorAt, sectorsOf, fileOf}
+use Rattle.chains.proofs.Laws.{map-small, sectors-own, file-agree}
+use Rattle.directory.specs.Places.{slots, slotAt, slotBytes, dirSector}
+use Rattle.directory.specs.Directory.{held, directory, seen}
+use Rattle.directory.proofs.Places.{slots-count, slot-front, slot-sector, slots-apart, data-all, dir-not-data, slot-data-apart}
+use Rattle.directory.proofs.Live.{directory-some, directory-live, directory-dead, directory-past}
+use Rattle.disk.specs.Look.{Look, look, slotsOf, extra}
+use Rattle.disk.proofs.Look.{look-some, look-none, look-agree}
+use Rattle.steps.specs.Sectors.{sector}
+use Rattle.steps.specs.Steps.{Inside}
+use Rattle.steps.proofs.Steps.{put-other}
+use Rattle.plans.specs.Plan.{upd, entryOf}
+
+-- ---- the directory of a look, and a look with one slot changed
+
+pub slots-some : (l : Look) (i : ℕ) (f : File) → l .files i ≡ some f → slotsOf l i ≡ some (f .bytes)
+unfolding slotsOf
+slots-some l i f e = ap (held none (λ f. some (f .bytes))) e
+
+module _ (l : Look) (i : ℕ) (o : Option File) where
+  pub upd-same : upd l i o .files i ≡ o
+  unfolding upd
+  upd-same = rw (eq-eqb i i refl)
+
+  pub upd-other : (j : ℕ) → (j ≡ i → ⊥) → upd l i o .files j ≡ l .files j
+  unfolding upd
+  upd-other j n = rw (ne-eqb j i n)
+
+  pub upd-long : upd l i o .long ≡ l .long
+  unfolding upd
+  upd-long = refl
+
+  pub extra-upd : extra (upd l i o) ≡ extra l
+  unfolding extra
+  extra-upd = refl
+
+  pub slots-same : slotsOf (upd l i o) i ≡ held none (λ f. some (f .bytes)) o
+  unfolding slotsOf
+  slots-same = ap (held none (λ f. some (f .bytes))) upd-same
+
+  pub slots-other : (j : ℕ) → (j ≡ i → ⊥) → slotsOf (upd l i o) j ≡ slotsOf l j
+  unfolding slotsOf
+  slots-other j n = ap (held none (λ f. some (f .bytes))) (upd-other j n)
+
+-- ---- what a slot with these bytes holds
+
+module _ (s : List ℕ) (sec : ℕ → List ℕ) where
+  pub entry-live : isLive s ≡ true → entryOf s sec ≡ some (record { bytes = s; sectors = sec })
+  unfolding entryOf
+  entry-live e = rw e
+
+  pub entry-dead : isLive s ≡ false → entryOf s sec ≡ none
+  unfolding entryOf
+  entry-dead e = rw e
+
+  -- where it holds a file, it is live and that is the file
+  pub entry-alive : (f : File) → entryOf s sec ≡ some f → isLive s ≡ true
+  unfolding entryOf
+  entry-alive f e = by (isLive s) e
+    where
+      by : (t : Bool) → cond t (some (record { bytes = s; sectors = sec })) none ≡ some f → t ≡ true
+      by true w = refl
+      by false w = absurd (Option·some-ne-none f (sym w))
+
+  pub entry-is : (f : File) → entryOf s sec ≡ some f → f ≡ record { bytes = s; sectors = sec }
+  entry-is f e = sym (Option·some-injective (record { bytes = s; sectors = sec }) f (sym (entry-live (entry-alive f e)) ∙ e))
+
+-- ---- a live slot
+
+-- slot i of an image is live, and f is its file
+pub record Holds (d : List ℕ) (i : ℕ) (f : File) : Type 0 where
+  pub here : i < slots
+  pub live : directory d i ≡ some (f .bytes)
+  pub bytes : slotBytes d i ≡ f .bytes
+  pub alive : isLive (f .bytes) ≡ true
+  pub sectors : sectorsOf d (f .bytes) ≡ f .sectors
+
+module _ (d : List ℕ) (i : ℕ) (f : File) (e : look d .files i ≡ some f) where
+  pub holds : Holds d i f
+  unfolding look fileOf
+  holds = by (directory d i) refl e
+    where
+      by : (o : Option (List ℕ)) → directory d i ≡ o → held none (λ s. some (fileOf d s)) o ≡ some f → Holds d i f
+      by none q w = absurd (Option·some-ne-none f (sym w))
+      by (some s) q w =
+          let z : fileOf d s ≡ f = Option·some-injective (fileOf d s) f w in
+          let b : s ≡ f .bytes = ap (λ (f : File). f .bytes) z in
+          let p = directory-some d i s q in
+          record {
+            here = p .0;
+            live = q ∙ ap {B = Option (List ℕ)} some b;
+            bytes = sym (p .1) ∙ b;
+            alive = ap isLive (sym b) ∙ p .2;
+            sectors = ap (sectorsOf d) (sym b) ∙ ap (λ (f : File). f .sectors) z;
+          }
+
+  pub holds-long : length d ≡ imageSize → length (f .bytes) ≡ 256
+  holds-long z = ap length (sym (holds .bytes)) ∙ part-long (slotAt i) 256 d (omega (arith, slot-front i (holds .here)))
+
+  pub holds-sector : (b : ℕ) → has (mapOf (f .bytes)) b ≡ true → sectorAt d b ≡ f .sectors b
+  holds-sector b m = sym (sectors-own d (f .bytes) b m) ∙ ap (λ (s : ℕ → List ℕ). s b) (holds .sectors)
+
+-- the file of a slot that is read, live or not
+pub look-entry : (d : List ℕ) (i : ℕ) → i < slots → look d .files i ≡ entryOf (slotBytes d i) (sectorsOf d (slotBytes d i))
+unfolding fileOf
+look-entry d i h = by (isLive (slotBytes d i)) refl
+  where
+    by : (t : Bool) → isLive (slotBytes d i) ≡ t → look d .files i ≡ entryOf (slotBytes d i) (sectorsOf d (slotBytes d i))
+    by true q = look-some d i (slotBytes d i) (directory-live d i h q) ∙ sym (entry-live (slotBytes d i) (sectorsOf d (slotBytes d i)) q)
+    by false q = look-none d i (directory-dead d i h q) ∙ sym (entry-dead (slotBytes d i) (sectorsOf d (slotBytes d i)) q)
+
+-- an image with the same bytes in a slot says the same of it
+directory-stays : (d e : List ℕ) (j : ℕ) → slotBytes e j ≡ slotBytes d j → directory e j ≡ directory d j
+unfolding directory seen
+directory-stays d e j q = ap (λ (s : List ℕ). cond (ltb j slots && isLive s) (some s) none) q
+
+-- ---- bytes put inside one slot
+
+-- what is put inside a part
+part-put-inside : (d : List ℕ) (a n o : ℕ) (y : List ℕ) → a + n ≤ length d → o + length y ≤ n → part a n (put d (a + o) y) ≡ put (part a n d) o y
+part-put-inside d a n o y h k =
+    let l : length (part a n d) ≡ n = part-long a n d h in
+    put-is (part a n d) o y (part a n (put d (a + o) y)) (part-long a n (put d (a + o) y) (rw length-put h) ∙ sym l)
+    (λ i p q.
+    part-at a n (put d (a + o) y) (o + i) (omega arith) ∙ ap (λ (t : ℕ). getD (put d (a + o) y) t 0) (omega arith)
+    ∙ put-in d (a + o) y i p (omega arith))
+    (λ t p. part-at a n (put d (a + o) y) t (omega arith) ∙ put-before d (a + o) y (a + t) (omega arith) ∙ sym (part-at a n d t (omega arith)))
+    (λ t p q. part-at a n (put d (a + o) y) t (omega arith) ∙ put-after d (a + o) y (a + t) (omega arith) ∙ sym (part-at a n d t (omega arith)))
+
+module _ (d : List ℕ) (z : length d ≡ imageSize) (i : ℕ) (h : i < slots) (o : ℕ) (y : List ℕ) (k : o + length y ≤ 256) where
+  abbrev new : List ℕ
+  new = put d (slotAt i + o) y
+
+  -- as a step's bytes in the slot's sector
+  pub inside-slot : Inside (length d) (dirSector i) (record { place = slotAt i + o; bytes = y })
+  inside-slot = record {
+    low = omega (arith, slot-sector i);
+    high = omega (arith, slot-sector i);
+    fits = omega (arith, slot-front i h);
+  }
+
+  pub slot-new : slotBytes (put d (slotAt i + o) y) i ≡ put (slotBytes d i) o y
+  slot-new = part-put-inside d (slotAt i) 256 o y (omega (arith, slot-front i h)) k
+
+  pub slot-else : (j : ℕ) → (j ≡ i → ⊥) → slotBytes (put d (slotAt i + o) y) j ≡ slotBytes d j
+  slot-else j n =
+      ⊎-elim (λ (l : j < i). part-put-before d (slotAt i + o) y (slotAt j) 256 (omega (arith, slots-apart j i l)))
+      (λ (l : i ≤ j). part-put-after d (slotAt i + o) y (slotAt j) 256 (omega (arith, slots-apart i j (omega arith))))
+      (below-or-not j i)
+
+  pub data-stays : (b : ℕ) → b < 1560 → sectorAt (put d (slotAt i + o) y) b ≡ sectorAt d b
+  data-stays b l =
+      put-other (length d) (dirSector i) (record { place = slotAt i + o; bytes = y }) d inside-slot (bitNumber b)
+      (dir-not-data 0 b i (omega arith) (data-all b l) (omega (arith, slots-count)))
+
+  files-stay : (s : List ℕ) → fileOf new s ≡ fileOf d s
+  files-stay s = file-agree new d s (λ b m. data-stays b (map-small s b m))
+
+  -- the look changes in that slot alone: it then holds what its new bytes say
+  pub slot-look : (x : List ℕ) (sec : ℕ → List ℕ) → put (slotBytes d i) o y ≡ x → sectorsOf d x ≡ sec
+      → look (put d (slotAt i + o) y) ≡ upd (look d) i (entryOf x sec)
+  unfolding look upd fileOf
+  slot-look x sec ex es = λ q. record { long = length-put d (slotAt i + o) y q; files = λ j. by j (eqb j i) refl q }
+    where
+      here : look new .files i ≡ entryOf x sec
+      here =
+          look-entry new i h
+          ∙ ap₂ entryOf (slot-new ∙ ex) (ap (λ (f : File). f .sectors) (files-stay (slotBytes new i)) ∙ ap (sectorsOf d) (slot-new ∙ ex) ∙ es)
+
+      by : (j : ℕ) (t : Bool) → eqb j i ≡ t → look new .files j ≡ cond t (entryOf x sec) (look d .files j)
+      by j true q = ap (look new .files) (eqb-true j i q) ∙ here
+      by j false q =
+          ap₂ (λ (f : List ℕ → File) (v : Option (List ℕ)). held none (λ s. some (f s)) v) (fun-ext files-stay)
+          (directory-stays d new j (slot-else j (eqb-false j i q)))
+
+-- ---- a data sector put
+
+module _ (d : List ℕ) (z : length d ≡ imageSize) (c : ℕ) (hc : c < 1560) (x : List ℕ) (hx : length x ≡ 512) where
+  abbrev after : List ℕ
+  after = put d (bitPlace c) x
+
+  -- as a step's bytes
+  pub inside-data : Inside (length d) (bitNumber c) (record { place = bitPlace c; bytes = x })
+  inside-data = record { low = omega arith; high = omega arith; fits = omega (arith, place-inside c hc) }
+
+  pub sector-new : sectorAt (put d (bitPlace c) x) c ≡ x
+  sector-new = ap (λ (n : ℕ). part (bitPlace c) n after) (sym hx) ∙ part-put d (bitPlace c) x (omega (arith, place-inside c hc))
+
+  -- by sector numbers, and by map bits
+  pub number-else : (t : ℕ) → (t ≡ bitNumber c → ⊥) → sector (put d (bitPlace c) x) t ≡ sector d t
+  number-else = put-other (length d) (bitNumber c) (record { place = bitPlace c; bytes = x }) d inside-data
+
+  pub sector-else : (b : ℕ) → b < 1560 → (b ≡ c → ⊥) → sectorAt (put d (bitPlace c) x) b ≡ sectorAt d b
+  sector-else b hb n = number-else (bitNumber b) (λ q. n (number-injective b c hb hc q))
+
+  pub slots-stay : (i : ℕ) → i < slots → slotBytes (put d (bitPlace c) x) i ≡ slotBytes d i
+  slots-stay i h =
+      ⊎-elim (λ l. part-put-before d (bitPlace c) x (slotAt i) 256 l)
+      (λ (l : bitPlace c + 512 ≤ slotAt i). part-put-after d (bitPlace c) x (slotAt i) 256 (omega arith))
+      (slot-data-apart 0 c i (omega arith) (data-all c hc) (omega (arith, slots-count)))
+
+  -- the look stays where the sector is no live file's
+  pub data-quiet : ((j : ℕ) (g : File) → look d .files j ≡ some g → has (mapOf (g .bytes)) c ≡ true → ⊥) → look (put d (bitPlace c) x) ≡ look d
+  unfolding fileOf
+  data-quiet free =
+      look-agree after d (length-put d (bitPlace c) x) (fun-ext same)
+      (λ i s q b m.
+      sector-else b (map-small s b m)
+      (λ w. free i (fileOf d s) (look-some d i s (sym (same i) ∙ q)) (ap (has (mapOf s)) (sym w) ∙ m)))
+    where
+      same : (i : ℕ) → directory after i ≡ directory d i
+      same i = ⊎-elim (λ h. directory-stays d after i (slots-stay i h)) (λ h. directory-past after i h ∙ sym (directory-past d i h)) (below-or-not i slots)

@@ -1,0 +1,225 @@
+-- What a save takes: the lowest free bits, as many as the body needs, and the lowest slot that holds no file.
+use Prim.Native.Nat.{ℕ, zero, suc, _+_, _-_, _*_, _≤_, _<_}
+use mathlib.Core.Path.{_≡_, refl, sym, ap, ap₂, _∙_, subst}
+use mathlib.Core.Bool.{Bool, true, false, cond, not, _||_, true≢false, false≢true, and-eq-true-iff}
+use mathlib.Core.List.{List, [], _∷_}
+use mathlib.Core.Logic.{⊎-elim}
+use mathlib.Core.Option.{Option, none, some, Option·some-ne-none}
+use native.Mathlib.Nat.{eq-or-lt-of-le, le-of-suc-le-suc, not-suc-le-zero, add-zero, zero-add}
+use native.Mathlib.Omega.{arith}
+use borrow.Author.Tests.{ltb-true, eqb-true, eq-eqb, ne-eqb, not-true}
+use lib.Dec.{leb, ltb, eqb}
+use lib.ListN.{length, getD, take}
+use lib.Seq.{length-take-le}
+use Rattle.buffers.specs.Bytes.{count, any}
+use Rattle.buffers.proofs.Counts.{count-add, count-cong, any-none}
+use Rattle.maps.specs.Bits.{has, bitsOf}
+use Rattle.refusals.proofs.First.{sweep-none, sweep-first}
+use Rattle.slots.specs.Slot.{mapOf}
+use Rattle.slots.specs.Rows.{dataCount}
+use Rattle.chains.specs.File.{File}
+use Rattle.directory.specs.Places.{slots, dataBit}
+use Rattle.directory.specs.Directory.{held}
+use Rattle.directory.specs.Survey.{union, counted, usedMap, freeOf, free}
+use Rattle.directory.proofs.Places.{data-all}
+use Rattle.directory.proofs.Union.{has-union}
+use Rattle.disk.specs.Look.{Look, slotsOf, extra}
+use Rattle.steps.specs.Sectors.{listed}
+use Rattle.steps.proofs.Sectors.{listed-tail}
+use Rattle.plans.specs.Change.{Wish}
+use Rattle.plans.specs.Saving.{sectorsFor, passing, freeBit, taken, lowestSlot}
+
+-- ---- runs
+
+-- a map bit, not below l, that passes a test
+pub record From (p : ℕ → Bool) (l b : ℕ) : Type 0 where
+  pub low : l ≤ b
+  pub small : b < 1560
+  pub passes : p b ≡ true
+
+-- map bits that rise from l on, each passing a test
+abbrev pub Run : (ℕ → Bool) → ℕ → List ℕ → Type 0
+Run p l [] = Unit {0}
+Run p l (b ∷ bs) = From p l b × Run p (suc b) bs
+
+-- of n numbers, those that do not pass and those that do
+count-not : (n : ℕ) (p : ℕ → Bool) → count n (λ k. not (p k)) + count n p ≡ n
+unfolding count
+count-not zero p = refl
+count-not (suc n) p = omega (arith, count-not n p, either (p n))
+  where
+    either : (t : Bool) → cond {A = ℕ} (not t) 1 0 + cond t 1 0 ≡ 1
+    either true = refl
+    either false = refl
+
+module _ (p : ℕ → Bool) where
+  from-lower : (k l b : ℕ) → k ≤ l → From p l b → From p k b
+  from-lower k l b h f = record { low = omega arith; small = f .small; passes = f .passes }
+
+  run-lower : (k l : ℕ) (bs : List ℕ) → k ≤ l → Run p l bs → Run p k bs
+  run-lower k l [] h r = tt
+  run-lower k l (b ∷ bs) h r = (from-lower k l b h (r .0), r .1)
+
+  pub run-take : (l n : ℕ) (bs : List ℕ) → Run p l bs → Run p l (take n bs)
+  run-take l zero bs r = tt
+  run-take l (suc n) [] r = tt
+  run-take l (suc n) (b ∷ bs) r = (r .0, run-take (suc b) n bs (r .1))
+
+  pub run-listed : (l : ℕ) (bs : List ℕ) → Run p l bs → (c : ℕ) → listed c bs ≡ true → From p l c
+  run-listed l [] r c e = absurd (false≢true e)
+  run-listed l (b ∷ bs) r c e = by (eqb c b) refl e (run-listed (suc b) bs (r .1) c)
+    where
+      by : (t : Bool) → eqb c b ≡ t → (t || listed c bs) ≡ true → (listed c bs ≡ true → From p (suc b) c) → From p l c
+      by true q w k = subst (From p l) (sym (eqb-true c b q)) (r .0)
+      by false q w k = let f : l ≤ b = r .0 .low in from-lower l (suc b) c (omega arith) (k w)
+
+  -- what is lower than the first is not among them
+  pub run-fresh : (b c : ℕ) (bs : List ℕ) → c ≤ b → Run p (suc b) bs → listed c bs ≡ false
+  run-fresh b c bs h r = by (listed c bs) refl
+    where
+      by : (t : Bool) → listed c bs ≡ t → t ≡ false
+      by true e = absurd (omega (arith, run-listed (suc b) bs r c e .low))
+      by false e = refl
+
+  -- by place
+  pub run-at : (l : ℕ) (bs : List ℕ) → Run p l bs → (k : ℕ) → k < length bs → From p l (getD bs k 0)
+  run-at l [] r k h = absurd (not-suc-le-zero h)
+  run-at l (b ∷ bs) r zero h = r .0
+  run-at l (b ∷ bs) r (suc k) h =
+      let f : l ≤ b = r .0 .low in
+      from-lower l (suc b) (getD bs k 0) (omega arith) (run-at (suc b) bs (r .1) k (le-of-suc-le-suc h))
+
+  pub run-rises : (l : ℕ) (bs : List ℕ) → Run p l bs → (j k : ℕ) → j < k → k < length bs → getD bs j 0 < getD bs k 0
+  run-rises l bs r j zero h m = absurd (not-suc-le-zero h)
+  run-rises l [] r j (suc k) h m = absurd (not-suc-le-zero m)
+  run-rises l (b ∷ bs) r zero (suc k) h m = run-at (suc b) bs (r .1) k (le-of-suc-le-suc m) .low
+  run-rises l (b ∷ bs) r (suc j) (suc k) h m = run-rises (suc b) bs (r .1) j k (le-of-suc-le-suc h) (le-of-suc-le-suc m)
+
+  -- ---- the numbers that pass
+
+  pub passing-run : (n i : ℕ) → i + n ≤ 1560 → Run p i (passing n i p)
+  unfolding passing
+  passing-run zero i h = tt
+  passing-run (suc n) i h = by (p i) refl (passing-run n (suc i) (omega arith))
+    where
+      by : (t : Bool) → p i ≡ t → Run p (suc i) (passing n (suc i) p) → Run p i (cond t (i ∷ passing n (suc i) p) (passing n (suc i) p))
+      by true e r = (record { low = omega arith; small = omega arith; passes = e }, r)
+      by false e r = run-lower i (suc i) (passing n (suc i) p) (omega arith) r
+
+  pub passing-long : (n i : ℕ) → length (passing n i p) ≡ count n (λ j. p (i + j))
+  unfolding passing count
+  passing-long zero i = refl
+  passing-long (suc n) i =
+      let e : suc n ≡ 1 + n = omega arith in
+      first (p i) ∙ sym (ap (λ (k : ℕ). count k (λ j. p (i + j))) e ∙ count-add 1 n (λ j. p (i + j)) ∙ rest (passing-long n (suc i)))
+    where
+      first : (t : Bool) → length (cond t (i ∷ passing n (suc i) p) (passing n (suc i) p)) ≡ cond t 1 0 + length (passing n (suc i) p)
+      first true = omega arith
+      first false = omega arith
+
+      rest : length (passing n (suc i) p) ≡ count n (λ j. p (suc i + j))
+          → 0 + cond (p (i + 0)) 1 0 + count n (λ j. p (i + (1 + j))) ≡ cond (p i) 1 0 + length (passing n (suc i) p)
+      rest e =
+          ap₂ (λ (x y : ℕ). x + y) (zero-add (cond (p (i + 0)) 1 0) ∙ rw add-zero)
+          (count-cong n (λ j. p (i + (1 + j))) (λ j. p (suc i + j)) (λ j l. ap p (omega arith)) ∙ sym e)
+
+  -- the first k of them are the lowest
+  pub passing-lowest : (n i k b c : ℕ) → listed b (take k (passing n i p)) ≡ true → i ≤ c → c < b → p c ≡ true
+      → listed c (take k (passing n i p)) ≡ true
+  unfolding passing
+  passing-lowest zero i zero b c e h m q = absurd (false≢true e)
+  passing-lowest zero i (suc k) b c e h m q = absurd (false≢true e)
+  passing-lowest (suc n) i k b c e h m q = by (p i) refl k e (λ k. passing-lowest n (suc i) k b c)
+    where
+      by : (t : Bool) → p i ≡ t → (k : ℕ) → listed b (take k (cond t (i ∷ passing n (suc i) p) (passing n (suc i) p))) ≡ true
+          → ((k : ℕ) → listed b (take k (passing n (suc i) p)) ≡ true → suc i ≤ c → c < b → p c ≡ true → listed c (take k (passing n (suc i) p)) ≡ true)
+          → listed c (take k (cond t (i ∷ passing n (suc i) p) (passing n (suc i) p))) ≡ true
+      by true f zero w g = absurd (false≢true w)
+      by true f (suc k) w g =
+          ⊎-elim (λ z. rw (eq-eqb c i (sym z)))
+          (λ (z : suc i ≤ c). listed-tail c i (take k (passing n (suc i) p)) (g k (rw (ne-eqb b i (omega arith)) at w) z m q))
+          (eq-or-lt-of-le h)
+      by false f k w g = ⊎-elim (λ z. absurd (true≢false (sym q ∙ sym (ap p z) ∙ f))) (λ z. g k w z m q) (eq-or-lt-of-le h)
+
+-- ---- the free bits
+
+module _ (l : Look) where
+  pub free-long : length (passing 1560 0 (freeBit l)) ≡ free (extra l) (slotsOf l)
+  unfolding extra free freeOf usedMap counted dataCount bitsOf
+  free-long = passing-long (freeBit l) 1560 0 ∙ omega (arith, count-not 1560 (has (union (slotsOf l) slots)), same)
+    where
+      same : count 1560 (λ j. freeBit l (0 + j)) ≡ count 1560 (λ b. not (has (union (slotsOf l) slots) b))
+      same = count-cong 1560 (λ j. freeBit l (0 + j)) (λ b. not (has (union (slotsOf l) slots) b)) (λ b h. rw (zero-add, data-all b h))
+
+  -- a free bit is in no live file's map
+  pub free-is : (b : ℕ) → freeBit l b ≡ true → (i : ℕ) (f : File) → i < slots → l .files i ≡ some f → has (mapOf (f .bytes)) b ≡ true → ⊥
+  unfolding dataBit slotsOf
+  free-is b e i f h q m =
+      let t = and-eq-true-iff (dataBit (extra l) b) (not (has (union (slotsOf l) slots) b)) .0 e in
+      let s : b < 1560 = ltb-true b 1560 (and-eq-true-iff (leb (10 * extra l) b) (ltb b 1560) .0 (t .0) .1) in
+      let n : any slots (λ j. held false (λ x. has (mapOf x) b) (slotsOf l j)) ≡ false =
+      sym (has-union (slotsOf l) slots b s) ∙ not-true (has (union (slotsOf l) slots) b) (t .1) in
+      true≢false (sym (rw (q, m)) ∙ any-none slots (λ j. held false (λ x. has (mapOf x) b) (slotsOf l j)) n i h)
+
+-- ---- how many
+
+pub sectors-least : (n : ℕ) → (9 + n ≤ 510 * sectorsFor n) × (510 * (sectorsFor n - 1) < 9 + n)
+unfolding sectorsFor
+sectors-least n = (omega arith, omega arith)
+
+pub sectors-some : (n : ℕ) → 1 ≤ sectorsFor n
+unfolding sectorsFor
+sectors-some n = omega arith
+
+-- ---- what is taken
+
+module _ (l : Look) (w : Wish) where
+  pub taken-run : Run (freeBit l) 0 (taken l w)
+  unfolding taken
+  taken-run = run-take (freeBit l) 0 (sectorsFor (length (w .body))) (passing 1560 0 (freeBit l)) (passing-run (freeBit l) 1560 0 (omega arith))
+
+  pub taken-long : sectorsFor (length (w .body)) ≤ free (extra l) (slotsOf l) → length (taken l w) ≡ sectorsFor (length (w .body))
+  unfolding taken
+  taken-long h = length-take-le (sectorsFor (length (w .body))) (passing 1560 0 (freeBit l)) (omega (arith, free-long l))
+
+  -- "the n lowest free map bits": each free one below one that is taken is taken
+  pub taken-lowest : (b c : ℕ) → listed b (taken l w) ≡ true → c < b → freeBit l c ≡ true → listed c (taken l w) ≡ true
+  unfolding taken
+  taken-lowest b c e h q = passing-lowest (freeBit l) 1560 0 (sectorsFor (length (w .body))) b c e (omega arith) h q
+
+-- ---- the slot
+
+pub record LowestFree (l : Look) (i : ℕ) : Type 0 where
+  pub below : i < slots
+  pub empty : l .files i ≡ none
+  pub before : (k : ℕ) → k < i → (f : File) × (l .files k ≡ some f)
+
+module _ (l : Look) where
+  abbrev emptyAt : ℕ → Option ℕ
+  emptyAt i = held (some i) (λ f. none) (l .files i)
+
+  full : (k : ℕ) → emptyAt k ≡ none → (f : File) × (l .files k ≡ some f)
+  full k e = by (l .files k) refl e
+    where
+      by : (o : Option File) → l .files k ≡ o → held (some k) (λ f. none) o ≡ none → (f : File) × (l .files k ≡ some f)
+      by none q w = absurd (Option·some-ne-none k w)
+      by (some f) q w = (f, q)
+
+  empty-is : (k i : ℕ) → emptyAt k ≡ some i → (k ≡ i) × (l .files k ≡ none)
+  empty-is k i e = by (l .files k) refl e
+    where
+      by : (o : Option File) → l .files k ≡ o → held (some k) (λ f. none) o ≡ some i → (k ≡ i) × (l .files k ≡ none)
+      by none q w = (cc, q)
+      by (some f) q w = absurd (Option·some-ne-none i (sym w))
+
+  pub lowest-slot : (i : ℕ) → lowestSlot l ≡ some i → LowestFree l i
+  unfolding lowestSlot
+  lowest-slot i e =
+      let f = sweep-first slots emptyAt i e in
+      let t = empty-is (f .at) i (f .here) in
+      rw (← t .0) (record { below = f .below; empty = t .1; before = λ k h. full k (f .before k h) })
+
+  -- where none is free every slot holds a file
+  pub no-slot : lowestSlot l ≡ none → (k : ℕ) → k < slots → (f : File) × (l .files k ≡ some f)
+  unfolding lowestSlot
+  no-slot e k h = full k (sweep-none slots emptyAt e k h)

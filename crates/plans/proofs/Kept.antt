@@ -1,0 +1,228 @@
+-- A disk stays sound where one slot is changed to a good file apart from all others; erase, the marks and rename change one so.
+use Prim.Native.Nat.{ℕ, _+_, _-_, _*_, _%_, _≤_, _<_}
+use mathlib.Core.Path.{_≡_, refl, sym, ap, _∙_}
+use mathlib.Core.Bool.{Bool, true, false, cond, not, _&&_, and-eq-true-iff, true≢false}
+use mathlib.Core.List.{List, [], _∷_}
+use mathlib.Core.Logic.{_⊎_, inl, inr, ⊎-elim}
+use mathlib.Core.Option.{Option, none, some}
+use native.Mathlib.Omega.{arith}
+use borrow.Author.Tests.{leb-true, eqb-true, eqb-false, ne-eqb, not-true}
+use lib.Dec.{eqb, leb}
+use lib.ListN.{length, getD, replicate, List·getD-append}
+use Rattle.buffers.specs.Bytes.{put}
+use Rattle.buffers.proofs.Lists.{below-or-not, part-put, part-put-after, put-in, put-before, put-after}
+use Rattle.geometry.specs.Disk.{imageSize, bitOf}
+use Rattle.maps.specs.Bits.{has}
+use Rattle.slots.specs.Slot.{isLive, kindOf, nameOf, countOf, mapOf, facts}
+use Rattle.slots.specs.Name.{askable, padded}
+use Rattle.slots.proofs.Names.{length-padded}
+use Rattle.chains.specs.File.{File, sectorAt, sectorsOf}
+use Rattle.directory.specs.Places.{slots, slotBytes}
+use Rattle.directory.specs.Find.{find}
+use Rattle.directory.proofs.Search.{find-none}
+use Rattle.disk.specs.Look.{Look, look, slotsOf, extra}
+use Rattle.disk.specs.Sound.{GoodFile, Sound}
+use Rattle.disk.proofs.Look.{look-long}
+use Rattle.steps.specs.Steps.{Step, putAll, Does}
+use Rattle.plans.specs.Change.{Mark, hide, show, protect, release, marked, allBetween, usable}
+use Rattle.plans.specs.Plan.{upd, entryOf, slotStep}
+use Rattle.plans.proofs.Frame.{slots-some, upd-same, upd-other, upd-long, extra-upd, entry-alive, entry-is, Holds, holds, holds-long, inside-slot, slot-look}
+
+-- ---- files apart
+
+-- two files share no sector and differ in name
+pub record Apart (g f : File) : Type 0 where
+  pub sectors : (b : ℕ) → b < 1560 → has (mapOf (g .bytes)) b ≡ true → has (mapOf (f .bytes)) b ≡ true → ⊥
+  pub names : nameOf (g .bytes) ≡ nameOf (f .bytes) → ⊥
+
+pub apart-sym : (g f : File) → Apart g f → Apart f g
+apart-sym g f a = record { sectors = λ b h p q. a .sectors b h q p; names = λ e. a .names (sym e) }
+
+pub sound-apart : (l : Look) → Sound l → (i j : ℕ) (f g : File) → i < slots → j < slots → (j ≡ i → ⊥) → l .files i ≡ some f → l .files j ≡ some g → Apart g f
+sound-apart l w i j f g h k n p q =
+    ⊎-elim (λ (m : j < i). record { sectors = w .sectors i j f g m h p q; names = w .names i j f g m h p q })
+    (λ (m : i ≤ j).
+    let t : i < j = omega arith in
+    apart-sym f g (record { sectors = w .sectors j i g f t k q p; names = w .names j i g f t k q p }))
+    (below-or-not j i)
+
+-- ---- one slot changed
+
+same-or-not : (i j : ℕ) → (i ≡ j) ⊎ (i ≡ j → ⊥)
+same-or-not i j = by (eqb i j) refl
+  where
+    by : (t : Bool) → eqb i j ≡ t → (i ≡ j) ⊎ (i ≡ j → ⊥)
+    by true e = inl (eqb-true i j e)
+    by false e = inr (eqb-false i j e)
+
+pub sound-upd : (l : Look) → Sound l → (i : ℕ) → i < slots → (o : Option File)
+    → ((f : File) → o ≡ some f → GoodFile (extra l) f)
+    → ((f : File) (j : ℕ) (g : File) → o ≡ some f → j < slots → (j ≡ i → ⊥) → l .files j ≡ some g → Apart g f)
+    → Sound (upd l i o)
+sound-upd l w i h o good apart = record {
+  long = upd-long l i o ∙ w .long;
+  good = λ j f k e. rw (extra-upd l i o) (⊎-elim (λ s. good f (here j f s e)) (λ n. w .good j f k (there j f n e)) (same-or-not j i));
+  sectors = λ j k f g m t p q. both j k f g m t p q .sectors;
+  names = λ j k f g m t p q. both j k f g m t p q .names;
+}
+  where
+    here : (j : ℕ) (f : File) → j ≡ i → upd l i o .files j ≡ some f → o ≡ some f
+    here j f s e = sym (upd-same l i o) ∙ ap (upd l i o .files) (sym s) ∙ e
+
+    there : (j : ℕ) (f : File) → (j ≡ i → ⊥) → upd l i o .files j ≡ some f → l .files j ≡ some f
+    there j f n e = sym (upd-other l i o j n) ∙ e
+
+    both : (j k : ℕ) (f g : File) → k < j → j < slots → upd l i o .files j ≡ some f → upd l i o .files k ≡ some g → Apart g f
+    both j k f g m t p q =
+        ⊎-elim (λ (s : j ≡ i). apart f k g (here j f s p) (omega arith) (omega arith) (there k g (omega arith) q))
+        (λ n.
+        ⊎-elim (λ (s : k ≡ i). apart-sym f g (apart g j f (here k g s q) t n (there j f n p)))
+        (λ v. sound-apart l w j k f g t (omega arith) (omega arith) (there j f n p) (there k g v q)) (same-or-not k i))
+        (same-or-not j i)
+
+pub sound-long : (d : List ℕ) → Sound (look d) → length d ≡ imageSize
+sound-long d w = sym (look-long d) ∙ w .long
+
+-- bytes put inside a slot do what their step says, where the file that the slot then holds, if any, is good and apart from the others
+pub slot-does : (d : List ℕ) → Sound (look d) → (i : ℕ) → i < slots → (o : ℕ) (y : List ℕ) → o + length y ≤ 256 → (x : List ℕ) (sec : ℕ → List ℕ)
+    → put (slotBytes d i) o y ≡ x → sectorsOf d x ≡ sec
+    → (isLive x ≡ true → GoodFile (extra (look d)) (record { bytes = x; sectors = sec }))
+    → (isLive x ≡ true → (j : ℕ) (g : File) → j < slots → (j ≡ i → ⊥) → look d .files j ≡ some g → Apart g (record { bytes = x; sectors = sec }))
+    → Does look Sound d (slotStep (look d) i o y (entryOf x sec))
+unfolding putAll
+slot-does d w i h o y k x sec ex es good apart = record {
+  inside = (inside-slot d (sound-long d w) i h o y k, tt);
+  sees = slot-look d (sound-long d w) i h o y k x sec ex es;
+  ok = sound-upd (look d) w i h (entryOf x sec) (λ f q. rw (entry-is x sec f q) (good (entry-alive x sec f q)))
+      (λ f j g q m n p. rw (entry-is x sec f q) (apart (entry-alive x sec f q) j g m n p));
+}
+
+-- ---- a name that can be given
+
+pub usable-is : (n : List ℕ) → usable n ≡ true → (getD (padded n) 0 0 ≡ 0 → ⊥) × (length (padded n) ≡ 10)
+unfolding usable askable padded
+usable-is n e =
+    let a = and-eq-true-iff (askable n) (allBetween 32 n 126 && not (eqb (getD n 0 0) 32)) .0 e .0 in
+    let b = and-eq-true-iff (leb 1 (length n) && leb (length n) 10) (not (eqb (getD n 0 0) 0)) .0 a in
+    let c = and-eq-true-iff (leb 1 (length n)) (leb (length n) 10) .0 (b .0) in (
+      λ q. eqb-false (getD n 0 0) 0 (not-true (eqb (getD n 0 0) 0) (b .1))
+          (sym (List·getD-append n (replicate (10 - length n) 32) 0 0 (leb-true 1 (length n) (c .0))) ∙ q),
+      length-padded n (leb-true (length n) 10 (c .1)),
+    )
+
+-- ---- a live slot whose map stays
+
+-- the one step of `touch`
+abbrev pub touchStep : Look → ℕ → File → ℕ → List ℕ → Step Look
+touchStep l i f o y = slotStep l i o y (entryOf (put (f .bytes) o y) (f .sectors))
+
+module _ (d : List ℕ) (w : Sound (look d)) (i : ℕ) (f : File) (e : look d .files i ≡ some f) where
+  own : Holds d i f
+  own = holds d i f e
+
+  long : length (f .bytes) ≡ 256
+  long = holds-long d i f e (sound-long d w)
+
+  was : GoodFile (extra (look d)) f
+  was = w .good i f (own .here) e
+
+  -- bytes put before byte 11: name and marks
+  module _ (o : ℕ) (y : List ℕ) (k : o + length y ≤ 11) where
+    abbrev now : List ℕ
+    now = put (f .bytes) o y
+
+    rest : (j : ℕ) → 11 ≤ j → getD now j 0 ≡ getD (f .bytes) j 0
+    rest j a = put-after (f .bytes) o y j (omega arith)
+
+    map-kept : mapOf now ≡ mapOf (f .bytes)
+    map-kept = part-put-after (f .bytes) o y 15 195 (omega arith)
+
+    sectors-kept : sectorsOf d now ≡ f .sectors
+    unfolding sectorsOf
+    sectors-kept = ap {B = ℕ → List ℕ} (λ (m : List ℕ) (b : ℕ). cond (has m b) (sectorAt d b) []) map-kept ∙ own .sectors
+
+    touch-does : (isLive now ≡ true → GoodFile (extra (look d)) (record { bytes = now; sectors = f .sectors }))
+        → (isLive now ≡ true → (j : ℕ) (g : File) → j < slots → (j ≡ i → ⊥) → look d .files j ≡ some g → Apart g (record { bytes = now; sectors = f .sectors }))
+        → Does look Sound d (touchStep (look d) i f o y)
+    touch-does = slot-does d w i (own .here) o y (omega arith) now (f .sectors) (ap (λ (s : List ℕ). put s o y) (own .bytes)) sectors-kept
+
+    -- with the kind kept and a name
+    module _ (p : kindOf now ≡ kindOf (f .bytes)) (q : getD now 1 0 ≡ 0 → ⊥) where
+      facts-kept : facts now ≡ facts (f .bytes)
+      unfolding facts
+      facts-kept = λ t. record {
+        kind = p t;
+        unnamed = (ne-eqb (getD now 1 0) 0 q ∙ sym (ne-eqb (getD (f .bytes) 1 0) 0 (was .named))) t;
+        count = rest 11 (omega arith) t * 256 + rest 12 (omega arith) t;
+        first = bitOf (rest 13 (omega arith) t) (rest 14 (omega arith) t);
+        map = map-kept t;
+        pages = rest 239 (omega arith) t;
+        remainder = (rest 240 (omega arith) t + 256 * rest 241 (omega arith) t) % 16384;
+      }
+
+      good-kept : GoodFile (extra (look d)) (record { bytes = now; sectors = f .sectors })
+      good-kept =
+          let c : countOf now ≡ countOf (f .bytes) = rw (rest 11 (omega arith), rest 12 (omega arith)) in
+          record {
+            kind = rw p (was .kind);
+            named = q;
+            some-sectors = rw c (was .some-sectors);
+            few-sectors = rw c (was .few-sectors);
+            bits = rw (map-kept, c) (was .bits);
+            first-data = rw (rest 13 (omega arith), rest 14 (omega arith)) (was .first-data);
+            first-own = rw (map-kept, rest 13 (omega arith), rest 14 (omega arith)) (was .first-own);
+            fits = rw (p, facts-kept, c) (was .fits);
+            chain = rw facts-kept (was .chain);
+            header = λ v.
+                let a = was .header (rw p at v) in
+                rw facts-kept
+                (record {
+                  kind = a .kind ∙ sym p;
+                  remainder = rw (rest 240 (omega arith), rest 241 (omega arith)) (a .remainder);
+                  pages = a .pages ∙ sym (rest 239 (omega arith));
+                });
+          }
+
+      -- and a name that no other file has
+      kept-does : ((j : ℕ) (g : File) → j < slots → (j ≡ i → ⊥) → look d .files j ≡ some g → nameOf (g .bytes) ≡ nameOf now → ⊥)
+          → Does look Sound d (touchStep (look d) i f o y)
+      kept-does fresh =
+          touch-does (λ a. good-kept)
+          (λ a j g m n v. record {
+            sectors = rw map-kept (sound-apart (look d) w i j f g (own .here) m n e v .sectors);
+            names = fresh j g m n v;
+          })
+
+  -- ---- erase, the marks, rename
+
+  first-byte : (b : ℕ) → getD (put (f .bytes) 0 (b ∷ [])) 0 0 ≡ b
+  first-byte b = let z = long in put-in (f .bytes) 0 (b ∷ []) 0 (omega arith) (omega arith)
+
+  pub erase-does : Does look Sound d (touchStep (look d) i f 0 (0 ∷ []))
+  erase-does =
+      let dead : isLive (put (f .bytes) 0 (0 ∷ [])) ≡ false = rw (first-byte 0) in
+      touch-does 0 (0 ∷ []) (omega arith) (λ a. absurd (true≢false (sym a ∙ dead))) (λ a. absurd (true≢false (sym a ∙ dead)))
+
+  pub mark-does : (m : Mark) → Does look Sound d (touchStep (look d) i f 0 (marked m (getD (f .bytes) 0 0) ∷ []))
+  mark-does m =
+      kept-does 0 (b ∷ []) (omega arith) (ap (λ (a : ℕ). a % 64) (first-byte b) ∙ kind m (getD (f .bytes) 0 0))
+      (λ v. was .named (sym (put-after (f .bytes) 0 (b ∷ []) 1 (omega arith)) ∙ v))
+      (λ j g l n v t. sound-apart (look d) w i j f g (own .here) l n e v .names (t ∙ part-put-after (f .bytes) 0 (b ∷ []) 1 10 (omega arith)))
+    where
+      b : ℕ
+      b = marked m (getD (f .bytes) 0 0)
+
+      kind : (m : Mark) (x : ℕ) → marked m x % 64 ≡ x % 64
+      kind hide x = omega arith
+      kind show x = omega arith
+      kind protect x = omega arith
+      kind release x = omega arith
+
+  pub rename-does : (new : List ℕ) → usable new ≡ true → find (slotsOf (look d)) new ≡ none → Does look Sound d (touchStep (look d) i f 1 (padded new))
+  rename-does new u free =
+      let a = usable-is new u in
+      let z = long in
+      let named : nameOf (put (f .bytes) 1 (padded new)) ≡ padded new = rw (a .1) at (part-put (f .bytes) 1 (padded new) (omega arith)) in
+      kept-does 1 (padded new) (omega arith) (ap (λ (b : ℕ). b % 64) (put-before (f .bytes) 1 (padded new) 0 (omega arith)))
+      (λ v. a .0 (sym (put-in (f .bytes) 1 (padded new) 0 (omega arith) (omega arith)) ∙ v))
+      (λ j g l n v t. find-none (slotsOf (look d)) new free j l (g .bytes) (slots-some (look d) j g v) (t ∙ named))

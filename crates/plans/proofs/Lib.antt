@@ -1,0 +1,11 @@
+pub mod Frame
+pub mod Kept
+pub mod Free
+pub mod NewFile
+pub mod Saved
+pub mod Crash
+pub mod Sure
+pub mod Effect
+pub mod Demand3
+pub mod ReadBack
+pub mod Counted

@@ -1,0 +1,179 @@
+-- Reading back: after an accepted save the name reads the body, byte for byte, and gives the start address asked for.
+use Prim.Native.Nat.{ℕ, suc, _+_, _-_, _≤_, _<_}
+use mathlib.Core.Path.{_≡_, refl, sym, ap, ap₂, _∙_, subst}
+use mathlib.Core.Bool.{Bool, true, false, not, _&&_}
+use mathlib.Core.List.{List, [], _∷_, _++_, map}
+use mathlib.Core.Option.{Option, none, some}
+use native.Mathlib.Omega.{arith}
+use borrow.Author.Tests.{le-ltb, leb-true}
+use lib.Dec.{leb, ltb}
+use lib.ListN.{length}
+use Rattle.buffers.specs.Bytes.{put}
+use Rattle.geometry.specs.Disk.{bitNumber}
+use Rattle.refusals.specs.Order.{Reply, _else_, row}
+use Rattle.refusals.specs.Answers.{Out, out, done, unless}
+use Rattle.slots.specs.Slot.{kindOf, nameOf, carried, facts, lengthOf, pageOf, offsetOf}
+use Rattle.slots.specs.Name.{askable, padded}
+use Rattle.chains.specs.File.{File}
+use Rattle.chains.specs.Chain.{body}
+use Rattle.directory.specs.Places.{slots, dirSector}
+use Rattle.directory.specs.Directory.{held, Directory}
+use Rattle.directory.specs.Find.{find}
+use Rattle.directory.proofs.Search.{FoundBy, some-find, find-none}
+use Rattle.disk.specs.Look.{Look, look, slotsOf}
+use Rattle.disk.specs.Check.{checkLook, checkDisk}
+use Rattle.disk.specs.Sound.{Sound}
+use Rattle.disk.proofs.Rows.{and-both, is-carried}
+use Rattle.disk.proofs.Sound.{sound}
+use Rattle.files.specs.Calls.{noFile, fileAt, fileNamed, named, notCarried, outOfRange, readReply, readLook, reading, startReply, startLook, starting, startOf, address}
+use Rattle.steps.specs.Steps.{Step, enact, numbers, commits, lastOf}
+use Rattle.steps.proofs.Steps.{numbers-append}
+use Rattle.plans.specs.Change.{Wish, save, usable, between}
+use Rattle.plans.specs.Saving.{freeBit, taken, lowestSlot, stream, chained, newSlot}
+use Rattle.plans.specs.Plan.{upd, dataSteps, saveSteps, slotStep, entryOf, go, made, run}
+use Rattle.plans.specs.Safe.{Safe}
+use Rattle.plans.proofs.Frame.{upd-same, slots-same, slots-other}
+use Rattle.plans.proofs.Kept.{usable-is}
+use Rattle.plans.proofs.Free.{LowestFree, lowest-slot}
+use Rattle.plans.proofs.NewFile.{newFile, Ready, taken-ready, name-is, kind-is, length-is, page-is, offset-is}
+use Rattle.plans.proofs.Saved.{data-numbers, save-look, reads-back}
+use Rattle.plans.proofs.Crash.{Made, run-made}
+use Rattle.plans.proofs.Sure.{saves}
+use Rattle.plans.proofs.Demand3.{crash}
+
+-- ---- a call by name, where the slot is known
+
+module _ (l : Look) (ok : checkLook l ≡ none) (n : List ℕ) (u : askable n ≡ true) (i : ℕ) (f : File) (h : find (slotsOf l) n ≡ some i) (e : l .files i ≡ some f) where
+  file-here : fileAt l i ≡ f
+  file-here = ap (held noFile (λ f. f)) e
+
+  named-here : (rest : ℕ → File → Reply) → named l n rest ≡ rest (suc i) f
+  named-here rest = rw (ok, u, h) (ap (rest (suc i)) file-here)
+
+  file-named : fileNamed l n ≡ f
+  unfolding fileNamed
+  file-named = rw h file-here
+
+  pub read-here : carried (kindOf (f .bytes)) ≡ true → (buf : List ℕ) → lengthOf (facts (f .bytes)) ≤ length buf
+      → readLook l n buf ≡ out (done (lengthOf (facts (f .bytes))) 0) (put buf 0 (body f))
+  unfolding readLook readReply
+  read-here c buf k =
+      let q : readReply l n (length buf) ≡ none =
+      named-here (λ slot f. notCarried slot f else row 20 0 (ltb (length buf) (lengthOf (facts (f .bytes)))))
+      ∙ rw (c, le-ltb (length buf) (lengthOf (facts (f .bytes))) k) in
+      rw (q, file-named)
+
+  pub start-here : carried (kindOf (f .bytes)) ≡ true → (leb 32768 (offsetOf (f .bytes)) && leb (offsetOf (f .bytes)) 49151) ≡ true → startLook l n ≡ done (startOf (f .bytes)) 0
+  unfolding startLook startReply
+  start-here c r =
+      let q : startReply l n ≡ none = named-here (λ slot f. notCarried slot f else outOfRange slot f) ∙ rw (c, r) in
+      rw (q, file-named)
+
+-- ---- what an accepted save has done
+
+pub record Stored (d : List ℕ) (w : Wish) (new ss : List ℕ) : Type 0 where
+  pub slot : ℕ
+  pub bits : List ℕ
+  pub lowest : LowestFree (look d) slot
+  pub ready : Ready (freeBit (look d)) w bits
+  pub range : (leb (w .page) 31 && between 32768 (w .offset) 49151) ≡ true
+  pub fresh : find (slotsOf (look d)) (w .name) ≡ none
+  pub takes : bits ≡ taken (look d) w
+  pub seen : look new ≡ upd (look d) slot (some (newFile (look d) slot w bits))
+  -- "for a save the n data sectors in chain order and then the directory sector"
+  pub sectors : ss ≡ map bitNumber bits ++ (dirSector slot ∷ [])
+
+pub stored : (d : List ℕ) → checkDisk d ≡ none → (room : ℕ) (w : Wish) (new ss : List ℕ) → run (save w) d room ≡ made new ss → Stored d w new ss
+unfolding checkDisk numbers
+stored d ok room w new ss e =
+    let m = run-made (save w) d room new ss ok e in
+    let k = saves d (sound (look d) ok) (m .steps) w (m .planned) in
+    let i : ℕ = k .slot in
+    let bs : List ℕ = taken (look d) w in
+    let r = taken-ready (look d) w (k .usable-name) (k .carried-kind) (k .room) in
+    let at = lowest-slot (look d) i (k .lowest) in
+    let q = k .steps in
+    let s : saveSteps (look d) i w bs ≡ m .steps = cc in
+    record {
+      slot = i;
+      bits = bs;
+      lowest = at;
+      ready = r;
+      range = k .range;
+      fresh = k .fresh;
+      takes = refl;
+      seen = ap look (sym (m .disk) ∙ ap (enact d) (sym s)) ∙ save-look d (sound (look d) ok) i (at .below) w bs r (k .fresh);
+      sectors = sym (m .named) ∙ ap numbers (sym s)
+          ∙ numbers-append (dataSteps (stream w) 0 bs) (slotStep (look d) i 0 (newSlot (look d) i w bs) (entryOf (newSlot (look d) i w bs) (chained (stream w) 0 bs)) ∷ [])
+          ∙ ap (λ (x : List ℕ). x ++ (dirSector i ∷ [])) (data-numbers (stream w) 0 bs);
+    }
+
+-- ---- the saved file
+
+module _ (d : List ℕ) (ok : checkDisk d ≡ none) (room : ℕ) (w : Wish) (new ss : List ℕ) (e : run (save w) d room ≡ made new ss) where
+  k : Stored d w new ss
+  k = stored d ok room w new ss e
+
+  abbrev l : Look
+  l = upd (look d) (k .slot) (some (newFile (look d) (k .slot) w (k .bits)))
+
+  abbrev saved : File
+  saved = newFile (look d) (k .slot) w (k .bits)
+
+  -- the new disk is accepted
+  pub saved-accepted : checkDisk new ≡ none
+  saved-accepted =
+      let s = crash (save w) d room new ss ok e in
+      ap checkDisk (sym (s .whole)) ∙ s .accepts (length ss) (omega arith)
+
+  accepted : checkLook l ≡ none
+  unfolding checkDisk
+  accepted = ap checkLook (sym (k .seen)) ∙ saved-accepted
+
+  kind-range : (16 ≤ w .kind) × (w .kind ≤ 20)
+  kind-range = k .ready .kind
+
+  kind-kept : kindOf (newSlot (look d) (k .slot) w (k .bits)) ≡ w .kind
+  kind-kept = kind-is (look d) (k .slot) w (k .bits) (omega (arith, kind-range))
+
+  carried-new : carried (kindOf (newSlot (look d) (k .slot) w (k .bits))) ≡ true
+  carried-new = ap carried kind-kept ∙ is-carried (w .kind) kind-range
+
+  named-so : nameOf (newSlot (look d) (k .slot) w (k .bits)) ≡ padded (w .name)
+  named-so = name-is (look d) (k .slot) w (k .bits) (usable-is (w .name) (k .ready .name) .1)
+
+  askable-so : askable (w .name) ≡ true
+  unfolding usable
+  askable-so = and-both (askable (w .name)) _ (k .ready .name) .0
+
+  found : find (slotsOf l) (w .name) ≡ some (k .slot)
+  found =
+      some-find (slotsOf l) (w .name) (k .slot)
+      (record {
+        below = k .lowest .below;
+        bytes = newSlot (look d) (k .slot) w (k .bits);
+        here = slots-same (look d) (k .slot) (some saved);
+        name = named-so;
+        before = λ j h t p q.
+            find-none (slotsOf (look d)) (w .name) (k .fresh) j (omega (arith, k .lowest .below)) t
+            (sym (slots-other (look d) (k .slot) (some saved) j (omega arith)) ∙ p) q;
+      })
+
+  -- "A saved file reads back byte for byte": the body and its length, into any buffer long enough
+  pub read-back : (buf : List ℕ) → length (w .body) ≤ length buf → reading new (w .name) buf ≡ out (done (length (w .body)) 0) (put buf 0 (w .body))
+  read-back buf h =
+      let n : lengthOf (facts (newSlot (look d) (k .slot) w (k .bits))) ≡ length (w .body) = length-is (look d) (k .slot) w (k .bits) in
+      ap (λ (l : Look). readLook l (w .name) buf) (k .seen)
+      ∙ read-here l accepted (w .name) askable-so (k .slot) saved found (upd-same (look d) (k .slot) (some saved)) carried-new buf (subst (λ (m : ℕ). m ≤ length buf) (sym n) h)
+      ∙ ap₂ (λ (m : ℕ) (x : List ℕ). out (done m 0) (put buf 0 x)) n (reads-back (look d) (k .slot) (freeBit (look d)) w (k .bits) (k .ready))
+
+  -- and the start address is the one of the page and offset given
+  pub start-back : starting new (w .name) ≡ done (address (w .page) (w .offset)) 0
+  start-back =
+      let r = and-both (leb (w .page) 31) (between 32768 (w .offset) 49151) (k .range) in
+      let p : pageOf (newSlot (look d) (k .slot) w (k .bits)) ≡ w .page = page-is (look d) (k .slot) w (k .bits) (omega (arith, leb-true (w .page) 31 (r .0))) in
+      let o : offsetOf (newSlot (look d) (k .slot) w (k .bits)) ≡ w .offset = offset-is (look d) (k .slot) w (k .bits) in
+      ap (λ (l : Look). startLook l (w .name)) (k .seen)
+      ∙ start-here l accepted (w .name) askable-so (k .slot) saved found (upd-same (look d) (k .slot) (some saved)) carried-new
+      (ap (λ (x : ℕ). leb 32768 x && leb x 49151) o ∙ r .1)
+      ∙ ap₂ (λ (a b : ℕ). done (address a b) 0) p o

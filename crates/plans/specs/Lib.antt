@@ -1,0 +1,4 @@
+pub mod Change
+pub mod Saving
+pub mod Plan
+pub mod Safe

@@ -1,0 +1,144 @@
+-- What each change refuses, and which steps it makes. The words of document 01 stand above what they define.
+use Prim.Native.Nat.{ℕ, suc, _+_}
+use mathlib.Core.Bool.{Bool, true, false, cond, not, _&&_}
+use mathlib.Core.List.{List, [], _∷_, _++_}
+use mathlib.Core.Option.{Option, none, some}
+use lib.Dec.{eqb, leb, ltb}
+use lib.ListN.{length, getD}
+use Rattle.buffers.specs.Bytes.{put}
+use Rattle.geometry.specs.Disk.{bitNumber, bitPlace}
+use Rattle.refusals.specs.Order.{Refusal, refuse, Reply, _else_, row}
+use Rattle.refusals.specs.Answers.{Outcome, done, refused}
+use Rattle.slots.specs.Slot.{isLive, protected, carried, nameOf}
+use Rattle.slots.specs.Name.{sameName, askable, padded}
+use Rattle.chains.specs.File.{File}
+use Rattle.directory.specs.Places.{slotAt, dirSector}
+use Rattle.directory.specs.Directory.{held}
+use Rattle.directory.specs.Survey.{free}
+use Rattle.directory.specs.Find.{find}
+use Rattle.disk.specs.Look.{Look, look, slotsOf, extra}
+use Rattle.disk.specs.Check.{checkDisk}
+use Rattle.files.specs.Calls.{fileAt}
+use Rattle.steps.specs.Steps.{Put, Step, enact, numbers}
+use Rattle.plans.specs.Change.{Wish, Mark, Change, save, erase, rename, mark, marked, between, usable}
+use Rattle.plans.specs.Saving.{sectorsFor, taken, lowestSlot, stream, block, nextTrack, nextSector, chained, newSlot}
+
+-- ---- steps
+
+-- one slot of a look changed
+unfoldable pub upd : Look → ℕ → Option File → Look
+upd l i o = record { long = l .long; files = λ j. cond (eqb j i) o (l .files j) }
+
+-- what a slot with these bytes holds
+unfoldable pub entryOf : List ℕ → (ℕ → List ℕ) → Option File
+entryOf s sec = cond (isLive s) (some (record { bytes = s; sectors = sec })) none
+
+abbrev pub one : ℕ → List ℕ → List Put
+one a x = record { place = a; bytes = x } ∷ []
+
+-- bytes put at place o of slot i, which then holds f: a commit
+abbrev pub slotStep : Look → ℕ → ℕ → List ℕ → Option File → Step Look
+slotStep l i o y f = record { at = dirSector i; puts = one (slotAt i + o) y; left = some (upd l i f) }
+
+-- the data sectors of a chain, each quiet
+unfoldable pub dataSteps : List ℕ → ℕ → List ℕ → List (Step Look)
+dataSteps st f [] = []
+dataSteps st f (b ∷ bs) =
+    record { at = bitNumber b; puts = one (bitPlace b) (block st f (nextTrack bs) (nextSector bs)); left = none } ∷ dataSteps st (f + 510) bs
+
+-- a live slot with other bytes, its sectors kept
+abbrev pub touch : Look → ℕ → File → ℕ → List ℕ → List (Step Look)
+touch l i f o y = slotStep l i o y (entryOf (put (f .bytes) o y) (f .sectors)) ∷ []
+
+-- "for a save the n data sectors in chain order and then the directory sector"
+abbrev pub saveSteps : Look → ℕ → Wish → List ℕ → List (Step Look)
+saveSteps l i w bs =
+    dataSteps (stream w) 0 bs ++ (slotStep l i 0 (newSlot l i w bs) (entryOf (newSlot l i w bs) (chained (stream w) 0 bs)) ∷ [])
+
+-- ---- what is refused, and what is done
+
+pub data Plan : Type 0 where
+  no : Refusal → Plan
+  go : List (Step Look) → Plan
+
+abbrev pub orNo : Reply → Plan → Plan
+orNo (some r) p = no r
+orNo none p = p
+
+-- of the live slot that has the name; 15 where none has
+abbrev pub byName : Look → List ℕ → (ℕ → File → Plan) → Plan
+byName l n at = held (no (refuse 15 0)) (λ i. at i (fileAt l i)) (find (slotsOf l) n)
+
+-- 16, at the live slot that has the new name
+abbrev pub nameTaken : Look → List ℕ → Reply
+nameTaken l n = held none (λ i. some (refuse 16 (suc i))) (find (slotsOf l) n)
+
+-- 17
+abbrev pub isProtected : ℕ → File → Reply
+isProtected i f = row 17 (suc i) (protected (f .bytes))
+
+unfoldable pub planOf : Change → Look → Plan
+-- "Erase sets byte 0 to 0 and changes no other byte."
+planOf (erase n) l =
+    orNo (row 12 0 (not (askable n))) (byName l n (λ i f. orNo (isProtected i f) (go (touch l i f 0 (0 ∷ [])))))
+-- "Rename changes bytes 1 to 10; a new name equal to the old is refused (16)."
+planOf (rename n new) l =
+    orNo (row 12 0 (not (askable n && usable new)))
+    (byName l n (λ i f. orNo (nameTaken l new else isProtected i f) (go (touch l i f 1 (padded new)))))
+-- "Hide, show, protect, release set or clear one bit; where it is so already the call is accepted."
+planOf (mark m n) l =
+    orNo (row 12 0 (not (askable n))) (byName l n (λ i f. go (touch l i f 0 (marked m (getD (f .bytes) 0 0) ∷ []))))
+planOf (save w) l =
+    orNo
+    (row 12 0 (not (usable (w .name))) else row 13 0 (not (carried (w .kind)))
+    else row 14 0 (not (leb (w .page) 31 && between 32768 (w .offset) 49151)) else nameTaken l (w .name))
+    (held (no (refuse 18 0))
+    (λ i. orNo (row 19 0 (ltb (free (extra l) (slotsOf l)) (sectorsFor (length (w .body))))) (go (saveSteps l i w (taken l w))))
+    (lowestSlot l))
+
+-- the steps may hang on more of the disk than its look; what they commit may not
+abbrev pub plan : Change → List ℕ → Plan
+plan c d = planOf c (look d)
+
+-- ---- the call
+
+-- a refusal, or the new disk and the sectors in the order of writing
+pub data Result : Type 0 where
+  stopped : Refusal → Result
+  made : List ℕ → List ℕ → Result
+
+-- with a list of so many numbers
+abbrev pub settle : List ℕ → ℕ → Plan → Result
+settle d room (no r) = stopped r
+settle d room (go sts) = cond (ltb room (length (numbers sts))) (stopped (refuse 20 0)) (made (enact d sts) (numbers sts))
+
+abbrev pub checked : Reply → Result → Result
+checked (some r) x = stopped r
+checked none x = x
+
+unfoldable pub run : Change → List ℕ → ℕ → Result
+run c d room = checked (checkDisk d) (settle d room (plan c d))
+
+-- what a call gives: its outcome, the image and the list at return
+pub record Changed : Type 0 where
+  pub outcome : Outcome
+  pub image : List ℕ
+  pub list : List ℕ
+
+abbrev pub changed : Outcome → List ℕ → List ℕ → Changed
+changed o d ss = record { outcome = o; image = d; list = ss }
+
+-- "Each change fills a lent buffer of numbers with its sector numbers and answers how many .. Its rest stays."
+abbrev pub changedBy : Result → List ℕ → List ℕ → Changed
+changedBy (stopped r) d buf = changed (refused r) d buf
+changedBy (made new ss) d buf = changed (done (length ss) 0) new (put buf 0 ss)
+
+unfoldable pub change : Change → List ℕ → List ℕ → Changed
+change c d buf = changedBy (run c d (length buf)) d buf
+
+-- "those that the change finds by name; a save finds none"
+unfoldable pub finds : Change → File → Bool
+finds (erase n) f = sameName (nameOf (f .bytes)) (padded n)
+finds (rename n new) f = sameName (nameOf (f .bytes)) (padded n)
+finds (mark m n) f = sameName (nameOf (f .bytes)) (padded n)
+finds (save w) f = false

@@ -1,0 +1,110 @@
+-- What a save writes: its data sectors and its slot. The words of document 01 stand above what they define.
+use Prim.Native.Nat.{ℕ, zero, suc, _+_, _-_, _*_, _/_, _%_}
+use mathlib.Core.Bool.{Bool, cond, not, _&&_}
+use mathlib.Core.List.{List, [], _∷_, _++_}
+use mathlib.Core.Option.{Option, none, some}
+use lib.Dec.{eqb, ltb}
+use lib.ListN.{length, getD, take}
+use Rattle.buffers.specs.Bytes.{tab}
+use Rattle.geometry.specs.Disk.{trackOf, sectorOf}
+use Rattle.maps.specs.Bits.{has, clear, marked}
+use Rattle.refusals.specs.Order.{sweep}
+use Rattle.slots.specs.Name.{padded}
+use Rattle.directory.specs.Places.{slots, dataBit}
+use Rattle.directory.specs.Directory.{held}
+use Rattle.directory.specs.Survey.{union}
+use Rattle.disk.specs.Look.{Look, slotsOf, extra}
+use Rattle.plans.specs.Change.{Wish}
+
+-- ---- how much, and where
+
+-- "the least n with 510 × n ≥ 9 + length"
+unfoldable pub sectorsFor : ℕ → ℕ
+sectorsFor length = (length + 518) / 510
+
+-- the numbers that pass a test, rising, among the n from i on
+unfoldable pub passing : ℕ → ℕ → (ℕ → Bool) → List ℕ
+passing zero i p = []
+passing (suc n) i p = cond (p i) (i ∷ passing n (suc i) p) (passing n (suc i) p)
+
+-- a data sector whose bit is clear in the used map
+abbrev pub freeBit : Look → ℕ → Bool
+freeBit l b = dataBit (extra l) b && not (has (union (slotsOf l) slots) b)
+
+-- "the n lowest free map bits, rising, as chain"
+unfoldable pub taken : Look → Wish → List ℕ
+taken l w = take (sectorsFor (length (w .body))) (passing 1560 0 (freeBit l))
+
+-- "and the lowest free slot": the lowest that holds no file
+unfoldable pub lowestSlot : Look → Option ℕ
+lowestSlot l = sweep slots (λ i. held (some i) (λ f. none) (l .files i))
+
+-- ---- the data sectors
+
+-- "Their length is pages × 16,384 + that remainder."
+abbrev pub pagesFor : Wish → ℕ
+pagesFor w = length (w .body) / 16384
+
+abbrev pub remainderFor : Wish → ℕ
+remainderFor w = length (w .body) % 16384
+
+-- "The first sector begins with nine bytes: kind; remainder (2) and offset (2), both low byte first; two unused; pages;
+-- start page. Body bytes follow"
+unfoldable pub stream : Wish → List ℕ
+stream w =
+    w .kind ∷ remainderFor w % 256 ∷ remainderFor w / 256 ∷ w .offset % 256 ∷ w .offset / 256 ∷ 0 ∷ 0 ∷ pagesFor w ∷ w .page ∷ w .body
+
+-- "510 payload bytes to a sector": those from place f of the stream, 0 past its end, and then the next track and sector
+unfoldable pub block : List ℕ → ℕ → ℕ → ℕ → List ℕ
+block st f t s = tab 512 (λ k. cond (ltb k 510) (getD st (f + k) 0) (cond (eqb k 510) t s))
+
+-- the address of the next sector of a chain; "The last sector has 0, 0"
+abbrev pub nextTrack : List ℕ → ℕ
+nextTrack [] = 0
+nextTrack (b ∷ bs) = trackOf b
+
+abbrev pub nextSector : List ℕ → ℕ
+nextSector [] = 0
+nextSector (b ∷ bs) = sectorOf b
+
+-- the sector of map bit c in a chain that holds the stream from place f on; none of another bit
+unfoldable pub chained : List ℕ → ℕ → List ℕ → ℕ → List ℕ
+chained st f [] c = []
+chained st f (b ∷ bs) c = cond (eqb c b) (block st f (nextTrack bs) (nextSector bs)) (chained st (f + 510) bs c)
+
+-- ---- the slot
+
+-- the map with these bits set
+unfoldable pub mapWith : List ℕ → List ℕ
+mapWith [] = clear
+mapWith (b ∷ bs) = marked (mapWith bs) b
+
+-- byte k of the slot that a save writes: "Slot bytes not named above are 0, but byte 245 is 255"
+unfoldable pub slotByte : Wish → List ℕ → ℕ → ℕ
+slotByte w bs k =
+    cond (ltb k 1) (w .kind)
+    (cond (ltb k 11) (getD (padded (w .name)) (k - 1) 0)
+    -- "11, 12 sector count, high byte first; 13, 14 first track and sector; 15 to 209 map;"
+    (cond (ltb k 12) (length bs / 256)
+    (cond (ltb k 13) (length bs % 256)
+    (cond (ltb k 14) (nextTrack bs)
+    (cond (ltb k 15) (nextSector bs)
+    (cond (ltb k 210) (getD (mapWith bs) (k - 15) 0)
+    -- "221 to 231 kind information;" "Kind information shorter than 11 bytes .. filled with 0; any beyond are ignored."
+    (cond (ltb k 221) 0
+    (cond (ltb k 232) (getD (w .info) (k - 221) 0)
+    -- "236 start page in bits 0 to 4; 237, 238 offset, low byte first; 239 pages; 240, 241 length mod 16,384, low byte first"
+    (cond (ltb k 236) 0
+    (cond (ltb k 237) (w .page)
+    (cond (ltb k 238) (w .offset % 256)
+    (cond (ltb k 239) (w .offset / 256)
+    (cond (ltb k 240) (pagesFor w)
+    (cond (ltb k 241) (remainderFor w % 256)
+    (cond (ltb k 242) (remainderFor w / 256)
+    -- "242 to 244 execution bytes", fewer than 3 filled with 0
+    (cond (ltb k 245) (getD (w .exec) (k - 242) 0)
+    (cond (ltb k 246) 255 0)))))))))))))))))
+
+-- the slot that a save writes at slot i of a disk with this look, of which it keeps nothing
+unfoldable pub newSlot : Look → ℕ → Wish → List ℕ → List ℕ
+newSlot l i w bs = tab 256 (slotByte w bs)
