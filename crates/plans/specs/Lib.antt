@@ -2,3 +2,4 @@ pub mod Change
 pub mod Saving
 pub mod Plan
 pub mod Safe
+pub mod Refused

@@ -1,0 +1,260 @@
+-- Every other file stays: each name that a changed slot had not and has not gets the whole answers it got before.
+use Prim.Native.Nat.{ℕ, suc, _≤_}
+use mathlib.Core.Path.{_≡_, refl, sym, ap, ap₂, _∙_, subst}
+use mathlib.Core.Bool.{Bool, true, false, cond, not}
+use mathlib.Core.List.{List, [], _∷_}
+use mathlib.Core.Option.{Option, none, some, Option·some-ne-none, Option·some-injective}
+use native.Mathlib.Decide.{ℕ-discrete}
+use native.Mathlib.Omega.{arith}
+use lib.Dec.{ltb}
+use lib.ListN.{length, getD}
+use Rattle.buffers.specs.Bytes.{put}
+use Rattle.buffers.proofs.Lists.{part-put, part-put-after}
+use Rattle.refusals.specs.Order.{refuse, _else_, row}
+use Rattle.refusals.specs.Answers.{Outcome, done, unless, Out, filled}
+use Rattle.refusals.proofs.First.{sweep-cong}
+use Rattle.slots.specs.Slot.{kindOf, nameOf, facts, lengthOf, pageOf, offsetOf}
+use Rattle.slots.specs.Name.{sameName, askable, padded}
+use Rattle.slots.proofs.Names.{same-is}
+use Rattle.chains.specs.File.{File}
+use Rattle.chains.specs.Chain.{body}
+use Rattle.directory.specs.Places.{slots}
+use Rattle.directory.specs.Directory.{held, Directory, directory}
+use Rattle.directory.specs.Find.{hit, find}
+use Rattle.directory.proofs.Search.{find-some}
+use Rattle.disk.specs.Look.{Look, look, slotsOf}
+use Rattle.disk.specs.Check.{checkLook, checkDisk}
+use Rattle.disk.specs.Sound.{Sound}
+use Rattle.disk.proofs.Look.{look-slots}
+use Rattle.disk.proofs.Sound.{sound, sound-only}
+use Rattle.files.specs.Calls.{noFile, fileAt, fileNamed, notCarried, outOfRange, readReply, readLook, startReply, startOf, startLook, reading, starting}
+use Rattle.steps.specs.Steps.{enact}
+use Rattle.steps.proofs.Steps.{goes-ok}
+use Rattle.plans.specs.Change.{Mark, Change, erase, rename, mark, marked}
+use Rattle.plans.specs.Plan.{upd, entryOf, made, run}
+use Rattle.plans.proofs.Frame.{upd-other, slots-same, slots-other, entry-is, holds-long}
+use Rattle.plans.proofs.Kept.{sound-long, usable-is}
+use Rattle.plans.proofs.Crash.{Made, run-made, Sure}
+use Rattle.plans.proofs.Sure.{Named, sure-erase, sure-mark, sure-rename}
+use Rattle.plans.proofs.Effect.{Touched, erasing, marking, Unprotected, Renamable, erased, marked-so, renamed}
+
+-- ---- what the answers hang on
+
+-- two files of which reading and the start address say the same
+pub record Alike (f g : File) : Type 0 where
+  pub kind : kindOf (f .bytes) ≡ kindOf (g .bytes)
+  pub long : lengthOf (facts (f .bytes)) ≡ lengthOf (facts (g .bytes))
+  pub bodies : body f ≡ body g
+  pub page : pageOf (f .bytes) ≡ pageOf (g .bytes)
+  pub offset : offsetOf (f .bytes) ≡ offsetOf (g .bytes)
+
+pub alike-same : (f g : File) → f ≡ g → Alike f g
+alike-same f g e = record {
+  kind = ap (λ (f : File). kindOf (f .bytes)) e;
+  long = ap (λ (f : File). lengthOf (facts (f .bytes))) e;
+  bodies = ap body e;
+  page = ap (λ (f : File). pageOf (f .bytes)) e;
+  offset = ap (λ (f : File). offsetOf (f .bytes)) e;
+}
+
+-- the answers on an accepted disk: whether the name can be asked for, the slot found, and the files in the slots
+abbrev readBy : List ℕ → Bool → Option ℕ → (ℕ → File) → Out
+readBy buf t o at =
+    filled
+    (row 12 0 (not t) else held (some (refuse 15 0)) (λ i. notCarried (suc i) (at i) else row 20 0 (ltb (length buf) (lengthOf (facts (at i .bytes))))) o)
+    (done (lengthOf (facts (held noFile at o .bytes))) 0) (body (held noFile at o)) buf
+
+abbrev startBy : Bool → Option ℕ → (ℕ → File) → Outcome
+startBy t o at =
+    unless (row 12 0 (not t) else held (some (refuse 15 0)) (λ i. notCarried (suc i) (at i) else outOfRange (suc i) (at i)) o)
+    (done (startOf (held noFile at o .bytes)) 0)
+
+pub read-by : (l : Look) → checkLook l ≡ none → (n buf : List ℕ) → readLook l n buf ≡ readBy buf (askable n) (find (slotsOf l) n) (fileAt l)
+unfolding readLook readReply fileNamed
+read-by l ok n buf = rw ok
+
+pub start-by : (l : Look) → checkLook l ≡ none → (n : List ℕ) → startLook l n ≡ startBy (askable n) (find (slotsOf l) n) (fileAt l)
+unfolding startLook startReply fileNamed
+start-by l ok n = rw ok
+
+module _ (t : Bool) (f g : ℕ → File) where
+  read-alike : (buf : List ℕ) (o : Option ℕ) → ((i : ℕ) → o ≡ some i → Alike (f i) (g i)) → readBy buf t o f ≡ readBy buf t o g
+  read-alike buf none a = refl
+  read-alike buf (some i) a = let w = a i refl in rw (w .kind, w .long, w .bodies)
+
+  start-alike : (o : Option ℕ) → ((i : ℕ) → o ≡ some i → Alike (f i) (g i)) → startBy t o f ≡ startBy t o g
+  start-alike none a = refl
+  start-alike (some i) a = let w = a i refl in rw (w .kind, w .page, w .offset)
+
+-- two accepted looks, and a name of each: where the slot found is one and its files are alike, so are the whole answers
+pub same-answers : (k l : Look) → checkLook k ≡ none → checkLook l ≡ none → (m n : List ℕ) → askable m ≡ askable n → find (slotsOf k) m ≡ find (slotsOf l) n
+    → ((i : ℕ) → find (slotsOf l) n ≡ some i → Alike (fileAt k i) (fileAt l i))
+    → ((buf : List ℕ) → readLook k m buf ≡ readLook l n buf) × (startLook k m ≡ startLook l n)
+same-answers k l p q m n t e a = (
+  λ buf.
+      read-by k p m buf ∙ ap₂ (λ (t : Bool) (o : Option ℕ). readBy buf t o (fileAt k)) t e
+      ∙ read-alike (askable n) (fileAt k) (fileAt l) buf (find (slotsOf l) n) a ∙ sym (read-by l q n buf),
+  start-by k p m ∙ ap₂ (λ (t : Bool) (o : Option ℕ). startBy t o (fileAt k)) t e ∙ start-alike (askable n) (fileAt k) (fileAt l) (find (slotsOf l) n) a
+      ∙ sym (start-by l q n),
+)
+
+-- ---- a look with one slot changed
+
+-- what a slot holds, if anything, has not the name
+abbrev pub Unnamed : List ℕ → Option File → Type 0
+Unnamed m o = (f : File) → o ≡ some f → nameOf (f .bytes) ≡ padded m → ⊥
+
+bytes-unnamed : (m : List ℕ) (o : Option File) → Unnamed m o → (s : List ℕ) → held none (λ f. some (f .bytes)) o ≡ some s → nameOf s ≡ padded m → ⊥
+bytes-unnamed m none u s e q = Option·some-ne-none s (sym e)
+bytes-unnamed m (some f) u s e q = u f refl (ap nameOf (Option·some-injective (f .bytes) s e) ∙ q)
+
+no-hit : (v : Directory) (m : List ℕ) (i : ℕ) → ((s : List ℕ) → v i ≡ some s → nameOf s ≡ padded m → ⊥) → hit v m i ≡ none
+no-hit v m i u = by (v i) refl
+  where
+    named : (s : List ℕ) (t : Bool) → v i ≡ some s → sameName (nameOf s) (padded m) ≡ t → cond {A = Option ℕ} t (some i) none ≡ none
+    named s true p q = absurd (u s p (same-is (nameOf s) (padded m) q))
+    named s false p q = refl
+
+    by : (o : Option (List ℕ)) → v i ≡ o → held none (λ s. cond (sameName (nameOf s) (padded m)) (some i) none) o ≡ none
+    by none p = refl
+    by (some s) p = named s (sameName (nameOf s) (padded m)) p refl
+
+pub file-other : (l : Look) (i : ℕ) (o : Option File) (j : ℕ) → (j ≡ i → ⊥) → fileAt (upd l i o) j ≡ fileAt l j
+file-other l i o j n = ap (held noFile (λ f. f)) (upd-other l i o j n)
+
+module _ (l : Look) (i : ℕ) (o : Option File) (m : List ℕ) where
+  -- where the slot answers to the name as it did, so does the disk
+  pub find-upd : hit (slotsOf (upd l i o)) m i ≡ hit (slotsOf l) m i → find (slotsOf (upd l i o)) m ≡ find (slotsOf l) m
+  unfolding find
+  find-upd e = sweep-cong slots (hit (slotsOf (upd l i o)) m) (hit (slotsOf l) m) (λ j h. by j (ℕ-discrete j i))
+    where
+      by : (j : ℕ) → Dec (j ≡ i) → hit (slotsOf (upd l i o)) m j ≡ hit (slotsOf l) m j
+      by j (yes q) = rw q e
+      by j (no q) = ap (held none (λ s. cond (sameName (nameOf s) (padded m)) (some j) none)) (slots-other l i o j q)
+
+  module _ (was : Unnamed m (l .files i)) (now : Unnamed m o) where
+    slot-unnamed : (s : List ℕ) → slotsOf l i ≡ some s → nameOf s ≡ padded m → ⊥
+    unfolding slotsOf
+    slot-unnamed = bytes-unnamed m (l .files i) was
+
+    find-other : find (slotsOf (upd l i o)) m ≡ find (slotsOf l) m
+    find-other =
+        find-upd
+        (no-hit (slotsOf (upd l i o)) m i (λ s e. bytes-unnamed m o now s (sym (slots-same l i o) ∙ e))
+        ∙ sym (no-hit (slotsOf l) m i slot-unnamed))
+
+    -- the slot found by the name is another
+    found-other : (j : ℕ) → find (slotsOf l) m ≡ some j → j ≡ i → ⊥
+    found-other j e q =
+        let w = find-some (slotsOf l) m j e in
+        slot-unnamed (w .bytes) (ap (slotsOf l) (sym q) ∙ w .here) (w .name)
+
+    pub other-name : checkLook l ≡ none → checkLook (upd l i o) ≡ none
+        → (find (slotsOf (upd l i o)) m ≡ find (slotsOf l) m) × ((buf : List ℕ) → readLook (upd l i o) m buf ≡ readLook l m buf)
+        × (startLook (upd l i o) m ≡ startLook l m)
+    other-name p q =
+        let a = same-answers (upd l i o) l q p m m refl find-other (λ j e. alike-same (fileAt (upd l i o) j) (fileAt l j) (file-other l i o j (found-other j e))) in
+        (find-other, a .0, a .1)
+
+-- ---- the disk after a change of one slot
+
+-- reading and the start address, asked for m on one disk, give what they give for n on another: length, address, refusal with its
+-- slot, and every output buffer at return
+pub record SameAnswers (new m old n : List ℕ) : Type 0 where
+  pub readings : (buf : List ℕ) → reading new m buf ≡ reading old n buf
+  pub starts : starting new m ≡ starting old n
+
+module _ (d new : List ℕ) (i : ℕ) (o : Option File) (e : look new ≡ upd (look d) i o) where
+  pub others : checkDisk d ≡ none → checkDisk new ≡ none → (m : List ℕ) → Unnamed m (look d .files i) → Unnamed m o → SameAnswers new m d m
+  unfolding checkDisk
+  others p q m was now =
+      let a = other-name (look d) i o m was now p (ap checkLook (sym e) ∙ q) in
+      record {
+        readings = λ buf. ap (λ (l : Look). readLook l m buf) e ∙ a .1 buf;
+        starts = ap (λ (l : Look). startLook l m) e ∙ a .2;
+      }
+
+  -- every other listing entry: its slot is free, or has these bytes, as it was
+  pub other-slots : (j : ℕ) → (j ≡ i → ⊥) → directory new j ≡ directory d j
+  other-slots j n =
+      ap (λ (v : Directory). v j) (sym (look-slots new)) ∙ ap (λ (l : Look). slotsOf l j) e ∙ slots-other (look d) i o j n
+      ∙ ap (λ (v : Directory). v j) (look-slots d)
+
+-- ---- each change
+
+-- the disk that an accepted change leaves is accepted
+pub made-accepted : (c : Change) (d new ss : List ℕ) → checkDisk d ≡ none → (m : Made c d new ss) → Sure c d (m .steps) → checkDisk new ≡ none
+unfolding checkDisk
+made-accepted c d new ss ok m w =
+    subst (λ (x : List ℕ). checkLook (look x) ≡ none) (m .disk)
+    (sound-only (look (enact d (m .steps))) (goes-ok look Sound (m .steps) d (w .goes) (sound (look d) ok)))
+
+-- the file in the slot that a change finds has the name it asks for, and no other
+pub found-unnamed : (d n : List ℕ) (i : ℕ) (f : File) → Named d n i f → (m : List ℕ) → (padded m ≡ padded n → ⊥) → Unnamed m (look d .files i)
+found-unnamed d n i f w m u g e q =
+    let z : f ≡ g = Option·some-injective f g (sym (w .here) ∙ e) in
+    u (sym q ∙ ap (λ (f : File). nameOf (f .bytes)) (sym z) ∙ w .name)
+
+-- another first byte leaves the name, and ten bytes from byte 1 are it
+pub first-name : (s : List ℕ) (b : ℕ) → nameOf (put s 0 (b ∷ [])) ≡ nameOf s
+first-name s b = part-put-after s 0 (b ∷ []) 1 10 (omega arith)
+
+pub name-put : (s x : List ℕ) → length x ≡ 10 → 11 ≤ length s → nameOf (put s 1 x) ≡ x
+name-put s x l h = rw l at (part-put s 1 x (omega arith))
+
+-- a slot in which no file has the name that the change asks for stays
+pub touched-slots : (d n : List ℕ) (o : ℕ) (y : File → List ℕ) (Also : File → Type 0) (new ss : List ℕ) → Touched d n o y Also new ss
+    → (j : ℕ) → Unnamed n (look d .files j) → directory new j ≡ directory d j
+touched-slots d n o y Also new ss t j u =
+    other-slots d new (t .slot) (entryOf (put (t .file .bytes) o (y (t .file))) (t .file .sectors)) (t .seen) j
+    (λ q. u (t .file) (ap (look d .files) q ∙ t .found .here) (t .found .name))
+
+-- every name but n, where what the slot holds after the change has not that name either
+touched-others : (d n : List ℕ) (o : ℕ) (y : File → List ℕ) (Also : File → Type 0) (new ss : List ℕ) → checkDisk d ≡ none → checkDisk new ≡ none
+    → (t : Touched d n o y Also new ss) → (m : List ℕ) → (padded m ≡ padded n → ⊥) → (nameOf (put (t .file .bytes) o (y (t .file))) ≡ padded m → ⊥)
+    → SameAnswers new m d m
+touched-others d n o y Also new ss ok now t m u v =
+    let s : List ℕ = put (t .file .bytes) o (y (t .file)) in
+    others d new (t .slot) (entryOf s (t .file .sectors)) (t .seen) ok now m (found-unnamed d n (t .slot) (t .file) (t .found) m u)
+    (λ f e q. v (ap (λ (f : File). nameOf (f .bytes)) (sym (entry-is s (t .file .sectors) f e)) ∙ q))
+
+module _ (d : List ℕ) (ok : checkDisk d ≡ none) (room : ℕ) (new ss : List ℕ) where
+  old-sound : Sound (look d)
+  unfolding checkDisk
+  old-sound = sound (look d) ok
+
+  pub erase-accepted : (n : List ℕ) → run (erase n) d room ≡ made new ss → checkDisk new ≡ none
+  erase-accepted n e =
+      let m = run-made (erase n) d room new ss ok e in
+      made-accepted (erase n) d new ss ok m (sure-erase d old-sound (m .steps) n (m .planned))
+
+  pub mark-accepted : (k : Mark) (n : List ℕ) → run (mark k n) d room ≡ made new ss → checkDisk new ≡ none
+  mark-accepted k n e =
+      let m = run-made (mark k n) d room new ss ok e in
+      made-accepted (mark k n) d new ss ok m (sure-mark d old-sound (m .steps) k n (m .planned))
+
+  pub rename-accepted : (n to : List ℕ) → run (rename n to) d room ≡ made new ss → checkDisk new ≡ none
+  rename-accepted n to e =
+      let m = run-made (rename n to) d room new ss ok e in
+      made-accepted (rename n to) d new ss ok m (sure-rename d old-sound (m .steps) n to (m .planned))
+
+  -- "for every name but those the change names": the one of an erase or a mark
+  pub erase-others : (n : List ℕ) → run (erase n) d room ≡ made new ss → (m : List ℕ) → (padded m ≡ padded n → ⊥) → SameAnswers new m d m
+  erase-others n e m u =
+      let t = erased d ok room new ss n e in
+      touched-others d n 0 erasing Unprotected new ss ok (erase-accepted n e) t m u (λ q. u (sym q ∙ first-name (t .file .bytes) 0 ∙ t .found .name))
+
+  pub mark-others : (k : Mark) (n : List ℕ) → run (mark k n) d room ≡ made new ss → (m : List ℕ) → (padded m ≡ padded n → ⊥) → SameAnswers new m d m
+  mark-others k n e m u =
+      let t = marked-so d ok room new ss k n e in
+      touched-others d n 0 (marking k) (λ f. Unit {0}) new ss ok (mark-accepted k n e) t m u
+      (λ q. u (sym q ∙ first-name (t .file .bytes) (marked k (getD (t .file .bytes) 0 0)) ∙ t .found .name))
+
+  -- the two of a rename
+  pub rename-others : (n to : List ℕ) → run (rename n to) d room ≡ made new ss → (m : List ℕ) → (padded m ≡ padded n → ⊥) → (padded m ≡ padded to → ⊥)
+      → SameAnswers new m d m
+  rename-others n to e m u v =
+      let t = renamed d ok room new ss n to e in
+      let l = holds-long d (t .slot) (t .file) (t .found .here) (sound-long d old-sound) in
+      touched-others d n 1 (λ f. padded to) (Renamable d to) new ss ok (rename-accepted n to e) t m u
+      (λ q. v (sym q ∙ name-put (t .file .bytes) (padded to) (usable-is to (t .also .usable-name) .1) (omega arith)))

@@ -1,0 +1,338 @@
+-- A change is refused exactly when the check refuses the disk or a row holds that has none before it, and a refused call changes nothing lent.
+use Prim.Native.Nat.{ℕ, suc, _+_, _<_}
+use mathlib.Core.Path.{_≡_, refl, sym, ap, _∙_, subst}
+use mathlib.Core.Bool.{Bool, true, false, not, _&&_, _||_, true≢false}
+use mathlib.Core.List.{List, [], _∷_}
+use mathlib.Core.Logic.{inl, inr, ⊎-elim, _↔_}
+use mathlib.Core.Option.{Option, none, some}
+use native.Mathlib.Omega.{arith}
+use borrow.Author.Tests.{ltb-true, ltb-false, le-leb, lt-leb}
+use lib.Dec.{leb, ltb}
+use lib.ListN.{length, getD, length-append}
+use Rattle.buffers.proofs.Counts.{any-some, none-any}
+use Rattle.refusals.specs.Order.{Refusal, refuse, Reply, _else_, row}
+use Rattle.refusals.specs.Answers.{done, refused, filled}
+use Rattle.slots.specs.Slot.{protected, carried, nameOf}
+use Rattle.slots.specs.Name.{sameName, askable, padded}
+use Rattle.slots.proofs.Names.{same-refl, same-is}
+use Rattle.chains.specs.File.{File}
+use Rattle.directory.specs.Places.{slots}
+use Rattle.directory.specs.Directory.{held}
+use Rattle.directory.specs.Survey.{free}
+use Rattle.directory.specs.Find.{find}
+use Rattle.directory.proofs.Search.{find-some, find-none}
+use Rattle.disk.specs.Look.{Look, look, slotsOf, extra}
+use Rattle.disk.specs.Check.{checkLook, checkDisk}
+use Rattle.files.specs.Calls.{noFile, fileAt, fileNamed, entries, listLook, readReply, readLook, listing, reading}
+use Rattle.steps.specs.Steps.{Step, enact, numbers}
+use Rattle.steps.proofs.Steps.{length-numbers}
+use Rattle.plans.specs.Change.{Wish, Mark, Change, save, erase, rename, mark, marked, between, usable}
+use Rattle.plans.specs.Saving.{sectorsFor, taken, lowestSlot, stream, newSlot, chained}
+use Rattle.plans.specs.Plan.{slotStep, entryOf, dataSteps, touch, saveSteps, Plan, no, go, orNo, byName, nameTaken, isProtected, planOf, Result, stopped, made, settle, checked, run, changedBy, change}
+use Rattle.plans.specs.Refused.{SlotRow, rowAt, NoRow, FirstOf, someNamed, slotNamed, someFree, startOutside, row14, row15, row16, row17, row18, row19, row20, changeRows, Refuses, by-check, by-row, Passes, Accepts}
+use Rattle.plans.proofs.Frame.{slots-some}
+use Rattle.plans.proofs.Free.{lowest-slot, no-slot, taken-long}
+
+-- ---- nothing lent changes
+
+-- demand 1: a refused change leaves the image and the list as they were
+pub refused-unchanged : (c : Change) (d buf : List ℕ) (r : Refusal) → change c d buf .outcome ≡ refused r
+    → (change c d buf .image ≡ d) × (change c d buf .list ≡ buf)
+unfolding change
+refused-unchanged c d buf r e = by (run c d (length buf)) e
+  where
+    by : (x : Result) → changedBy x d buf .outcome ≡ refused r → (changedBy x d buf .image ≡ d) × (changedBy x d buf .list ≡ buf)
+    by (stopped s) w = (refl, refl)
+    by (made new ss) w = (cc, cc)
+
+filled-unchanged : (q : Reply) (v f : ℕ) (x buf : List ℕ) (r : Refusal) → filled q (done v f) x buf .outcome ≡ refused r
+    → filled q (done v f) x buf .buffer ≡ buf
+filled-unchanged (some s) v f x buf r e = refl
+filled-unchanged none v f x buf r e = cc
+
+-- a refused listing or read leaves its buffer as it was
+pub listing-unchanged : (d buf : List ℕ) (r : Refusal) → listing d buf .outcome ≡ refused r → listing d buf .buffer ≡ buf
+unfolding listLook
+listing-unchanged d buf r e =
+    filled-unchanged (checkLook (look d) else row 20 0 (ltb (length buf) (length (entries (slotsOf (look d)) slots)))) _ _ _ buf r e
+
+pub reading-unchanged : (d n buf : List ℕ) (r : Refusal) → reading d n buf .outcome ≡ refused r → reading d n buf .buffer ≡ buf
+unfolding readLook
+reading-unchanged d n buf r e = filled-unchanged (readReply (look d) n (length buf)) _ _ _ buf r e
+
+-- ---- the first row that holds
+
+first-same : (rs : List SlotRow) (x y : Refusal) → FirstOf x rs → FirstOf y rs → x ≡ y
+first-same [] x y p q = absurd p
+first-same (r ∷ rs) x y p q =
+    ⊎-elim (λ a. ⊎-elim (λ b. sym (a .1) ∙ b .1) (λ b. absurd (true≢false (sym (a .0) ∙ b .0))) q)
+    (λ a. ⊎-elim (λ b. absurd (true≢false (sym (b .0) ∙ a .0))) (λ b. first-same rs x y (a .1) (b .1)) q) p
+
+first-none : (rs : List SlotRow) (x : Refusal) → FirstOf x rs → NoRow rs → ⊥
+first-none [] x p q = p
+first-none (r ∷ rs) x p q = ⊎-elim (λ a. true≢false (sym (a .0) ∙ q .0)) (λ a. first-none rs x (a .1) (q .1)) p
+
+-- a result is the first row that holds, or none holds
+data Settled (rs : List SlotRow) (x : Result) : Type 0 where
+  stops : (r : Refusal) → FirstOf r rs → x ≡ stopped r → Settled rs x
+  goes : NoRow rs → (new ss : List ℕ) → x ≡ made new ss → Settled rs x
+
+here : (n s : ℕ) (t : Bool) (rs : List SlotRow) → t ≡ true → Settled (rowAt n s t ∷ rs) (stopped (refuse n s))
+here n s t rs e = stops (refuse n s) (inl (e, refl)) refl
+
+later : (n s : ℕ) (t : Bool) (rs : List SlotRow) (x : Result) → t ≡ false → Settled rs x → Settled (rowAt n s t ∷ rs) x
+later n s t rs x e (stops r f w) = stops r (inr (e, f)) w
+later n s t rs x e (goes c new ss w) = goes (e, c) new ss w
+
+-- ---- the tests
+
+module _ (l : Look) (n : List ℕ) where
+  abbrev has-name : ℕ → Bool
+  has-name i = held false (λ s. sameName (nameOf s) (padded n)) (slotsOf l i)
+
+  pub some-named : (i : ℕ) → find (slotsOf l) n ≡ some i → someNamed l n ≡ true
+  unfolding someNamed
+  some-named i e =
+      let w = find-some (slotsOf l) n i e in
+      any-some slots has-name i (w .below)
+      (ap (held false (λ s. sameName (nameOf s) (padded n))) (w .here) ∙ ap (λ (m : List ℕ). sameName m (padded n)) (w .name) ∙ same-refl (padded n))
+
+  pub none-named : find (slotsOf l) n ≡ none → someNamed l n ≡ false
+  unfolding someNamed
+  none-named e = none-any slots has-name (λ k h. by k h (slotsOf l k) refl)
+    where
+      differs : (k : ℕ) → k < slots → (s : List ℕ) → slotsOf l k ≡ some s → (t : Bool) → sameName (nameOf s) (padded n) ≡ t → t ≡ false
+      differs k h s q true w = absurd (find-none (slotsOf l) n e k h s q (same-is (nameOf s) (padded n) w))
+      differs k h s q false w = refl
+
+      by : (k : ℕ) → k < slots → (o : Option (List ℕ)) → slotsOf l k ≡ o → held false (λ s. sameName (nameOf s) (padded n)) o ≡ false
+      by k h none q = refl
+      by k h (some s) q = differs k h s q (sameName (nameOf s) (padded n)) refl
+
+  row17-is : (i : ℕ) → find (slotsOf l) n ≡ some i → row17 l n ≡ rowAt 17 (suc i) (protected (fileAt l i .bytes))
+  unfolding slotNamed fileNamed
+  row17-is i e = ap (λ (o : Option ℕ). rowAt 17 (held 0 suc o) (protected (held noFile (fileAt l) o .bytes))) e
+
+module _ (l : Look) where
+  abbrev is-free : ℕ → Bool
+  is-free i = held true (λ s. false) (slotsOf l i)
+
+  pub some-free : (i : ℕ) → lowestSlot l ≡ some i → someFree l ≡ true
+  unfolding someFree slotsOf
+  some-free i e =
+      let w = lowest-slot l i e in
+      any-some slots is-free i (w .below) (ap (λ (o : Option File). held true (λ s. false) (held none (λ f. some (f .bytes)) o)) (w .empty))
+
+  pub none-free : lowestSlot l ≡ none → someFree l ≡ false
+  unfolding someFree
+  none-free e = none-any slots is-free (λ k h. let f = no-slot l e k h in ap (held true (λ s. false)) (slots-some l k (f .0) (f .1)))
+
+-- a start is in range exactly where it is not outside
+outside-is : (page offset : ℕ) → not (leb page 31 && between 32768 offset 49151) ≡ startOutside page offset
+outside-is page offset = rw (flip page 31, flip 32768 offset, flip offset 49151) (by (ltb 31 page) (ltb offset 32768) (ltb 49151 offset))
+  where
+    at : (a b : ℕ) (t : Bool) → ltb b a ≡ t → leb a b ≡ not t
+    at a b true e = lt-leb a b (ltb-true b a e)
+    at a b false e = le-leb a b (ltb-false b a e)
+
+    flip : (a b : ℕ) → leb a b ≡ not (ltb b a)
+    flip a b = at a b (ltb b a) refl
+
+    by : (x y z : Bool) → not (not x && (not y && not z)) ≡ (x || (y || z))
+    by true y z = refl
+    by false true z = refl
+    by false false true = refl
+    by false false false = refl
+
+-- ---- how many numbers
+
+pub data-long : (st : List ℕ) (f : ℕ) (bs : List ℕ) → length (dataSteps st f bs) ≡ length bs
+unfolding dataSteps
+data-long st f [] = refl
+data-long st f (b ∷ bs) = ap suc (data-long st (f + 510) bs)
+
+pub save-long : (l : Look) (i : ℕ) (w : Wish) (bs : List ℕ) → length (numbers (saveSteps l i w bs)) ≡ length bs + 1
+save-long l i w bs =
+    length-numbers (saveSteps l i w bs)
+    ∙ length-append (dataSteps (stream w) 0 bs) (slotStep l i 0 (newSlot l i w bs) (entryOf (newSlot l i w bs) (chained (stream w) 0 bs)) ∷ [])
+    ∙ ap (λ (n : ℕ). n + 1) (data-long (stream w) 0 bs)
+
+-- ---- a plan by its rows
+
+module _ (d : List ℕ) (room : ℕ) where
+  abbrev By : List SlotRow → Plan → Type 0
+  By rs q = Settled rs (settle d room q)
+
+  by-test : (n s : ℕ) (t : Bool) (rs : List SlotRow) (q : Plan) → (t ≡ false → By rs q) → By (rowAt n s t ∷ rs) (orNo (row n s t) q)
+  by-test n s true rs q k = here n s true rs refl
+  by-test n s false rs q k = later n s false rs (settle d room q) refl (k refl)
+
+  by-else : (a b : Reply) (rs : List SlotRow) (q : Plan) → By rs (orNo a (orNo b q)) → By rs (orNo (a else b) q)
+  by-else none b rs q w = w
+  by-else (some r) b rs q w = w
+
+  by-room : (sts : List (Step Look)) (k : ℕ) → length (numbers sts) ≡ k → By (row20 room k ∷ []) (go sts)
+  by-room sts k e = by (ltb room k) refl (ap (ltb room) e)
+    where
+      by : (t : Bool) → ltb room k ≡ t → ltb room (length (numbers sts)) ≡ ltb room k → By (row20 room k ∷ []) (go sts)
+      by true q w = stops (refuse 20 0) (inl (q, refl)) (rw (w ∙ q))
+      by false q w = goes (q, tt) (enact d sts) (numbers sts) (rw (w ∙ q))
+
+  module _ (l : Look) where
+    by-found : (n : List ℕ) (at : ℕ → File → Plan) (rs : List SlotRow) → ((i : ℕ) → find (slotsOf l) n ≡ some i → By rs (at i (fileAt l i)))
+        → By (row15 l n ∷ rs) (byName l n at)
+    by-found n at rs k = by (find (slotsOf l) n) refl
+      where
+        by : (o : Option ℕ) → find (slotsOf l) n ≡ o → By (row15 l n ∷ rs) (held (no (refuse 15 0)) (λ i. at i (fileAt l i)) o)
+        by none q = here 15 0 (not (someNamed l n)) rs (ap not (none-named l n q))
+        by (some i) q = later 15 0 (not (someNamed l n)) rs (settle d room (at i (fileAt l i))) (ap not (some-named l n i q)) (k i q)
+
+    by-taken : (n : List ℕ) (rs : List SlotRow) (q : Plan) → By rs q → By (row16 l n ∷ rs) (orNo (nameTaken l n) q)
+    unfolding slotNamed
+    by-taken n rs q k = by (find (slotsOf l) n) refl
+      where
+        by : (o : Option ℕ) → find (slotsOf l) n ≡ o
+            → By (rowAt 16 (held 0 suc o) (someNamed l n) ∷ rs) (orNo (held none (λ i. some (refuse 16 (suc i))) o) q)
+        by none e = later 16 0 (someNamed l n) rs (settle d room q) (none-named l n e) k
+        by (some i) e = here 16 (suc i) (someNamed l n) rs (some-named l n i e)
+
+    by-protected : (n : List ℕ) (i : ℕ) → find (slotsOf l) n ≡ some i → (rs : List SlotRow) (q : Plan) → By rs q
+        → By (row17 l n ∷ rs) (orNo (isProtected i (fileAt l i)) q)
+    by-protected n i e rs q k =
+        subst (λ (r : SlotRow). By (r ∷ rs) (orNo (isProtected i (fileAt l i)) q)) (sym (row17-is l n i e))
+        (by-test 17 (suc i) (protected (fileAt l i .bytes)) rs q (λ z. k))
+
+    by-touch : (i : ℕ) (f : File) (o : ℕ) (y : List ℕ) → By (row20 room 1 ∷ []) (go (touch l i f o y))
+    by-touch i f o y = by-room (touch l i f o y) 1 (length-numbers (touch l i f o y))
+
+    -- ---- each change
+
+    by-save : (w : Wish) → By (changeRows (save w) l room) (planOf (save w) l)
+    unfolding changeRows planOf
+    by-save w =
+        by-else (row 12 0 (not (usable (w .name)))) (row 13 0 (not (carried (w .kind))) else test14 else nameTaken l (w .name)) _ rest
+        (by-test 12 0 (not (usable (w .name))) _ _
+        (λ a. by-else (row 13 0 (not (carried (w .kind)))) (test14 else nameTaken l (w .name)) _ rest
+        (by-test 13 0 (not (carried (w .kind))) _ _
+        (λ b. by-else test14 (nameTaken l (w .name)) _ rest
+        (subst (λ (t : Bool). By (row14 w ∷ rows16) (orNo (row 14 0 t) (orNo (nameTaken l (w .name)) rest))) (sym (outside-is (w .page) (w .offset)))
+        (by-test 14 0 (startOutside (w .page) (w .offset)) _ _ (λ c. by-taken (w .name) _ rest (by-slot (lowestSlot l) refl))))))))
+      where
+        test14 : Reply
+        test14 = row 14 0 (not (leb (w .page) 31 && between 32768 (w .offset) 49151))
+
+        many : ℕ
+        many = sectorsFor (length (w .body))
+
+        rows19 : List SlotRow
+        rows19 = row19 l w ∷ row20 room (many + 1) ∷ []
+
+        rows16 : List SlotRow
+        rows16 = row16 l (w .name) ∷ row18 l ∷ rows19
+
+        then : Option ℕ → Plan
+        then = held (no (refuse 18 0)) (λ i. orNo (row 19 0 (ltb (free (extra l) (slotsOf l)) many)) (go (saveSteps l i w (taken l w))))
+
+        rest : Plan
+        rest = then (lowestSlot l)
+
+        by-slot : (o : Option ℕ) → lowestSlot l ≡ o → By (row18 l ∷ rows19) (then o)
+        by-slot none e = here 18 0 (not (someFree l)) rows19 (ap not (none-free l e))
+        by-slot (some i) e =
+            later 18 0 (not (someFree l)) rows19 (settle d room (then (some i))) (ap not (some-free l i e))
+            (by-test 19 0 (ltb (free (extra l) (slotsOf l)) many) _ _
+            (λ a. by-room (saveSteps l i w (taken l w)) (many + 1)
+            (save-long l i w (taken l w) ∙ ap (λ (n : ℕ). n + 1) (taken-long l w (ltb-false (free (extra l) (slotsOf l)) many a)))))
+
+    by-erase : (n : List ℕ) → By (changeRows (erase n) l room) (planOf (erase n) l)
+    unfolding changeRows planOf
+    by-erase n =
+        by-test 12 0 (not (askable n)) _ _
+        (λ a. by-found n (λ i f. orNo (isProtected i f) (go (touch l i f 0 (0 ∷ [])))) _
+        (λ i e. by-protected n i e _ _ (by-touch i (fileAt l i) 0 (0 ∷ []))))
+
+    by-rename : (n new : List ℕ) → By (changeRows (rename n new) l room) (planOf (rename n new) l)
+    unfolding changeRows planOf
+    by-rename n new =
+        by-test 12 0 (not (askable n && usable new)) _ _
+        (λ a. by-found n (λ i f. orNo (nameTaken l new else isProtected i f) (go (touch l i f 1 (padded new)))) _
+        (λ i e. by-else (nameTaken l new) (isProtected i (fileAt l i)) _ (go (touch l i (fileAt l i) 1 (padded new)))
+        (by-taken new _ _ (by-protected n i e _ _ (by-touch i (fileAt l i) 1 (padded new))))))
+
+    by-mark : (m : Mark) (n : List ℕ) → By (changeRows (mark m n) l room) (planOf (mark m n) l)
+    unfolding changeRows planOf
+    by-mark m n =
+        by-test 12 0 (not (askable n)) _ _
+        (λ a. by-found n (λ i f. go (touch l i f 0 (marked m (getD (f .bytes) 0 0) ∷ []))) _ (λ i e. by-touch i (fileAt l i) 0 _))
+
+    settled : (c : Change) → By (changeRows c l room) (planOf c l)
+    settled (save w) = by-save w
+    settled (erase n) = by-erase n
+    settled (rename n new) = by-rename n new
+    settled (mark m n) = by-mark m n
+
+-- ---- refused exactly when, accepted exactly when
+
+module _ (c : Change) (d : List ℕ) (room : ℕ) where
+  passed : checkDisk d ≡ none → Settled (changeRows c (look d) room) (run c d room)
+  unfolding run
+  passed e = subst (λ (r : Reply). Settled (changeRows c (look d) room) (checked r (settle d room (planOf c (look d))))) (sym e) (settled d room (look d) c)
+
+  barred : (r : Refusal) → checkDisk d ≡ some r → run c d room ≡ stopped r
+  unfolding run
+  barred r e = ap (λ (q : Reply). checked q (settle d room (planOf c (look d)))) e
+
+  run-refuses : (r : Refusal) → run c d room ≡ stopped r → Refuses c d room r
+  run-refuses r e = by (checkDisk d) refl
+    where
+      at : checkDisk d ≡ none → Settled (changeRows c (look d) room) (run c d room) → Refuses c d room r
+      at q (stops s f w) = let z : s ≡ r = cc in by-row q (subst (λ (x : Refusal). FirstOf x (changeRows c (look d) room)) z f)
+      at q (goes a new ss w) = let z : _≡_ {A = ℕ} 0 1 = cc in absurd (omega arith)
+
+      by : (o : Reply) → checkDisk d ≡ o → Refuses c d room r
+      by none q = at q (passed q)
+      by (some s) q = let w : run c d room ≡ stopped s = barred s q in let z : s ≡ r = cc in by-check (q ∙ ap some z)
+
+  refuses-run : (r : Refusal) → Refuses c d room r → run c d room ≡ stopped r
+  refuses-run r (by-check e) = barred r e
+  refuses-run r (by-row e f) = at (passed e)
+    where
+      at : Settled (changeRows c (look d) room) (run c d room) → run c d room ≡ stopped r
+      at (stops s g w) = w ∙ ap stopped (first-same (changeRows c (look d) room) s r g f)
+      at (goes a new ss w) = absurd (first-none (changeRows c (look d) room) r f a)
+
+  run-passes : Accepts c d room → Passes c d room
+  run-passes a = by (checkDisk d) refl
+    where
+      at : checkDisk d ≡ none → Settled (changeRows c (look d) room) (run c d room) → Passes c d room
+      at q (stops s f w) = let g = a .gives in let z : _≡_ {A = ℕ} 0 1 = cc in absurd (omega arith)
+      at q (goes b new ss w) = record { disk = q; rows = b }
+
+      by : (o : Reply) → checkDisk d ≡ o → Passes c d room
+      by none q = at q (passed q)
+      by (some s) q = let w : run c d room ≡ stopped s = barred s q in let g = a .gives in let z : _≡_ {A = ℕ} 0 1 = cc in absurd (omega arith)
+
+  passes-run : Passes c d room → Accepts c d room
+  passes-run p = at (passed (p .disk))
+    where
+      at : Settled (changeRows c (look d) room) (run c d room) → Accepts c d room
+      at (stops s f w) = absurd (first-none (changeRows c (look d) room) s f (p .rows))
+      at (goes b new ss w) = record { new = new; sectors = ss; gives = w }
+
+  pub refused-exactly : (r : Refusal) → (run c d room ≡ stopped r) ↔ Refuses c d room r
+  refused-exactly r = (run-refuses r, refuses-run r)
+
+  pub accepted-exactly : Accepts c d room ↔ Passes c d room
+  accepted-exactly = (run-passes, passes-run)
+
+-- the same of the call: its outcome is a refusal exactly then
+pub change-refused : (c : Change) (d buf : List ℕ) (r : Refusal) → (change c d buf .outcome ≡ refused r) ↔ Refuses c d (length buf) r
+unfolding change
+change-refused c d buf r = (
+  λ e. refused-exactly c d (length buf) r .0 (by (run c d (length buf)) e),
+  λ w. ap (λ (x : Result). changedBy x d buf .outcome) (refused-exactly c d (length buf) r .1 w),
+)
+  where
+    by : (x : Result) → changedBy x d buf .outcome ≡ refused r → x ≡ stopped r
+    by (stopped s) w = let z : s ≡ r = cc in ap stopped z
+    by (made new ss) w = cc
