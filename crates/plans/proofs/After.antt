@@ -7,8 +7,9 @@ use mathlib.Core.Logic.{_⊎_, inl, inr, ⊎-elim}
 use mathlib.Core.Option.{Option, none, some, Option·some-ne-none, Option·some-injective}
 use native.Mathlib.Decide.{ℕ-discrete}
 use native.Mathlib.Omega.{arith}
-use borrow.Author.Tests.{eq-eqb, ne-eqb}
+use borrow.Author.Tests.{eq-eqb, ne-eqb, eqb-true, eqb-false}
 use lib.Dec.{eqb}
+use lib.Seq.{ext-getD}
 use lib.ListN.{length, getD}
 use Rattle.buffers.specs.Bytes.{tab, put}
 use Rattle.buffers.proofs.Lists.{below-or-not, length-put, part-at, put-in, put-before, put-after}
@@ -48,7 +49,8 @@ use Rattle.plans.proofs.Frame.{slots-some, upd-same, upd-other, slots-s
 use Rattle.plans.proofs.Kept.{sound-apart, sound-long, usable-is}
 use Rattle.plans.proofs.Sure.{Named}
 use Rattle.plans.proofs.Effect.{Touched, erasing, marking, Unprotected, Renamable, erased, marked-so, renamed}
-use Rattle.plans.proofs.Others.{Alike, alike-same, same-answers, Unnamed, find-upd, file-other, SameAnswers, first-name, name-put, erase-accepted, mark-accepted, rename-accepted}
+use Rattle.plans.proofs.Demand3.{change-accepted}
+use Rattle.plans.proofs.Others.{Alike, alike-same, same-answers, Unnamed, find-upd, file-other, SameAnswers, first-name, name-put}
 
 sound-disk : (d : List ℕ) → checkDisk d ≡ none → Sound (look d)
 unfolding checkDisk
@@ -317,6 +319,11 @@ pub record AfterRename (d n to new : List ℕ) : Type 0 where
 -- ---- hide, show, protect, release
 
 -- one byte changes, in one bit
+-- the first byte of the slot found, on the disk
+first-here : (d n : List ℕ) (i : ℕ) (f : File) → Named d n i f → getD (f .bytes) 0 0 ≡ getD d (slotAt i) 0
+first-here d n i f w =
+    ap (λ (s : List ℕ). getD s 0 0) (sym (holds d i f (w .here) .bytes)) ∙ part-at (slotAt i) 256 d 0 (omega arith) ∙ ap (λ (k : ℕ). getD d k 0) (omega arith)
+
 pub record AfterMark (k : Mark) (d n new : List ℕ) : Type 0 where
   pub slot : ℕ
   pub file : File
@@ -352,7 +359,7 @@ module _ (d : List ℕ) (ok : checkDisk d ≡ none) (room : ℕ) (new ss : List 
         byte = ap (λ (k : ℕ). getD new k 0) (omega arith) ∙ byte-put d n 0 erasing Unprotected new ss t old-sound 0 (omega arith) (omega arith);
         bytes = byte-kept d n 0 erasing Unprotected new ss t refl refl;
         empty = rw z (upd-same (look d) (t .slot) none);
-        gone = gone-by new n (erase-accepted d ok room new ss n e) (t .askable-name)
+        gone = gone-by new n (change-accepted (erase n) d room new ss ok e) (t .askable-name)
             (rw z (found-none (look d) old-sound n (t .slot) (t .file) (t .found .below) (t .found .here) (t .found .name) none (λ f p q. Option·some-ne-none f (sym p))));
         freed = rw z (freed-bit (look d) old-sound (t .slot) (t .file) (t .found .below) (t .found .here));
         more = rw (← look-slots new, ← look-slots d, z) (freed-count (look d) old-sound (t .slot) (t .file) (t .found .below) (t .found .here));
@@ -372,7 +379,7 @@ module _ (d : List ℕ) (ok : checkDisk d ≡ none) (room : ℕ) (new ss : List 
       let here : look new .files (t .slot) ≡ some g = swap-here d new (t .slot) f g (t .found .here) z in
       let a : Alike g f = alike-by f (g .bytes) (ap (λ (x : ℕ). x % 64) (put-before (f .bytes) 1 (padded to) 0 (omega arith)))
       (λ j h. put-after (f .bytes) 1 (padded to) j (omega (arith, u .1))) in
-      let now : checkDisk new ≡ none = rename-accepted d ok room new ss n to e in
+      let now : checkDisk new ≡ none = change-accepted (rename n to) d room new ss ok e in
       let other : padded to ≡ padded n → ⊥ = λ q.
       find-none (slotsOf (look d)) to (t .also .fresh) (t .slot) (t .found .below) (f .bytes) (slots-some (look d) (t .slot) f (t .found .here)) (t .found .name ∙ sym q) in
       record {
@@ -413,13 +420,32 @@ module _ (d : List ℕ) (ok : checkDisk d ≡ none) (room : ℕ) (new ss : List 
         long = long-kept d n 0 (marking k) (λ f. Unit {0}) new ss t;
         byte = ap (λ (k : ℕ). getD new k 0) (omega arith) ∙ byte-put d n 0 (marking k) (λ f. Unit {0}) new ss t old-sound 0 (omega arith) (omega arith)
             ∙ ap (marked k)
-            (ap (λ (s : List ℕ). getD s 0 0) (sym (holds d (t .slot) f (t .found .here) .bytes)) ∙ part-at (slotAt (t .slot)) 256 d 0 (omega arith)
-            ∙ ap (λ (k : ℕ). getD d k 0) (omega arith));
+            (first-here d n (t .slot) f (t .found));
         bytes = byte-kept d n 0 (marking k) (λ f. Unit {0}) new ss t refl refl;
         now = record { below = t .found .below; here = swap-here d new (t .slot) f g (t .found .here) z; name = named ∙ t .found .name };
         hides = ap (λ (x : ℕ). eqb (x / 128 % 2) 1) b ∙ hidden-bit k x;
         protects = ap (λ (x : ℕ). eqb (x / 64 % 2) 1) b ∙ protected-bit k x;
         kind = kept;
         answers = λ m.
-            swap-answers d new (t .slot) f g (t .found .here) z a ok (mark-accepted d ok room new ss k n e) m m refl (swap-find d new (t .slot) f g (t .found .here) z named m);
+            swap-answers d new (t .slot) f g (t .found .here) z a ok (change-accepted (mark k n) d room new ss ok e) m m refl (swap-find d new (t .slot) f g (t .found .here) z named m);
       }
+
+-- "where it is so already the call is accepted": then a byte is what the mark makes of it
+marked-already : (k : Mark) (x : ℕ) → x < 256 → hiddenBy k (eqb (x / 128 % 2) 1) ≡ eqb (x / 128 % 2) 1
+    → protectedBy k (eqb (x / 64 % 2) 1) ≡ eqb (x / 64 % 2) 1 → marked k x ≡ x
+marked-already hide x h p q = let z = eqb-true (x / 128 % 2) 1 (sym p) in omega arith
+marked-already show x h p q = let z = eqb-false (x / 128 % 2) 1 (sym p) in omega arith
+marked-already protect x h p q = let z = eqb-true (x / 64 % 2) 1 (sym q) in omega arith
+marked-already release x h p q = let z = eqb-false (x / 64 % 2) 1 (sym q) in omega arith
+
+-- and the disk stays as it is
+pub mark-already : (k : Mark) (d n new : List ℕ) → (t : AfterMark k d n new) → getD d (slotAt (t .slot)) 0 < 256
+    → hiddenBy k (hidden (t .file .bytes)) ≡ hidden (t .file .bytes) → protectedBy k (protected (t .file .bytes)) ≡ protected (t .file .bytes) → new ≡ d
+mark-already k d n new t h p q = ext-getD 0 new d (t .long) (λ j u. by j (ℕ-discrete j (slotAt (t .slot))))
+  where
+    e : getD (t .file .bytes) 0 0 ≡ getD d (slotAt (t .slot)) 0
+    e = first-here d n (t .slot) (t .file) (t .found)
+
+    by : (j : ℕ) → Dec (j ≡ slotAt (t .slot)) → getD new j 0 ≡ getD d j 0
+    by j (yes z) = ap (λ (j : ℕ). getD new j 0) z ∙ t .byte ∙ ap (marked k) (sym e) ∙ marked-already k (getD (t .file .bytes) 0 0) (rw e h) p q ∙ e ∙ ap (λ (j : ℕ). getD d j 0) (sym z)
+    by j (no z) = t .bytes j z

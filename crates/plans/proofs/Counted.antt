@@ -1,10 +1,10 @@
 -- The listing after a save: one file more, its entry, and as many free sectors fewer as the save takes.
-use Prim.Native.Nat.{ℕ, zero, suc, _+_, _-_, _≤_, _<_}
+use Prim.Native.Nat.{ℕ, zero, suc, _+_, _-_, _<_}
 use mathlib.Core.Path.{_≡_, refl, sym, ap, ap₂, _∙_}
 use mathlib.Core.Bool.{Bool, true, false, cond, not, _&&_, _||_, true≢false, false≢true}
 use mathlib.Core.List.{List}
 use mathlib.Core.Logic.{⊎-elim}
-use mathlib.Core.Option.{Option, none, some}
+use mathlib.Core.Option.{none, some}
 use native.Mathlib.Nat.{eq-or-lt-of-le, le-of-suc-le-suc, not-suc-le-zero}
 use native.Mathlib.Omega.{arith}
 use borrow.Author.Tests.{eqb-true, eqb-false}
@@ -16,7 +16,7 @@ use Rattle.maps.specs.Bits.{has, bitsOf}
 use Rattle.slots.specs.Slot.{mapOf}
 use Rattle.chains.specs.File.{File}
 use Rattle.directory.specs.Places.{slots, dataBit}
-use Rattle.directory.specs.Directory.{held, Directory}
+use Rattle.directory.specs.Directory.{held}
 use Rattle.directory.specs.Survey.{union, free}
 use Rattle.directory.proofs.Union.{has-union}
 use Rattle.disk.specs.Look.{Look, look, slotsOf, extra}
@@ -24,7 +24,7 @@ use Rattle.disk.specs.Check.{checkDisk}
 use Rattle.files.specs.Calls.{liveAmong}
 use Rattle.steps.specs.Sectors.{listed}
 use Rattle.plans.specs.Change.{Wish, save}
-use Rattle.plans.specs.Saving.{sectorsFor, passing, freeBit, mapWith, newSlot}
+use Rattle.plans.specs.Saving.{sectorsFor, freeBit, mapWith, newSlot}
 use Rattle.plans.specs.Plan.{upd, made, run}
 use Rattle.plans.proofs.Frame.{slots-same, slots-other, extra-upd}
 use Rattle.plans.proofs.Free.{Run, run-listed, passing-long, free-long}

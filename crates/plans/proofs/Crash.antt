@@ -3,30 +3,29 @@ use Prim.Native.Nat.{ℕ, _≤_, _<_}
 use mathlib.Core.Path.{_≡_, refl, sym, ap, _∙_, subst}
 use mathlib.Core.Bool.{Bool, true, false, cond}
 use mathlib.Core.List.{List, []}
-use mathlib.Core.Logic.{_⊎_, inl, inr, ⊎-elim}
-use mathlib.Core.Option.{Option, none, some}
+use mathlib.Core.Logic.{_⊎_, ⊎-elim}
+use mathlib.Core.Option.{none, some}
 use native.Mathlib.Nat.{eq-or-lt-of-le}
 use native.Mathlib.Omega.{arith}
 use lib.Dec.{ltb}
 use lib.ListN.{length, take}
 use lib.Seq.{take-length}
-use Rattle.refusals.specs.Order.{Refusal, refuse, Reply}
+use Rattle.refusals.specs.Order.{refuse, Reply}
 use Rattle.maps.specs.Bits.{has}
 use Rattle.slots.specs.Slot.{mapOf}
-use Rattle.chains.specs.File.{File, sectorAt}
-use Rattle.directory.specs.Places.{slotBytes}
+use Rattle.chains.specs.File.{File}
 use Rattle.disk.specs.Look.{Look, look}
-use Rattle.disk.specs.Check.{checkLook, checkDisk}
+use Rattle.disk.specs.Check.{checkDisk}
 use Rattle.disk.specs.Sound.{Sound}
 use Rattle.disk.proofs.Sound.{sound, sound-only}
 use Rattle.files.specs.Calls.{listLook, readLook, startLook}
-use Rattle.steps.specs.Sectors.{sector, listed, Once, cut}
+use Rattle.steps.specs.Sectors.{Once, cut}
 use Rattle.steps.specs.Steps.{Step, enact, numbers, commits, lastOf, Goes}
 use Rattle.steps.proofs.Steps.{length-numbers, goes-long, goes-other, Cut, cut-sees, cut-whole}
 use Rattle.plans.specs.Change.{Change}
-use Rattle.plans.specs.Plan.{Plan, no, go, plan, Result, stopped, made, settle, checked, run, finds}
+use Rattle.plans.specs.Plan.{Plan, no, go, plan, stopped, made, settle, checked, run, finds}
 use Rattle.plans.specs.Safe.{Safe}
-use Rattle.plans.proofs.Frame.{Holds, holds, holds-sector}
+use Rattle.plans.proofs.Frame.{holds, holds-sector}
 
 -- the steps of a change: they do what they say, no sector twice; quiet but for the last; no file but those found is other after it
 pub record Sure (c : Change) (d : List ℕ) (sts : List (Step Look)) : Type 0 where

@@ -1,9 +1,9 @@
 -- Demand 3: one theorem over every accepted disk, every accepted change with its whole list, and every cut.
-use Prim.Native.Nat.{ℕ, _+_, _≤_, _<_}
+use Prim.Native.Nat.{ℕ, _≤_}
 use mathlib.Core.Path.{_≡_, refl, sym, ap, _∙_, subst, subst₂}
 use mathlib.Core.Bool.{Bool, true, false, cond}
 use mathlib.Core.List.{List}
-use mathlib.Core.Option.{Option, none, some}
+use mathlib.Core.Option.{none, some}
 use native.Mathlib.Omega.{arith}
 use borrow.Author.Tests.{ltb-false}
 use lib.Dec.{ltb}
@@ -15,7 +15,6 @@ use Rattle.refusals.specs.Answers.{done}
 use Rattle.steps.specs.Steps.{enact, numbers}
 use Rattle.disk.specs.Look.{look}
 use Rattle.disk.specs.Check.{checkDisk}
-use Rattle.disk.specs.Sound.{Sound}
 use Rattle.disk.proofs.Sound.{sound}
 use Rattle.plans.specs.Change.{Change}
 use Rattle.plans.specs.Plan.{Plan, no, go, plan, Result, stopped, made, settle, checked, run, changedBy, change, finds}
@@ -28,6 +27,12 @@ unfolding checkDisk
 crash c old room new ss ok e =
     let m = run-made c old room new ss ok e in
     subst₂ (Safe (finds c) old) (m .disk) (m .named) (crash-of c old ok (m .steps) (sure c old (m .steps) (sound (look old) ok) (m .planned)))
+
+-- the disk that an accepted change leaves is accepted
+pub change-accepted : (c : Change) (d : List ℕ) (room : ℕ) (new ss : List ℕ) → checkDisk d ≡ none → run c d room ≡ made new ss → checkDisk new ≡ none
+change-accepted c d room new ss ok e =
+    let s = crash c d room new ss ok e in
+    ap checkDisk (sym (s .whole)) ∙ s .accepts (length ss) (omega arith)
 
 -- ---- the same in the words of the contracts: image and list at return, and the number answered
 

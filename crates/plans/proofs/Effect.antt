@@ -1,13 +1,12 @@
 -- What an accepted change has done: the slot it found or took, the disk it made, and what is seen of it.
-use Prim.Native.Nat.{ℕ, suc, _+_, _≤_, _<_}
-use mathlib.Core.Path.{_≡_, refl, sym, ap, _∙_, subst}
-use mathlib.Core.Bool.{Bool, true, false, not, _&&_}
-use mathlib.Core.List.{List, [], _∷_, _++_}
-use mathlib.Core.Option.{Option, none, some}
-use native.Mathlib.Omega.{arith}
-use lib.ListN.{length, getD}
+use Prim.Native.Nat.{ℕ, suc, _+_}
+use mathlib.Core.Path.{_≡_, sym, ap, _∙_}
+use mathlib.Core.Bool.{true, false, not, _&&_}
+use mathlib.Core.List.{List, [], _∷_}
+use mathlib.Core.Option.{none}
+use lib.ListN.{getD}
 use Rattle.buffers.specs.Bytes.{put}
-use Rattle.refusals.specs.Order.{Reply, _else_, row}
+use Rattle.refusals.specs.Order.{_else_, row}
 use Rattle.refusals.proofs.First.{else-none}
 use Rattle.slots.specs.Slot.{protected}
 use Rattle.slots.specs.Name.{askable, padded}
@@ -23,9 +22,9 @@ use Rattle.files.specs.Calls.{fileAt}
 use Rattle.steps.specs.Steps.{Step, putAll, enact, numbers, commits, lastOf}
 use Rattle.steps.proofs.Steps.{goes-look}
 use Rattle.plans.specs.Change.{Mark, Change, erase, rename, mark, marked, usable}
-use Rattle.plans.specs.Plan.{upd, entryOf, touch, go, orNo, byName, nameTaken, isProtected, planOf, plan, made, run}
+use Rattle.plans.specs.Plan.{upd, entryOf, touch, go, orNo, byName, nameTaken, isProtected, planOf, made, run}
 use Rattle.plans.proofs.Crash.{Made, run-made, Sure}
-use Rattle.plans.proofs.Sure.{Named, or-none, row-none, not-none, taken-none, at-name, go-is, sure-erase, sure-mark, sure-rename}
+use Rattle.plans.proofs.Sure.{Named, or-none, row-none, not-none, taken-none, at-name, sure-erase, sure-mark, sure-rename}
 
 -- a change of bytes y at place o of the slot that has the name, and what else was tested of it
 pub record Touched (d n : List ℕ) (o : ℕ) (y : File → List ℕ) (Also : File → Type 0) (new ss : List ℕ) : Type 0 where

@@ -6,10 +6,11 @@ pub mod Saved
 pub mod Crash
 pub mod Sure
 pub mod Effect
-pub mod Others
-pub mod After
-pub mod Refused
-pub mod Exactly
 pub mod Demand3
 pub mod ReadBack
 pub mod Counted
+pub mod Others
+pub mod After
+pub mod Stays
+pub mod Refused
+pub mod Exactly

@@ -1,6 +1,6 @@
 -- Every other file stays: each name that a changed slot had not and has not gets the whole answers it got before.
 use Prim.Native.Nat.{ℕ, suc, _≤_}
-use mathlib.Core.Path.{_≡_, refl, sym, ap, ap₂, _∙_, subst}
+use mathlib.Core.Path.{_≡_, refl, sym, ap, ap₂, _∙_}
 use mathlib.Core.Bool.{Bool, true, false, cond, not}
 use mathlib.Core.List.{List, [], _∷_}
 use mathlib.Core.Option.{Option, none, some, Option·some-ne-none, Option·some-injective}
@@ -26,16 +26,14 @@ use Rattle.disk.specs.Look.{Look, look, slotsOf}
 use Rattle.disk.specs.Check.{checkLook, checkDisk}
 use Rattle.disk.specs.Sound.{Sound}
 use Rattle.disk.proofs.Look.{look-slots}
-use Rattle.disk.proofs.Sound.{sound, sound-only}
+use Rattle.disk.proofs.Sound.{sound}
 use Rattle.files.specs.Calls.{noFile, fileAt, fileNamed, notCarried, outOfRange, readReply, readLook, startReply, startOf, startLook, reading, starting}
-use Rattle.steps.specs.Steps.{enact}
-use Rattle.steps.proofs.Steps.{goes-ok}
-use Rattle.plans.specs.Change.{Mark, Change, erase, rename, mark, marked}
+use Rattle.plans.specs.Change.{Mark, erase, rename, mark, marked}
 use Rattle.plans.specs.Plan.{upd, entryOf, made, run}
 use Rattle.plans.proofs.Frame.{upd-other, slots-same, slots-other, entry-is, holds-long}
 use Rattle.plans.proofs.Kept.{sound-long, usable-is}
-use Rattle.plans.proofs.Crash.{Made, run-made, Sure}
-use Rattle.plans.proofs.Sure.{Named, sure-erase, sure-mark, sure-rename}
+use Rattle.plans.proofs.Sure.{Named}
+use Rattle.plans.proofs.Demand3.{change-accepted}
 use Rattle.plans.proofs.Effect.{Touched, erasing, marking, Unprotected, Renamable, erased, marked-so, renamed}
 
 -- ---- what the answers hang on
@@ -182,13 +180,6 @@ module _ (d new : List ℕ) (i : ℕ) (o : Option File) (e : look new ≡ upd (l
 
 -- ---- each change
 
--- the disk that an accepted change leaves is accepted
-pub made-accepted : (c : Change) (d new ss : List ℕ) → checkDisk d ≡ none → (m : Made c d new ss) → Sure c d (m .steps) → checkDisk new ≡ none
-unfolding checkDisk
-made-accepted c d new ss ok m w =
-    subst (λ (x : List ℕ). checkLook (look x) ≡ none) (m .disk)
-    (sound-only (look (enact d (m .steps))) (goes-ok look Sound (m .steps) d (w .goes) (sound (look d) ok)))
-
 -- the file in the slot that a change finds has the name it asks for, and no other
 pub found-unnamed : (d n : List ℕ) (i : ℕ) (f : File) → Named d n i f → (m : List ℕ) → (padded m ≡ padded n → ⊥) → Unnamed m (look d .files i)
 found-unnamed d n i f w m u g e q =
@@ -223,31 +214,16 @@ module _ (d : List ℕ) (ok : checkDisk d ≡ none) (room : ℕ) (new ss : List 
   unfolding checkDisk
   old-sound = sound (look d) ok
 
-  pub erase-accepted : (n : List ℕ) → run (erase n) d room ≡ made new ss → checkDisk new ≡ none
-  erase-accepted n e =
-      let m = run-made (erase n) d room new ss ok e in
-      made-accepted (erase n) d new ss ok m (sure-erase d old-sound (m .steps) n (m .planned))
-
-  pub mark-accepted : (k : Mark) (n : List ℕ) → run (mark k n) d room ≡ made new ss → checkDisk new ≡ none
-  mark-accepted k n e =
-      let m = run-made (mark k n) d room new ss ok e in
-      made-accepted (mark k n) d new ss ok m (sure-mark d old-sound (m .steps) k n (m .planned))
-
-  pub rename-accepted : (n to : List ℕ) → run (rename n to) d room ≡ made new ss → checkDisk new ≡ none
-  rename-accepted n to e =
-      let m = run-made (rename n to) d room new ss ok e in
-      made-accepted (rename n to) d new ss ok m (sure-rename d old-sound (m .steps) n to (m .planned))
-
   -- "for every name but those the change names": the one of an erase or a mark
   pub erase-others : (n : List ℕ) → run (erase n) d room ≡ made new ss → (m : List ℕ) → (padded m ≡ padded n → ⊥) → SameAnswers new m d m
   erase-others n e m u =
       let t = erased d ok room new ss n e in
-      touched-others d n 0 erasing Unprotected new ss ok (erase-accepted n e) t m u (λ q. u (sym q ∙ first-name (t .file .bytes) 0 ∙ t .found .name))
+      touched-others d n 0 erasing Unprotected new ss ok (change-accepted (erase n) d room new ss ok e) t m u (λ q. u (sym q ∙ first-name (t .file .bytes) 0 ∙ t .found .name))
 
   pub mark-others : (k : Mark) (n : List ℕ) → run (mark k n) d room ≡ made new ss → (m : List ℕ) → (padded m ≡ padded n → ⊥) → SameAnswers new m d m
   mark-others k n e m u =
       let t = marked-so d ok room new ss k n e in
-      touched-others d n 0 (marking k) (λ f. Unit {0}) new ss ok (mark-accepted k n e) t m u
+      touched-others d n 0 (marking k) (λ f. Unit {0}) new ss ok (change-accepted (mark k n) d room new ss ok e) t m u
       (λ q. u (sym q ∙ first-name (t .file .bytes) (marked k (getD (t .file .bytes) 0 0)) ∙ t .found .name))
 
   -- the two of a rename
@@ -256,5 +232,5 @@ module _ (d : List ℕ) (ok : checkDisk d ≡ none) (room : ℕ) (new ss : List 
   rename-others n to e m u v =
       let t = renamed d ok room new ss n to e in
       let l = holds-long d (t .slot) (t .file) (t .found .here) (sound-long d old-sound) in
-      touched-others d n 1 (λ f. padded to) (Renamable d to) new ss ok (rename-accepted n to e) t m u
+      touched-others d n 1 (λ f. padded to) (Renamable d to) new ss ok (change-accepted (rename n to) d room new ss ok e) t m u
       (λ q. v (sym q ∙ name-put (t .file .bytes) (padded to) (usable-is to (t .also .usable-name) .1) (omega arith)))

@@ -1,9 +1,9 @@
 -- Reading back: after an accepted save the name reads the body, byte for byte, and gives the start address asked for.
-use Prim.Native.Nat.{ℕ, suc, _+_, _-_, _≤_, _<_}
+use Prim.Native.Nat.{ℕ, suc, _+_, _-_, _≤_}
 use mathlib.Core.Path.{_≡_, refl, sym, ap, ap₂, _∙_, subst}
-use mathlib.Core.Bool.{Bool, true, false, not, _&&_}
+use mathlib.Core.Bool.{true, _&&_}
 use mathlib.Core.List.{List, [], _∷_, _++_, map}
-use mathlib.Core.Option.{Option, none, some}
+use mathlib.Core.Option.{none, some}
 use native.Mathlib.Omega.{arith}
 use borrow.Author.Tests.{le-ltb, leb-true}
 use lib.Dec.{leb, ltb}
@@ -11,35 +11,33 @@ use lib.ListN.{length}
 use Rattle.buffers.specs.Bytes.{put}
 use Rattle.geometry.specs.Disk.{bitNumber}
 use Rattle.refusals.specs.Order.{Reply, _else_, row}
-use Rattle.refusals.specs.Answers.{Out, out, done, unless}
+use Rattle.refusals.specs.Answers.{out, done}
 use Rattle.slots.specs.Slot.{kindOf, nameOf, carried, facts, lengthOf, pageOf, offsetOf}
 use Rattle.slots.specs.Name.{askable, padded}
 use Rattle.chains.specs.File.{File}
 use Rattle.chains.specs.Chain.{body}
-use Rattle.directory.specs.Places.{slots, dirSector}
-use Rattle.directory.specs.Directory.{held, Directory}
+use Rattle.directory.specs.Places.{dirSector}
+use Rattle.directory.specs.Directory.{held}
 use Rattle.directory.specs.Find.{find}
-use Rattle.directory.proofs.Search.{FoundBy, some-find, find-none}
+use Rattle.directory.proofs.Search.{some-find, find-none}
 use Rattle.disk.specs.Look.{Look, look, slotsOf}
 use Rattle.disk.specs.Check.{checkLook, checkDisk}
-use Rattle.disk.specs.Sound.{Sound}
 use Rattle.disk.proofs.Rows.{and-both, is-carried}
 use Rattle.disk.proofs.Sound.{sound}
 use Rattle.files.specs.Calls.{noFile, fileAt, fileNamed, named, notCarried, outOfRange, readReply, readLook, reading, startReply, startLook, starting, startOf, address}
-use Rattle.steps.specs.Steps.{Step, enact, numbers, commits, lastOf}
+use Rattle.steps.specs.Steps.{enact, numbers}
 use Rattle.steps.proofs.Steps.{numbers-append}
 use Rattle.plans.specs.Change.{Wish, save, usable, between}
-use Rattle.plans.specs.Saving.{freeBit, taken, lowestSlot, stream, chained, newSlot}
-use Rattle.plans.specs.Plan.{upd, dataSteps, saveSteps, slotStep, entryOf, go, made, run}
-use Rattle.plans.specs.Safe.{Safe}
+use Rattle.plans.specs.Saving.{freeBit, taken, stream, chained, newSlot}
+use Rattle.plans.specs.Plan.{upd, dataSteps, saveSteps, slotStep, entryOf, made, run}
 use Rattle.plans.proofs.Frame.{upd-same, slots-same, slots-other}
 use Rattle.plans.proofs.Kept.{usable-is}
 use Rattle.plans.proofs.Free.{LowestFree, lowest-slot}
 use Rattle.plans.proofs.NewFile.{newFile, Ready, taken-ready, name-is, kind-is, length-is, page-is, offset-is}
 use Rattle.plans.proofs.Saved.{data-numbers, save-look, reads-back}
-use Rattle.plans.proofs.Crash.{Made, run-made}
+use Rattle.plans.proofs.Crash.{run-made}
 use Rattle.plans.proofs.Sure.{saves}
-use Rattle.plans.proofs.Demand3.{crash}
+use Rattle.plans.proofs.Demand3.{change-accepted}
 
 -- ---- a call by name, where the slot is known
 
@@ -120,15 +118,9 @@ module _ (d : List ℕ) (ok : checkDisk d ≡ none) (room : ℕ) (w : Wish) (new
   abbrev saved : File
   saved = newFile (look d) (k .slot) w (k .bits)
 
-  -- the new disk is accepted
-  pub saved-accepted : checkDisk new ≡ none
-  saved-accepted =
-      let s = crash (save w) d room new ss ok e in
-      ap checkDisk (sym (s .whole)) ∙ s .accepts (length ss) (omega arith)
-
   accepted : checkLook l ≡ none
   unfolding checkDisk
-  accepted = ap checkLook (sym (k .seen)) ∙ saved-accepted
+  accepted = ap checkLook (sym (k .seen)) ∙ change-accepted (save w) d room new ss ok e
 
   kind-range : (16 ≤ w .kind) × (w .kind ≤ 20)
   kind-range = k .ready .kind

@@ -9,14 +9,14 @@ use borrow.Author.Tests.{ltb-false}
 use lib.Dec.{leb, ltb}
 use lib.ListN.{length, getD}
 use Rattle.buffers.specs.Bytes.{put}
-use Rattle.refusals.specs.Order.{Refusal, refuse, Reply, _else_, row}
+use Rattle.refusals.specs.Order.{refuse, Reply, _else_, row}
 use Rattle.refusals.proofs.First.{else-none}
-use Rattle.slots.specs.Slot.{nameOf, protected, carried}
+use Rattle.slots.specs.Slot.{nameOf, carried}
 use Rattle.slots.specs.Name.{sameName, askable, padded}
 use Rattle.slots.proofs.Names.{same-refl}
 use Rattle.chains.specs.File.{File}
 use Rattle.directory.specs.Places.{slots}
-use Rattle.directory.specs.Directory.{held, Directory}
+use Rattle.directory.specs.Directory.{held}
 use Rattle.directory.specs.Survey.{free}
 use Rattle.directory.specs.Find.{find}
 use Rattle.directory.proofs.Search.{FoundBy, find-some}
@@ -29,7 +29,7 @@ use Rattle.steps.specs.Steps.{Step, numbers, commits, lastOf, Does, Goes}
 use Rattle.steps.proofs.Steps.{commits-append, quiet-take}
 use Rattle.plans.specs.Change.{Wish, Mark, Change, save, erase, rename, mark, marked, between, usable}
 use Rattle.plans.specs.Saving.{sectorsFor, freeBit, taken, lowestSlot, stream, chained, newSlot}
-use Rattle.plans.specs.Plan.{upd, entryOf, slotStep, touch, dataSteps, saveSteps, Plan, no, go, orNo, byName, nameTaken, isProtected, planOf, plan, finds}
+use Rattle.plans.specs.Plan.{entryOf, slotStep, touch, dataSteps, saveSteps, Plan, no, go, orNo, byName, nameTaken, isProtected, planOf, plan, finds}
 use Rattle.plans.proofs.Frame.{upd-other}
 use Rattle.plans.proofs.Kept.{erase-does, mark-does, rename-does}
 use Rattle.plans.proofs.Free.{lowest-slot}

@@ -1,6 +1,6 @@
 -- What each change refuses, and which steps it makes. The words of document 01 stand above what they define.
 use Prim.Native.Nat.{ℕ, suc, _+_}
-use mathlib.Core.Bool.{Bool, true, false, cond, not, _&&_}
+use mathlib.Core.Bool.{Bool, false, cond, not, _&&_}
 use mathlib.Core.List.{List, [], _∷_, _++_}
 use mathlib.Core.Option.{Option, none, some}
 use lib.Dec.{eqb, leb, ltb}
@@ -20,7 +20,7 @@ use Rattle.disk.specs.Look.{Look, look, slotsOf, extra}
 use Rattle.disk.specs.Check.{checkDisk}
 use Rattle.files.specs.Calls.{fileAt}
 use Rattle.steps.specs.Steps.{Put, Step, enact, numbers}
-use Rattle.plans.specs.Change.{Wish, Mark, Change, save, erase, rename, mark, marked, between, usable}
+use Rattle.plans.specs.Change.{Wish, Change, save, erase, rename, mark, marked, between, usable}
 use Rattle.plans.specs.Saving.{sectorsFor, taken, lowestSlot, stream, block, nextTrack, nextSector, chained, newSlot}
 
 -- ---- steps

@@ -389,7 +389,13 @@ fn loop_of_two(image: &mut [u8]) {
     set(image, 12, 4);
     set(image, 15, 51);
     changed(b"a loop of two sectors", image, 41982, 4, 1);
-    changed(b"a chain of four sectors that ends at three", image, 41982, 4, 5);
+    changed(
+        b"a chain of four sectors that ends at three",
+        image,
+        41982,
+        4,
+        5,
+    );
     set(image, 12, 2);
     set(image, 15, 3);
 }
@@ -479,7 +485,10 @@ fn raw<'a>(one: &'a [u8], two: &'a [u8], drive: usize, track: usize, sector: usi
     number(b"drive ", drive);
     number(b" track ", track);
     number(b" sector ", sector);
-    number(b": number ", drives::raw_refusal(one, two, drive, track, sector));
+    number(
+        b": number ",
+        drives::raw_refusal(one, two, drive, track, sector),
+    );
     let part = drives::raw_sector(one, two, drive, track, sector);
     number(b", bytes ", part.len());
     number(b", the first ", buffers::num_at(part, 0));
@@ -584,7 +593,10 @@ fn orders(image: &mut [u8]) {
 }
 
 fn lengths(image: &[u8]) {
-    wrong_length(b"an image one byte short", buffers::part_at(image, 0, 819199));
+    wrong_length(
+        b"an image one byte short",
+        buffers::part_at(image, 0, 819199),
+    );
     wrong_length(b"an image of no bytes", b"");
     longer();
 }
