@@ -13,4 +13,5 @@ pub mod Others
 pub mod After
 pub mod Stays
 pub mod Refused
+pub mod Asked
 pub mod Exactly

@@ -128,7 +128,7 @@ module _ (l : Look) where
   none-free e = none-any slots is-free (λ k h. let f = no-slot l e k h in ap (held true (λ s. false)) (slots-some l k (f .0) (f .1)))
 
 -- a start is in range exactly where it is not outside
-outside-is : (page offset : ℕ) → not (leb page 31 && between 32768 offset 49151) ≡ startOutside page offset
+pub outside-is : (page offset : ℕ) → not (leb page 31 && between 32768 offset 49151) ≡ startOutside page offset
 outside-is page offset = rw (flip page 31, flip 32768 offset, flip offset 49151) (by (ltb 31 page) (ltb offset 32768) (ltb 49151 offset))
   where
     at : (a b : ℕ) (t : Bool) → ltb b a ≡ t → leb a b ≡ not t

@@ -3,3 +3,4 @@ pub mod Saving
 pub mod Plan
 pub mod Safe
 pub mod Refused
+pub mod Asked

@@ -5,6 +5,7 @@ use mathlib.Core.List.{List, [], _∷_}
 use Rattle.geometry.specs.Disk.{bitOf, placeOf, bitPlace}
 use Rattle.directory.specs.Places.{slotAt}
 use Rattle.files.specs.Calls.{address}
+use Rattle.plans.specs.Saving.{sectorsFor}
 
 pub record Point : Type 0 where
   pub gives : ℕ
@@ -37,6 +38,12 @@ starred =
     ∷ (slotAt 19 says 4864)
     ∷ (slotAt 20 says 10240)
     ∷ (slotAt 79 says 35584)
+    -- "Sectors for bodies: 0 takes 1; 501 takes 1; 502 takes 2; 10,000 takes 20; 795,591 takes 1,560;"
+    ∷ (sectorsFor 0 says 1)
+    ∷ (sectorsFor 501 says 1)
+    ∷ (sectorsFor 502 says 2)
+    ∷ (sectorsFor 10000 says 20)
+    ∷ (sectorsFor 795591 says 1560)
     -- "Page 29, offset 32,768: 491,520."
     ∷ (address 29 32768 says 491520)
     ∷ []

@@ -7,7 +7,8 @@ use lib.Dec.{T, eqb, eqb→eq}
 use Rattle.geometry.specs.Disk.{isSector, isData, trackOf, bitOf, bitNumber}
 use Rattle.directory.specs.Places.{slotAt}
 use Rattle.files.specs.Calls.{address}
-use Rattle.points.specs.Starred.{Point, starred, Every}
+use Rattle.plans.specs.Saving.{sectorsFor}
+use Rattle.starred.specs.Starred.{Point, starred, Every}
 
 abbrev right : List Point → Bool
 right [] = true
@@ -24,5 +25,5 @@ each (p ∷ ps) t =
     (eqb→eq (p .gives) (p .says) (b .0), each ps (b .1))
 
 pub all : Every starred
-unfolding isSector isData trackOf bitOf bitNumber slotAt address
+unfolding isSector isData trackOf bitOf bitNumber slotAt address sectorsFor
 all = each starred tt
