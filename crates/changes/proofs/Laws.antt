@@ -1,0 +1,196 @@
+-- What a change by name comes to: refused before its slot is found, at that slot, or the bytes put there and one sector named.
+use Prim.Native.Nat.{ℕ, suc, _+_, _/_, _≤_, _<_}
+use mathlib.Core.Path.{_≡_, refl, sym, ap, _∙_}
+use mathlib.Core.Bool.{Bool, true, false, not, _&&_}
+use mathlib.Core.List.{List, [], _∷_}
+use mathlib.Core.Option.{Option, none, some}
+use native.Mathlib.Numerals.{add-one}
+use native.Mathlib.Omega.{arith}
+use borrow.Author.Tests.{lt-ltb, le-ltb}
+use lib.ListN.{length, getD, set}
+use Rattle.buffers.specs.Bytes.{put}
+use Rattle.buffers.proofs.Lists.{put-none, put-more}
+use Rattle.refusals.specs.Order.{Refusal, refuse, Reply, _else_, row}
+use Rattle.refusals.specs.Answers.{Outcome, done, refused}
+use Rattle.slots.specs.Slot.{protected}
+use Rattle.slots.specs.Name.{askable, padded}
+use Rattle.chains.specs.File.{File, fileOf}
+use Rattle.directory.specs.Places.{slots, slotAt, dirSector}
+use Rattle.directory.specs.Directory.{held, Directory, directory, slotOr}
+use Rattle.directory.specs.Find.{find}
+use Rattle.disk.specs.Look.{look, slotsOf}
+use Rattle.disk.specs.Check.{checkLook, checkDisk}
+use Rattle.disk.proofs.Look.{look-slots}
+use Rattle.files.specs.Calls.{barred, soughtBy, lookup, fileAt}
+use Rattle.files.proofs.Named.{Named, named-slot}
+use Rattle.steps.specs.Steps.{putAll, enact, numbers}
+use Rattle.plans.specs.Change.{Mark, Change, erase, rename, mark, marked, usable}
+use Rattle.plans.specs.Plan.{Plan, no, go, orNo, byName, nameTaken, isProtected, touch, planOf, plan, settle, checked, run, Changed, changed, changedBy, change}
+use Rattle.changes.specs.Settled.{settled, touching, unprotected, renaming, Holds}
+
+-- ---- one store in front of a list
+
+pub put-front : (l : List ℕ) (v : ℕ) → 1 ≤ length l → set l 0 v ≡ put l 0 (v ∷ [])
+put-front l v h = ap (λ (k : List ℕ). set k 0 v) (put-none l 0 (v ∷ [])) ∙ put-more l 0 (v ∷ []) 0 (omega arith) (omega arith)
+
+-- ---- a change is settled by its plan, once the disk is accepted
+
+module _ (c : Change) (d buf : List ℕ) where
+  pub change-unsound : (r : Refusal) → checkDisk d ≡ some r → changed (refused r) d buf ≡ change c d buf
+  unfolding change run
+  change-unsound r e = rw e
+
+  pub change-settled : checkDisk d ≡ none → settled (plan c d) d buf ≡ change c d buf
+  unfolding change run settled
+  change-settled e = rw e
+
+-- a plan that refuses
+pub settled-no : (d buf : List ℕ) (r : Refusal) (o : Outcome) → o ≡ refused r → changed o d buf ≡ settled (no r) d buf
+unfolding settled
+settled-no d buf r o e = ap (λ (o : Outcome). changed o d buf) e
+
+-- one plan for another
+pub settled-as : (d buf : List ℕ) (p q : Plan) → p ≡ q → (x : Changed) → x ≡ settled p d buf → x ≡ settled q d buf
+settled-as d buf p q e x w = w ∙ ap (λ (p : Plan). settled p d buf) e
+
+-- ---- bytes put into a slot
+
+-- its sector number fits the list
+pub sector-small : (i n : ℕ) → n ≡ dirSector i → i < slots → n < 65536
+unfolding dirSector
+sector-small i n e h = let q : i / 20 ≤ 3 = omega arith in omega arith
+
+module _ (d : List ℕ) (i o : ℕ) (y buf : List ℕ) where
+  pub touch-short : length buf < 1 → (a : Outcome) → a ≡ refused (refuse 20 0) → changed a d buf ≡ settled (touching d i o y) d buf
+  unfolding settled touching numbers
+  touch-short h a e = rw (e, lt-ltb (length buf) 1 h)
+
+  pub touch-done : 1 ≤ length buf → (d′ : List ℕ) → d′ ≡ put d (slotAt i + o) y → (n : ℕ) → n ≡ dirSector i → (buf′ : List ℕ) → buf′ ≡ put buf 0 (n ∷ [])
+      → changed (done 1 0) d′ buf′ ≡ settled (touching d i o y) d buf
+  unfolding settled touching numbers enact putAll
+  touch-done h d′ p n q buf′ s = rw (p, s, q, le-ltb (length buf) 1 h)
+
+-- ---- the slot that has the name
+
+pub named-holds : (d n : List ℕ) (i : ℕ) → Named d n i → Holds d i
+unfolding fileOf
+named-holds d n i w = let s = named-slot d n i w in record { below = s .below; bytes = ap (λ (f : File). f .bytes) (s .same) }
+
+-- 17, as the code meets it
+module _ (d : List ℕ) (i o : ℕ) (y : List ℕ) (w : Holds d i) (s : List ℕ) (e : s ≡ slotOr d i) where
+  protected-at : {t : Bool} → protected s ≡ t → protected (fileAt (look d) i .bytes) ≡ t
+  protected-at q = ap protected (w .bytes ∙ sym e) ∙ q
+
+  pub plan-protected : protected s ≡ true → no (refuse 17 (i + 1)) ≡ unprotected d i o y
+  unfolding unprotected
+  plan-protected q = rw (protected-at q, add-one)
+
+  pub plan-released : protected s ≡ false → touching d i o y ≡ unprotected d i o y
+  unfolding unprotected
+  plan-released q = rw (protected-at q)
+
+-- 16
+module _ (d : List ℕ) (i : ℕ) (new : List ℕ) where
+  taken-at : (o : Option ℕ) → find (directory d) new ≡ o → nameTaken (look d) new ≡ held none (λ j. some (refuse 16 (suc j))) o
+  taken-at o e = ap (λ (v : Directory). held none (λ j. some (refuse 16 (suc j))) (find v new)) (look-slots d) ∙ ap (held none (λ j. some (refuse 16 (suc j)))) e
+
+  pub plan-taken : (j : ℕ) → find (directory d) new ≡ some j → no (refuse 16 (j + 1)) ≡ renaming d i new
+  unfolding renaming
+  plan-taken j e = rw (taken-at (some j) e, add-one)
+
+  pub plan-new : find (directory d) new ≡ none → (y : List ℕ) → y ≡ padded new → unprotected d i 1 y ≡ renaming d i new
+  unfolding renaming unprotected
+  plan-new e y q = rw (taken-at none e, q)
+
+-- ---- a change by name: 12 where a name is not fit (t), 15, and else what is planned of the file found (f)
+
+abbrev pub naming : Bool → List ℕ → List ℕ → (ℕ → File → Plan) → Plan
+naming t d n f = orNo (row 12 0 (not t)) (byName (look d) n f)
+
+module _ (c : Change) (d n buf : List ℕ) (t : Bool) (f : ℕ → File → Plan) (s : plan c d ≡ naming t d n f) (a : checkDisk d ≡ none) where
+  by-plan : (p : Plan) → plan c d ≡ p → settled p d buf ≡ change c d buf
+  by-plan p e = ap (λ (p : Plan). settled p d buf) (sym e) ∙ change-settled c d buf a
+
+  pub name-unfit : t ≡ false → settled (no (refuse 12 0)) d buf ≡ change c d buf
+  name-unfit e = by-plan (no (refuse 12 0)) (s ∙ rw e)
+
+  by-name : t ≡ true → (o : Option ℕ) → find (directory d) n ≡ o → plan c d ≡ held (no (refuse 15 0)) (λ i. f i (fileAt (look d) i)) o
+  by-name e o q =
+      s ∙ ap (λ (t : Bool). naming t d n f) e
+      ∙ ap (λ (v : Directory). held (no (refuse 15 0)) (λ i. f i (fileAt (look d) i)) (find v n)) (look-slots d)
+      ∙ ap (held (no (refuse 15 0)) (λ i. f i (fileAt (look d) i))) q
+
+  pub name-missing : t ≡ true → find (directory d) n ≡ none → settled (no (refuse 15 0)) d buf ≡ change c d buf
+  name-missing e q = by-plan (no (refuse 15 0)) (by-name e none q)
+
+  pub name-found : t ≡ true → (i : ℕ) → find (directory d) n ≡ some i → settled (f i (fileAt (look d) i)) d buf ≡ change c d buf
+  name-found e i q = by-plan (f i (fileAt (look d) i)) (by-name e (some i) q)
+
+-- as the lookup answers
+module _ (c : Change) (d n buf : List ℕ) (f : ℕ → File → Plan) (s : plan c d ≡ naming (askable n) d n f) where
+  looked-barred : (r : Refusal) → barred r ≡ lookup (look d) n → changed (refused r) d buf ≡ change c d buf
+  unfolding change run lookup checkDisk
+  looked-barred r e =
+      by (checkLook (look d)) (askable n) (find (slotsOf (look d)) n) e
+      ∙ ap (λ (p : Plan). changedBy (checked (checkDisk d) (settle d (length buf) p)) d buf) (sym s)
+    where
+      by : (p : Reply) (t : Bool) (o : Option ℕ) → barred r ≡ soughtBy (p else row 12 0 (not t)) o
+          → changed (refused r) d buf ≡ changedBy (checked p (settle d (length buf) (orNo (row 12 0 (not t)) (held (no (refuse 15 0)) (λ i. f i (fileAt (look d) i)) o)))) d buf
+      by (some q) t o w = let z : r ≡ q = cc in ap (λ (r : Refusal). changed (refused r) d buf) z
+      by none false o w = let z : r ≡ refuse 12 0 = cc in ap (λ (r : Refusal). changed (refused r) d buf) z
+      by none true none w = let z : r ≡ refuse 15 0 = cc in ap (λ (r : Refusal). changed (refused r) d buf) z
+      by none true (some i) w = let z : _≡_ {A = ℕ} 0 1 = cc in absurd (omega arith)
+
+  looked-at : (i : ℕ) → Named d n i → settled (f i (fileAt (look d) i)) d buf ≡ change c d buf
+  looked-at i w = name-found c d n buf (askable n) f s (w .accepted) (w .usable) i (w .found)
+
+-- ---- erase, and the marks
+
+module _ (d n buf : List ℕ) where
+  abbrev eraseAt : ℕ → File → Plan
+  eraseAt i f = orNo (isProtected i f) (go (touch (look d) i f 0 (0 ∷ [])))
+
+  abbrev markAt : Mark → ℕ → File → Plan
+  markAt m i f = go (touch (look d) i f 0 (marked m (getD (f .bytes) 0 0) ∷ []))
+
+  pub erase-barred : (r : Refusal) → barred r ≡ lookup (look d) n → changed (refused r) d buf ≡ change (erase n) d buf
+  unfolding planOf
+  erase-barred = looked-barred (erase n) d n buf eraseAt refl
+
+  pub erase-found : (i : ℕ) → Named d n i → settled (unprotected d i 0 (0 ∷ [])) d buf ≡ change (erase n) d buf
+  unfolding planOf unprotected touching
+  erase-found = looked-at (erase n) d n buf eraseAt refl
+
+  pub mark-barred : (m : Mark) (r : Refusal) → barred r ≡ lookup (look d) n → changed (refused r) d buf ≡ change (mark m n) d buf
+  unfolding planOf
+  mark-barred m = looked-barred (mark m n) d n buf (markAt m) refl
+
+  -- with the byte that is marked as the code has it
+  pub mark-found : (m : Mark) (i : ℕ) → Named d n i → (s : List ℕ) → s ≡ slotOr d i → (x : ℕ) → x ≡ getD s 0 0 → (y : ℕ) → y ≡ marked m x
+      → settled (touching d i 0 (y ∷ [])) d buf ≡ change (mark m n) d buf
+  unfolding planOf touching
+  mark-found m i w s e x p y q =
+      ap (λ (y : ℕ). settled (touching d i 0 (y ∷ [])) d buf) (q ∙ ap (marked m) (p ∙ ap (λ (s : List ℕ). getD s 0 0) (e ∙ sym (named-holds d n i w .bytes))))
+      ∙ looked-at (mark m n) d n buf (markAt m) refl i w
+
+-- ---- rename
+
+module _ (d n new buf : List ℕ) (a : checkDisk d ≡ none) where
+  abbrev renameAt : ℕ → File → Plan
+  renameAt i f = orNo (nameTaken (look d) new else isProtected i f) (go (touch (look d) i f 1 (padded new)))
+
+  pub rename-unaskable : askable n ≡ false → settled (no (refuse 12 0)) d buf ≡ change (rename n new) d buf
+  unfolding planOf
+  rename-unaskable e = name-unfit (rename n new) d n buf (askable n && usable new) renameAt refl a (rw e)
+
+  pub rename-unusable : askable n ≡ true → usable new ≡ false → settled (no (refuse 12 0)) d buf ≡ change (rename n new) d buf
+  unfolding planOf
+  rename-unusable e q = name-unfit (rename n new) d n buf (askable n && usable new) renameAt refl a (rw (e, q))
+
+  pub rename-missing : (askable n && usable new) ≡ true → find (directory d) n ≡ none → settled (no (refuse 15 0)) d buf ≡ change (rename n new) d buf
+  unfolding planOf
+  rename-missing = name-missing (rename n new) d n buf (askable n && usable new) renameAt refl a
+
+  pub rename-found : (askable n && usable new) ≡ true → (i : ℕ) → find (directory d) n ≡ some i → settled (renaming d i new) d buf ≡ change (rename n new) d buf
+  unfolding planOf renaming touching
+  rename-found = name-found (rename n new) d n buf (askable n && usable new) renameAt refl a

@@ -1,0 +1,45 @@
+-- What a change gives once the disk is accepted, and the slot that it finds by name.
+use Prim.Native.Nat.{ℕ, _<_}
+use mathlib.Core.Bool.{true}
+use mathlib.Core.List.{List}
+use mathlib.Core.Path.{_≡_}
+use lib.ListN.{length}
+use Rattle.directory.specs.Places.{slots}
+use Rattle.directory.specs.Directory.{slotOr}
+use Rattle.disk.specs.Look.{look}
+use Rattle.files.specs.Calls.{fileAt}
+use Rattle.refusals.specs.Order.{_else_}
+use Rattle.slots.specs.Name.{padded}
+use Rattle.plans.specs.Change.{usable}
+use Rattle.plans.specs.Plan.{Plan, go, orNo, nameTaken, isProtected, touch, settle, Changed, changedBy}
+
+-- by its plan
+unfoldable pub settled : Plan → List ℕ → List ℕ → Changed
+settled p d buf = changedBy (settle d (length buf) p) d buf
+
+-- the plan that puts bytes at place o of slot i
+unfoldable pub touching : List ℕ → ℕ → ℕ → List ℕ → Plan
+touching d i o y = go (touch (look d) i (fileAt (look d) i) o y)
+
+-- the same, unless the file is protected
+unfoldable pub unprotected : List ℕ → ℕ → ℕ → List ℕ → Plan
+unprotected d i o y = orNo (isProtected i (fileAt (look d) i)) (touching d i o y)
+
+-- the same for a new name, unless a live slot has it
+unfoldable pub renaming : List ℕ → ℕ → List ℕ → Plan
+renaming d i new = orNo (nameTaken (look d) new else isProtected i (fileAt (look d) i)) (touching d i 1 (padded new))
+
+-- slot i holds a file, with the bytes that are read there
+pub record Holds (d : List ℕ) (i : ℕ) : Type 0 where
+  pub below : i < slots
+  pub bytes : fileAt (look d) i .bytes ≡ slotOr d i
+
+-- a place of such a slot
+pub record Place (d : List ℕ) (i o : ℕ) : Type 0 where
+  pub slot : Holds d i
+  pub inside : o < 256
+
+-- such a slot, and a new name that is fit
+pub record Renames (d : List ℕ) (i : ℕ) (new : List ℕ) : Type 0 where
+  pub slot : Holds d i
+  pub fit : usable new ≡ true

@@ -1,0 +1,202 @@
+// The changes to one slot: erase, rename, hide, show, protect, release. Each tests all that it can refuse before it writes,
+// and it writes the directory sector of that slot alone.
+ghost use mathlib.Core.Path.{_≡_};
+ghost use mathlib.Core.List.{[], _∷_};
+ghost use Prim.Native.Nat.{_+_, _≤_, _<_};
+ghost use lib.ListN.{length};
+ghost use Rattle.buffers.specs.Bytes.{put};
+ghost use Rattle.refusals.specs.Order.{refuse};
+ghost use Rattle.refusals.specs.Answers.{numberOf, outcomeOf, refused};
+ghost use Rattle.directory.specs.Places.{slotAt, dirSector};
+ghost use Rattle.plans.specs.Change.{erase, rename, mark, hide, show, protect, release, marked, allBetween, usable};
+ghost use Rattle.plans.specs.Plan.{changed, change};
+ghost use Rattle.changes.specs.Marks.{markOf};
+ghost use Rattle.changes.specs.Settled.{settled, touching, unprotected, renaming, Place, Renames};
+use directory::Found;
+use files::Lookup;
+use refusals::Answer;
+use refusals::Reason;
+use refusals::Refused;
+use refusals::Verdict;
+
+// The number of the sector that slot `i`, counted from 0, lies in.
+pub fn dir_sector(i: usize) -> usize
+    ensures { λ r. ⌜ r ≡ dirSector i ⌝ }
+{
+    i / 20 * 20 + i % 20 / 2
+}
+
+// Whether every byte of a name is one of 32 to 126.
+fn is_printable(name: &[u8]) -> bool
+    ensures { λ r. ⌜ r ≡ allBetween 32 (now (name .entry)) 126 ⌝ }
+{
+    let mut i: usize = 0;
+    while i < name.len() {
+        if name[i] < 32 {
+            return false;
+        }
+        if 126 < name[i] {
+            return false;
+        }
+        i += 1;
+    }
+    true
+}
+
+// Whether a name can be given to a file.
+pub fn is_usable(name: &[u8]) -> bool
+    ensures { λ r. ⌜ r ≡ usable (now (name .entry)) ⌝ }
+{
+    if !slots::is_askable(name) {
+        return false;
+    }
+    if !is_printable(name) {
+        return false;
+    }
+    buffers::byte_at(name, 0) != 32
+}
+
+fn no(reason: Reason, slot: usize) -> Answer
+    ensures { λ r. ⌜ outcomeOf r ≡ refused (refuse (numberOf reason) slot) ⌝ }
+{
+    Answer::No(Refused { reason, slot })
+}
+
+// Puts bytes at place `o` of slot `i`.
+fn put_in_slot(image: &mut [u8], i: usize, o: usize, y: &[u8])
+    requires { ⌜ Place (now image) i o ⌝ }
+    ensures { λ _. ⌜ now (image .exit) ≡ put (now (image .entry)) (slotAt i + o) (now (y .entry)) ⌝ }
+{
+    buffers::copy_into(image, i / 20 * 10240 + i % 20 * 256 + o, y);
+}
+
+// Puts one sector number to the front of a list.
+fn put_number(list: &mut [u16], n: usize)
+    requires { ⌜ (1 ≤ length (now list)) × (n < 65536) ⌝ }
+    ensures { λ _. ⌜ now (list .exit) ≡ put (now (list .entry)) 0 (n ∷ []) ⌝ }
+{
+    list[0] = n as u16;
+}
+
+// Writes a change that only the list can still refuse.
+fn touch(image: &mut [u8], i: usize, o: usize, y: &[u8], list: &mut [u16]) -> Answer
+    requires { ⌜ Place (now image) i o ⌝ }
+    ensures { λ r. ⌜ changed (outcomeOf r) (now (image .exit)) (now (list .exit)) ≡ settled (touching (now (image .entry)) i o (now (y .entry))) (now (image .entry)) (now (list .entry)) ⌝ }
+{
+    if list.len() < 1 {
+        return no(Reason::BufferTooShort, 0);
+    }
+    put_in_slot(image, i, o, y);
+    put_number(list, dir_sector(i));
+    Answer::Done(1, 0)
+}
+
+// The same, of a file that must not be protected.
+fn touch_unprotected(image: &mut [u8], i: usize, o: usize, y: &[u8], list: &mut [u16]) -> Answer
+    requires { ⌜ Place (now image) i o ⌝ }
+    ensures { λ r. ⌜ changed (outcomeOf r) (now (image .exit)) (now (list .exit)) ≡ settled (unprotected (now (image .entry)) i o (now (y .entry))) (now (image .entry)) (now (list .entry)) ⌝ }
+{
+    if slots::is_protected(directory::slot_at(image, i)) {
+        return no(Reason::FileProtected, i + 1);
+    }
+    touch(image, i, o, y, list)
+}
+
+// Erases a file: its slot's first byte becomes 0.
+pub fn erase(image: &mut [u8], name: &[u8], list: &mut [u16]) -> Answer
+    ensures { λ r. ⌜ changed (outcomeOf r) (now (image .exit)) (now (list .exit)) ≡ change (erase (now (name .entry))) (now (image .entry)) (now (list .entry)) ⌝ }
+{
+    match files::look_up(image, name) {
+        Lookup::Barred(r) => Answer::No(r),
+        Lookup::At(i) => touch_unprotected(image, i, 0, &[0], list),
+    }
+}
+
+// Gives the file in slot `i` a name that is fit for one.
+fn rename_at(image: &mut [u8], i: usize, new: &[u8], list: &mut [u16]) -> Answer
+    requires { ⌜ Renames (now image) i (now new) ⌝ }
+    ensures { λ r. ⌜ changed (outcomeOf r) (now (image .exit)) (now (list .exit)) ≡ settled (renaming (now (image .entry)) i (now (new .entry))) (now (image .entry)) (now (list .entry)) ⌝ }
+{
+    match directory::find(image, new) {
+        Found::At(j) => no(Reason::NameTaken, j + 1),
+        Found::Nothing => touch_unprotected(image, i, 1, &slots::padded_name(new), list),
+    }
+}
+
+// Renames a file. Both names are tested before either is looked for.
+pub fn rename(image: &mut [u8], name: &[u8], new: &[u8], list: &mut [u16]) -> Answer
+    ensures { λ r. ⌜ changed (outcomeOf r) (now (image .exit)) (now (list .exit)) ≡ change (rename (now (name .entry)) (now (new .entry))) (now (image .entry)) (now (list .entry)) ⌝ }
+{
+    match disk::check(image) {
+        Verdict::Unsound(r) => Answer::No(r),
+        Verdict::Sound => {
+            if !slots::is_askable(name) {
+                return no(Reason::NameNotUsable, 0);
+            }
+            if !is_usable(new) {
+                return no(Reason::NameNotUsable, 0);
+            }
+            match directory::find(image, name) {
+                Found::At(i) => rename_at(image, i, new, list),
+                Found::Nothing => no(Reason::NameNotFound, 0),
+            }
+        }
+    }
+}
+
+// The marks: each sets or clears one bit of a slot's first byte.
+enum Marking {
+    Hide,
+    Show,
+    Protect,
+    Release,
+}
+
+// The byte with its mark: bit 7 is hidden, bit 6 protected.
+fn marked(marking: Marking, x: u8) -> u8
+    ensures { λ r. ⌜ r ≡ marked (markOf marking) x ⌝ }
+{
+    match marking {
+        Marking::Hide => x % 128 + 128,
+        Marking::Show => x % 128,
+        Marking::Protect => x / 128 * 128 + 64 + x % 64,
+        Marking::Release => x / 128 * 128 + x % 64,
+    }
+}
+
+fn set_mark(image: &mut [u8], name: &[u8], marking: Marking, list: &mut [u16]) -> Answer
+    ensures { λ r. ⌜ changed (outcomeOf r) (now (image .exit)) (now (list .exit)) ≡ change (mark (markOf marking) (now (name .entry))) (now (image .entry)) (now (list .entry)) ⌝ }
+{
+    match files::look_up(image, name) {
+        Lookup::Barred(r) => Answer::No(r),
+        Lookup::At(i) => {
+            let first = buffers::byte_at(directory::slot_at(image, i), 0);
+            let byte = [marked(marking, first)];
+            touch(image, i, 0, &byte, list)
+        }
+    }
+}
+
+pub fn hide(image: &mut [u8], name: &[u8], list: &mut [u16]) -> Answer
+    ensures { λ r. ⌜ changed (outcomeOf r) (now (image .exit)) (now (list .exit)) ≡ change (mark hide (now (name .entry))) (now (image .entry)) (now (list .entry)) ⌝ }
+{
+    set_mark(image, name, Marking::Hide, list)
+}
+
+pub fn show(image: &mut [u8], name: &[u8], list: &mut [u16]) -> Answer
+    ensures { λ r. ⌜ changed (outcomeOf r) (now (image .exit)) (now (list .exit)) ≡ change (mark show (now (name .entry))) (now (image .entry)) (now (list .entry)) ⌝ }
+{
+    set_mark(image, name, Marking::Show, list)
+}
+
+pub fn protect(image: &mut [u8], name: &[u8], list: &mut [u16]) -> Answer
+    ensures { λ r. ⌜ changed (outcomeOf r) (now (image .exit)) (now (list .exit)) ≡ change (mark protect (now (name .entry))) (now (image .entry)) (now (list .entry)) ⌝ }
+{
+    set_mark(image, name, Marking::Protect, list)
+}
+
+pub fn release(image: &mut [u8], name: &[u8], list: &mut [u16]) -> Answer
+    ensures { λ r. ⌜ changed (outcomeOf r) (now (image .exit)) (now (list .exit)) ≡ change (mark release (now (name .entry))) (now (image .entry)) (now (list .entry)) ⌝ }
+{
+    set_mark(image, name, Marking::Release, list)
+}
