@@ -144,7 +144,7 @@ pub fn rename(image: &mut [u8], name: &[u8], new: &[u8], list: &mut [u16]) -> An
     }
 }
 
-// The marks: each sets or clears one bit of a slot's first byte.
+// The four marks.
 enum Marking {
     Hide,
     Show,
@@ -152,7 +152,7 @@ enum Marking {
     Release,
 }
 
-// The byte with its mark: bit 7 is hidden, bit 6 protected.
+// A slot's first byte with one bit set or cleared: bit 7 is hidden, bit 6 protected.
 fn marked(marking: Marking, x: u8) -> u8
     ensures { λ r. ⌜ r ≡ marked (markOf marking) x ⌝ }
 {
@@ -164,6 +164,7 @@ fn marked(marking: Marking, x: u8) -> u8
     }
 }
 
+// Marks a file; one that has the mark already is accepted.
 fn set_mark(image: &mut [u8], name: &[u8], marking: Marking, list: &mut [u16]) -> Answer
     ensures { λ r. ⌜ changed (outcomeOf r) (now (image .exit)) (now (list .exit)) ≡ change (mark (markOf marking) (now (name .entry))) (now (image .entry)) (now (list .entry)) ⌝ }
 {

@@ -1,5 +1,6 @@
-// The points of document 01 that no theorem states, run through the library: one line for each.
-// The small disks are built from the document's own numbers, and not by the arithmetic that they try.
+// Runs the points of document 01 through the library, on each side of every edge: one line for each.
+// The small disks are built from the document's own numbers, and not by the arithmetic that they try; only the 1,560
+// links of the full disk are the library's.
 ghost use mathlib.Core.Path.{_≡_};
 ghost use Prim.Native.Nat.{_<_};
 ghost use lib.ListN.{length};
