@@ -1,0 +1,9 @@
+pub mod Usable
+pub mod Runs
+pub mod Chained
+pub mod Picked
+pub mod Slot
+pub mod Numbers
+pub mod Whole
+pub mod Told
+pub mod Planned

@@ -1,0 +1,69 @@
+-- Map bits turned into sector numbers, and the list of a save's sectors.
+use Prim.Native.Nat.{ℕ, suc, _+_, _-_, _*_, _/_, _%_, _≤_, _<_}
+use mathlib.Core.Path.{_≡_, refl, sym, ap, ap₂, _∙_}
+use mathlib.Core.List.{List, [], _∷_, _++_, map, map-append}
+use native.Mathlib.Numerals.{add-one}
+use native.Mathlib.Omega.{arith}
+use lib.ListN.{length, getD, take, set, length-map}
+use lib.Seq.{length-take-le, take-suc, getD-take}
+use Rattle.buffers.specs.Bytes.{put}
+use Rattle.buffers.proofs.Lists.{length-put, put-none, put-is, put-in, put-before, put-after, put-append}
+use Rattle.geometry.specs.Disk.{bitNumber, placeOrEnd}
+use Rattle.geometry.proofs.Laws.{place-or-end, number-small}
+use Rattle.saves.specs.Write.{Bits}
+use Rattle.saves.proofs.Picked.{put-one}
+
+-- what is put at the front, and one number after it
+pub put-next : (d x : List ℕ) (a v : ℕ) → length x ≡ a → (e : List ℕ) → e ≡ put d 0 x → set e a v ≡ put d 0 (x ++ (v ∷ []))
+put-next d x a v l e p =
+    let z : a ≡ 0 + length x = omega arith in
+    put-one e a v ∙ ap₂ (λ (y : List ℕ) (b : ℕ). put y b (v ∷ [])) p z ∙ put-append d 0 x (v ∷ [])
+
+-- as many bytes put over others
+pub put-over : (d : List ℕ) (a : ℕ) (x y : List ℕ) → length x ≡ length y → put (put d a x) a y ≡ put d a y
+put-over d a x y l =
+    put-is d a y (put (put d a x) a y) (length-put (put d a x) a y ∙ length-put d a x)
+    (λ i h k. put-in (put d a x) a y i h (omega (arith, length-put d a x)))
+    (λ k h. put-before (put d a x) a y k h ∙ put-before d a x k h)
+    (λ k h m. put-after (put d a x) a y k h ∙ put-after d a x k (omega arith))
+
+-- the first j of a list's n map bits are turned
+pub record Numbered (l : List ℕ) (n : ℕ) (l′ : List ℕ) (j : ℕ) : Type 0 where
+  pub far : j ≤ n
+  pub room : n ≤ length l
+  pub is : l′ ≡ put l 0 (map bitNumber (take j l))
+
+pub numbered-none : (l : List ℕ) (n : ℕ) → n ≤ length l → Numbered l n l 0
+numbered-none l n h = record { far = omega arith; room = h; is = put-none l 0 [] }
+
+module _ (l : List ℕ) (n : ℕ) (l′ : List ℕ) (j : ℕ) (w : Numbered l n l′ j) where
+  long : length (map bitNumber (take j l)) ≡ j
+  long = length-map (take j l) bitNumber ∙ length-take-le j l (omega (arith, w .far, w .room))
+
+  pub numbered-long : length l′ ≡ length l
+  numbered-long = ap length (w .is) ∙ length-put l 0 (map bitNumber (take j l))
+
+  module _ (h : j < n) (b : Bits (take n l)) where
+    pub numbered-here : getD l′ j 0 ≡ getD l j 0
+    numbered-here = ap (λ (x : List ℕ). getD x j 0) (w .is) ∙ put-after l 0 (map bitNumber (take j l)) j (omega (arith, long))
+
+    pub numbered-small : getD l′ j 0 < 1560
+    numbered-small = rw (numbered-here, ← getD-take n l j 0 h) (b .small j (omega (arith, length-take-le n l (w .room))))
+
+    pub numbered-place : (p : ℕ) → p ≡ placeOrEnd (getD l′ j 0) → (p / 512 ≡ bitNumber (getD l′ j 0)) × (p / 512 < 1600)
+    numbered-place p e =
+        let q : p ≡ bitNumber (getD l′ j 0) * 512 = e ∙ place-or-end (getD l′ j 0) numbered-small in
+        (omega arith, omega (arith, number-small (getD l′ j 0) numbered-small))
+
+    pub numbered-more : (p : ℕ) → p ≡ placeOrEnd (getD l′ j 0) → Numbered l n (set l′ j (p / 512)) (j + 1)
+    numbered-more p e = record {
+      far = omega arith;
+      room = w .room;
+      is = put-next l (map bitNumber (take j l)) j (p / 512) long l′ (w .is)
+          ∙ ap (put l 0)
+          (ap (λ (v : ℕ). map bitNumber (take j l) ++ (v ∷ [])) (numbered-place p e .0 ∙ ap bitNumber numbered-here)
+          ∙ sym (ap (λ (k : ℕ). map bitNumber (take k l)) (add-one j) ∙ ap (map bitNumber) (take-suc l j 0 (omega (arith, w .room))) ∙ map-append bitNumber (take j l) (getD l j 0 ∷ [])));
+    }
+
+  pub numbered-all : n ≤ j → l′ ≡ put l 0 (map bitNumber (take n l))
+  numbered-all h = let e : j ≡ n = omega (arith, w .far) in w .is ∙ ap (λ (k : ℕ). put l 0 (map bitNumber (take k l))) e

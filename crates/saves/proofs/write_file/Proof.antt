@@ -1,0 +1,58 @@
+-- `saves::write_file` meets its contract: the data sectors, and then the slot.
+use Rattle.saves.proofs.Whole.{file-written}
+use borrow.Author.Needs.{needs}
+use Rattle.saves.proofs.write_file.Statement.{statement}
+use Rattle.saves.proofs.write_file.Tie as tie
+
+header-of-requires : tie.Need-header-of-requires
+header-of-requires c κs = search needs
+
+slice-aggregate-write-chain : tie.Need-slice-aggregate-write-chain
+slice-aggregate-write-chain c = search needs
+
+write-chain-requires : tie.Need-write-chain-requires
+write-chain-requires c κs = search needs
+
+slot-of-requires : tie.Need-slot-of-requires
+slot-of-requires c κs = search needs
+
+mul-copy-into : tie.Need-mul-copy-into
+mul-copy-into c = search needs
+
+mul-copy-into-2 : tie.Need-mul-copy-into-2
+mul-copy-into-2 c = search needs
+
+add-copy-into : tie.Need-add-copy-into
+add-copy-into c = search needs
+
+slice-aggregate-copy-into : tie.Need-slice-aggregate-copy-into
+slice-aggregate-copy-into c = search needs
+
+copy-into-requires : tie.Need-copy-into-requires
+copy-into-requires c κs = search needs
+
+same-length : tie.Need-same-length
+same-length c = search needs
+
+returns : tie.Need-returns
+returns c =
+    let w = c .before .before in
+    let s = w .before .before .before in
+    let d = s .before .before .before in
+    file-written _ _ _ _ _ _ _ _ _ _ _ _ _ (d .before .before .before .header-of .ensures) (d .write-chain .ensures) (s .slot-of .ensures) (w .copy-into .ensures)
+
+pub write-file-spec : {M : Type 1} → statement M
+write-file-spec =
+    tie.close
+    (tie.spec
+    header-of-requires
+    slice-aggregate-write-chain
+    write-chain-requires
+    slot-of-requires
+    mul-copy-into
+    mul-copy-into-2
+    add-copy-into
+    slice-aggregate-copy-into
+    copy-into-requires
+    same-length
+    returns)

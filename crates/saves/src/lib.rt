@@ -1,0 +1,445 @@
+// Saving a file: its data sectors along a chain of free bits, then its slot, and the list of the sectors written.
+ghost use mathlib.Core.Path.{_≡_};
+ghost use mathlib.Core.List.{_++_, map};
+ghost use Prim.Native.Nat.{ℕ, _+_, _*_, _/_, _%_, _≤_, _<_};
+ghost use lib.ListN.{length, drop, take};
+ghost use Rattle.buffers.specs.Bytes.{put, tab};
+ghost use Rattle.geometry.specs.Disk.{bitNumber, placeOrEnd};
+ghost use Rattle.plans.specs.Change.{save, usable};
+ghost use Rattle.plans.specs.Saving.{block, mapWith, slotByte, sectorsFor, lowestSlot};
+ghost use Rattle.plans.specs.Plan.{dataSteps, saveSteps, changed, change};
+ghost use mathlib.Core.Option.{some};
+ghost use Rattle.refusals.specs.Order.{refuse};
+ghost use Rattle.refusals.specs.Answers.{numberOf, replyOf, outcomeOf, refused};
+ghost use Rattle.directory.specs.Find.{foundAt};
+ghost use Rattle.disk.specs.Look.{look};
+ghost use Rattle.files.specs.Steps.{Accepted};
+ghost use Rattle.steps.specs.Steps.{enact};
+ghost use Rattle.saves.specs.Write.{wish, wishFor, askedReply, Bits, Plain, header, run, lowest, full, linkTo, chainBytes, span, Writable, Savable, Saved, Open};
+use directory::Found;
+use directory::UsedMap;
+use geometry::Address;
+use refusals::Answer;
+use refusals::Reason;
+use refusals::Refused;
+use refusals::Verdict;
+
+// The kind of a file, and where it is loaded.
+struct Start {
+    kind: usize,
+    page: usize,
+    offset: usize,
+}
+
+// The last two bytes of a data sector: where the next one is.
+struct Link {
+    track: u8,
+    sector: u8,
+}
+
+// Whether a new name can be given to a file.
+pub fn is_usable(name: &[u8]) -> bool
+    ensures { λ r. ⌜ r ≡ usable (now (name .entry)) ⌝ }
+{
+    if !slots::is_askable(name) {
+        return false;
+    }
+    if buffers::byte_at(name, 0) == 32 {
+        return false;
+    }
+    let mut i: usize = 0;
+    while i < name.len() {
+        if name[i] < 32 {
+            return false;
+        }
+        if 126 < name[i] {
+            return false;
+        }
+        i += 1;
+    }
+    true
+}
+
+// Whether all eight bits of a map from `b` on are set, and `b` is the first of a byte.
+fn is_full(map: &[u8], b: usize) -> bool
+    ensures { λ r. ⌜ r ≡ full (now (map .entry)) b ⌝ }
+{
+    if b % 8 != 0 {
+        return false;
+    }
+    buffers::byte_at(map, b / 8) == 255
+}
+
+// Puts the `n` lowest clear bits of a map to the front of a list. Of a byte that is full no bit is looked at.
+fn pick_bits(map: &[u8], n: usize, list: &mut [u16])
+    requires { ⌜ n ≤ length (now list) ⌝ }
+    ensures { λ _. ⌜ now (list .exit) ≡ put (now (list .entry)) 0 (lowest (now (map .entry)) n) ⌝ }
+{
+    let mut j: usize = 0;
+    let mut b: usize = 0;
+    while b < 1560 {
+        if n <= j {
+            return;
+        }
+        let c = b;
+        if is_full(map, c) {
+            b += 8;
+        } else {
+            b += 1;
+            if !maps::has_bit(map, c) {
+                list[j] = c as u16;
+                j += 1;
+            }
+        }
+    }
+}
+
+// The nine bytes in front of a body of `len` bytes.
+fn header_of(start: Start, len: usize) -> [u8; 9]
+    requires { ⌜ Plain start len ⌝ }
+    ensures { λ r. ⌜ r ≡ header start len ⌝ }
+{
+    let rest = len % 16384;
+    [
+        start.kind as u8,
+        (rest % 256) as u8,
+        (rest / 256) as u8,
+        (start.offset % 256) as u8,
+        (start.offset / 256) as u8,
+        0,
+        0,
+        (len / 16384) as u8,
+        start.page as u8,
+    ]
+}
+
+// Puts `n` bytes of a body from a place on, and 0 for each past its end.
+fn write_run(image: &mut [u8], at: usize, body: &[u8], from: usize, n: usize)
+    requires { ⌜ (at ≤ 1000000) × (n ≤ 510) ⌝ }
+    ensures { λ _. ⌜ now (image .exit) ≡ put (now (image .entry)) at (run (now (body .entry)) from n) ⌝ }
+{
+    let there = buffers::part_at(body, from, n);
+    buffers::copy_into(image, at, there);
+    let len = there.len();
+    if n <= len {
+        return;
+    }
+    let zeros = [0u8; 510];
+    buffers::copy_into(image, at + len, buffers::part_at(&zeros, 0, n - len));
+}
+
+// Puts the payload of the sector `j` of a chain: 510 bytes of the header and the body that follows it.
+fn write_payload(image: &mut [u8], at: usize, head: &[u8], body: &[u8], j: usize)
+    requires { ⌜ (at ≤ 819200) × (length (now head) ≡ 9) × (j < 1560) ⌝ }
+    ensures { λ _. ⌜ now (image .exit) ≡ put (now (image .entry)) at (run (now (head .entry) ++ now (body .entry)) (510 * j) 510) ⌝ }
+{
+    if j == 0 {
+        buffers::copy_into(image, at, head);
+        write_run(image, at + 9, body, 0, 501);
+        return;
+    }
+    write_run(image, at, body, 510 * j - 9, 510);
+}
+
+// Writes the sector `j` of a chain, at a map bit.
+fn write_sector(image: &mut [u8], bit: usize, head: &[u8], body: &[u8], j: usize, link: Link)
+    requires { ⌜ (length (now head) ≡ 9) × (j < 1560) ⌝ }
+    ensures { λ _. ⌜ now (image .exit) ≡ put (now (image .entry)) (placeOrEnd bit) (block (now (head .entry) ++ now (body .entry)) (510 * j) (link .track) (link .sector)) ⌝ }
+{
+    let at = geometry::bit_place(bit);
+    write_payload(image, at, head, body, j);
+    let last = [link.track, link.sector];
+    buffers::copy_into(image, at + 510, &last);
+}
+
+// The link to the sector `j` of a chain; past its end there is none.
+fn link_to(bits: &[u16], j: usize) -> Link
+    requires { ⌜ Bits (now bits) ⌝ }
+    ensures { λ r. ⌜ r ≡ linkTo (drop j (now (bits .entry))) ⌝ }
+{
+    if bits.len() <= j {
+        return Link {
+            track: 0,
+            sector: 0,
+        };
+    }
+    match geometry::address_of(bits[j] as usize) {
+        Address::Sector(track, sector) => Link {
+            track: track as u8,
+            sector: sector as u8,
+        },
+        Address::NoBit => Link {
+            track: 0,
+            sector: 0,
+        },
+    }
+}
+
+// Writes the data sectors of a chain.
+fn write_chain(image: &mut [u8], head: &[u8], body: &[u8], bits: &[u16])
+    requires { ⌜ (length (now head) ≡ 9) × Bits (now bits) ⌝ }
+    ensures { λ _. ⌜ now (image .exit) ≡ enact (now (image .entry)) (dataSteps (now (head .entry) ++ now (body .entry)) 0 (now (bits .entry))) ⌝ }
+{
+    let mut j: usize = 0;
+    while j < bits.len() {
+        let link = link_to(bits, j + 1);
+        write_sector(image, bits[j] as usize, head, body, j, link);
+        j += 1;
+    }
+}
+
+// The map with the bits of a chain set.
+fn map_with(bits: &[u16]) -> [u8; 195]
+    ensures { λ r. ⌜ r ≡ mapWith (now (bits .entry)) ⌝ }
+{
+    let mut map = [0u8; 195];
+    let mut j = bits.len();
+    while 0 < j {
+        j -= 1;
+        maps::mark(&mut map, bits[j] as usize);
+    }
+    map
+}
+
+// Bytes 11 to 14 of a slot: the count of a chain, high byte first, and its first track and sector.
+fn chain_bytes(bits: &[u16]) -> [u8; 4]
+    requires { ⌜ Bits (now bits) ⌝ }
+    ensures { λ r. ⌜ r ≡ chainBytes (now (bits .entry)) ⌝ }
+{
+    let n = bits.len();
+    let first = link_to(bits, 0);
+    [(n / 256) as u8, (n % 256) as u8, first.track, first.sector]
+}
+
+// Bytes 236 to 241 of a slot: where a file of `len` bytes is loaded, and that length.
+fn span_of(start: Start, len: usize) -> [u8; 6]
+    requires { ⌜ Plain start len ⌝ }
+    ensures { λ r. ⌜ r ≡ span start len ⌝ }
+{
+    let rest = len % 16384;
+    [
+        start.page as u8,
+        (start.offset % 256) as u8,
+        (start.offset / 256) as u8,
+        (len / 16384) as u8,
+        (rest % 256) as u8,
+        (rest / 256) as u8,
+    ]
+}
+
+// The slot of a file whose chain is `bits`.
+fn slot_of(
+    start: Start,
+    name: &[u8],
+    exec: &[u8],
+    info: &[u8],
+    body: &[u8],
+    bits: &[u16],
+) -> [u8; 256]
+    requires { ⌜ Plain start (length (now body)) × Bits (now bits) ⌝ }
+    ensures { λ r. ⌜ r ≡ tab 256 (slotByte (wishFor start (now (name .entry)) (now (exec .entry)) (now (info .entry)) (now (body .entry))) (now (bits .entry))) ⌝ }
+{
+    let mut slot = [0u8; 256];
+    let kind = [start.kind as u8];
+    buffers::copy_into(&mut slot, 0, &kind);
+    let filled = slots::padded_name(name);
+    buffers::copy_into(&mut slot, 1, &filled);
+    let chain = chain_bytes(bits);
+    buffers::copy_into(&mut slot, 11, &chain);
+    let map = map_with(bits);
+    buffers::copy_into(&mut slot, 15, &map);
+    buffers::copy_into(&mut slot, 221, buffers::part_at(info, 0, 11));
+    let span = span_of(start, body.len());
+    buffers::copy_into(&mut slot, 236, &span);
+    buffers::copy_into(&mut slot, 242, buffers::part_at(exec, 0, 3));
+    let no_date = [255u8];
+    buffers::copy_into(&mut slot, 245, &no_date);
+    slot
+}
+
+// Turns the first `n` numbers of a list from map bits into sector numbers.
+fn to_numbers(list: &mut [u16], n: usize)
+    requires { ⌜ (n ≤ length (now list)) × Bits (take n (now list)) ⌝ }
+    ensures { λ _. ⌜ now (list .exit) ≡ put (now (list .entry)) 0 (map bitNumber (take n (now (list .entry)))) ⌝ }
+{
+    let mut j: usize = 0;
+    while j < n {
+        list[j] = (geometry::bit_place(list[j] as usize) / 512) as u16;
+        j += 1;
+    }
+}
+
+// Writes a file into slot `i`: the data sectors of its chain, then the slot.
+fn write_file(
+    image: &mut [u8],
+    i: usize,
+    start: Start,
+    name: &[u8],
+    exec: &[u8],
+    info: &[u8],
+    body: &[u8],
+    bits: &[u16],
+)
+    requires { ⌜ Writable i start (now body) (now bits) ⌝ }
+    ensures { λ _. ⌜ now (image .exit) ≡ enact (now (image .entry)) (saveSteps (look (now (image .entry))) i (wishFor start (now (name .entry)) (now (exec .entry)) (now (info .entry)) (now (body .entry))) (now (bits .entry))) ⌝ }
+{
+    let head = header_of(start, body.len());
+    write_chain(image, &head, body, bits);
+    let slot = slot_of(start, name, exec, info, body, bits);
+    buffers::copy_into(image, i / 20 * 10240 + i % 20 * 256, &slot);
+}
+
+// Writes a save that nothing refuses into the free slot `i`, and lists its sectors; how many.
+fn write(
+    image: &mut [u8],
+    used: &[u8],
+    i: usize,
+    start: Start,
+    name: &[u8],
+    exec: &[u8],
+    info: &[u8],
+    body: &[u8],
+    list: &mut [u16],
+) -> usize
+    requires { ⌜ Savable (now used) i start (now body) (now list) ⌝ }
+    ensures { λ r. ⌜ Saved (saveSteps (look (now (image .entry))) i (wishFor start (now (name .entry)) (now (exec .entry)) (now (info .entry)) (now (body .entry))) (lowest (now (used .entry)) (sectorsFor (length (now (body .entry)))))) (now (image .entry)) (now (list .entry)) (now (image .exit)) (now (list .exit)) r ⌝ }
+{
+    let n = (body.len() + 518) / 510;
+    pick_bits(used, n, list);
+    write_file(image, i, start, name, exec, info, body, &list[..n]);
+    to_numbers(list, n);
+    list[n] = (i / 20 * 20 + i % 20 / 2) as u16;
+    n + 1
+}
+
+fn no(reason: Reason, slot: usize) -> Answer
+    ensures { λ r. ⌜ outcomeOf r ≡ refused (refuse (numberOf reason) slot) ⌝ }
+{
+    Answer::No(Refused { reason, slot })
+}
+
+fn unsound(reason: Reason) -> Verdict
+    ensures { λ r. ⌜ replyOf r ≡ some (refuse (numberOf reason) 0) ⌝ }
+{
+    Verdict::Unsound(Refused { reason, slot: 0 })
+}
+
+// Rows 12, 13 and 14, which go by the arguments alone.
+fn asked_rows(start: Start, name: &[u8]) -> Verdict
+    ensures { λ r. ⌜ replyOf r ≡ askedReply start (now (name .entry)) ⌝ }
+{
+    if !is_usable(name) {
+        return unsound(Reason::NameNotUsable);
+    }
+    if !slots::is_carried(start.kind) {
+        return unsound(Reason::KindNotCarried);
+    }
+    if 31 < start.page {
+        return unsound(Reason::StartOutOfRange);
+    }
+    if start.offset < 32768 {
+        return unsound(Reason::StartOutOfRange);
+    }
+    if 49151 < start.offset {
+        return unsound(Reason::StartOutOfRange);
+    }
+    Verdict::Sound
+}
+
+// The lowest slot that holds no file.
+fn free_slot(image: &[u8]) -> Found
+    ensures { λ r. ⌜ foundAt r ≡ lowestSlot (look (now (image .entry))) ⌝ }
+{
+    let mut i: usize = 0;
+    while i < 80 {
+        let s = directory::slot_at(image, i);
+        let k = i;
+        i += 1;
+        if !slots::is_live(s) {
+            return Found::At(k);
+        }
+    }
+    Found::Nothing
+}
+
+// Saves into the free slot `i` of an accepted disk, where the sectors and the list suffice.
+fn save_at(
+    image: &mut [u8],
+    used: UsedMap,
+    i: usize,
+    start: Start,
+    name: &[u8],
+    exec: &[u8],
+    info: &[u8],
+    body: &[u8],
+    list: &mut [u16],
+) -> Answer
+    requires { ⌜ Open (now image) used i start (now name) ⌝ }
+    ensures { λ r. ⌜ changed (outcomeOf r) (now (image .exit)) (now (list .exit)) ≡ change (save (wishFor start (now (name .entry)) (now (exec .entry)) (now (info .entry)) (now (body .entry)))) (now (image .entry)) (now (list .entry)) ⌝ }
+{
+    let n = (body.len() + 518) / 510;
+    if directory::free_of(used) < n {
+        return no(Reason::TooFewSectors, 0);
+    }
+    if list.len() <= n {
+        return no(Reason::BufferTooShort, 0);
+    }
+    let map = used.bytes;
+    Answer::Done(
+        write(image, &map, i, start, name, exec, info, body, list),
+        0,
+    )
+}
+
+// Saves on an accepted disk whose used map is `used`.
+fn save_accepted(
+    image: &mut [u8],
+    used: UsedMap,
+    start: Start,
+    name: &[u8],
+    exec: &[u8],
+    info: &[u8],
+    body: &[u8],
+    list: &mut [u16],
+) -> Answer
+    requires { ⌜ Accepted (now image) used ⌝ }
+    ensures { λ r. ⌜ changed (outcomeOf r) (now (image .exit)) (now (list .exit)) ≡ change (save (wishFor start (now (name .entry)) (now (exec .entry)) (now (info .entry)) (now (body .entry)))) (now (image .entry)) (now (list .entry)) ⌝ }
+{
+    match asked_rows(start, name) {
+        Verdict::Unsound(r) => Answer::No(r),
+        Verdict::Sound => match directory::find(image, name) {
+            Found::At(i) => no(Reason::NameTaken, i + 1),
+            Found::Nothing => match free_slot(image) {
+                Found::Nothing => no(Reason::NoFreeSlot, 0),
+                Found::At(i) => save_at(image, used, i, start, name, exec, info, body, list),
+            },
+        },
+    }
+}
+
+// Saves a file: the image changes, the front of `list` gets the numbers of the sectors in the order of writing, and the
+// answer says how many. A refused save changes nothing.
+pub fn save(
+    image: &mut [u8],
+    kind: usize,
+    name: &[u8],
+    page: usize,
+    offset: usize,
+    exec: &[u8],
+    info: &[u8],
+    body: &[u8],
+    list: &mut [u16],
+) -> Answer
+    ensures { λ r. ⌜ changed (outcomeOf r) (now (image .exit)) (now (list .exit)) ≡ change (save (wish kind (now (name .entry)) page offset (now (exec .entry)) (now (info .entry)) (now (body .entry)))) (now (image .entry)) (now (list .entry)) ⌝ }
+{
+    let found = disk::examine(image);
+    let verdict = found.verdict;
+    match verdict {
+        Verdict::Unsound(r) => Answer::No(r),
+        Verdict::Sound => {
+            let used = found.used;
+            let start = Start { kind, page, offset };
+            save_accepted(image, used, start, name, exec, info, body, list)
+        }
+    }
+}
