@@ -1,4 +1,3 @@
-pub mod Usable
 pub mod Runs
 pub mod Chained
 pub mod Picked

@@ -5,7 +5,7 @@ ghost use Prim.Native.Nat.{ℕ, _+_, _*_, _/_, _%_, _≤_, _<_};
 ghost use lib.ListN.{length, drop, take};
 ghost use Rattle.buffers.specs.Bytes.{put, tab};
 ghost use Rattle.geometry.specs.Disk.{bitNumber, placeOrEnd};
-ghost use Rattle.plans.specs.Change.{save, usable};
+ghost use Rattle.plans.specs.Change.{save};
 ghost use Rattle.plans.specs.Saving.{block, mapWith, slotByte, sectorsFor, lowestSlot};
 ghost use Rattle.plans.specs.Plan.{dataSteps, saveSteps, changed, change};
 ghost use mathlib.Core.Option.{some};
@@ -35,29 +35,6 @@ struct Start {
 struct Link {
     track: u8,
     sector: u8,
-}
-
-// Whether a new name can be given to a file.
-pub fn is_usable(name: &[u8]) -> bool
-    ensures { λ r. ⌜ r ≡ usable (now (name .entry)) ⌝ }
-{
-    if !slots::is_askable(name) {
-        return false;
-    }
-    if buffers::byte_at(name, 0) == 32 {
-        return false;
-    }
-    let mut i: usize = 0;
-    while i < name.len() {
-        if name[i] < 32 {
-            return false;
-        }
-        if 126 < name[i] {
-            return false;
-        }
-        i += 1;
-    }
-    true
 }
 
 // Whether all eight bits of a map from `b` on are set, and `b` is the first of a byte.
@@ -328,7 +305,7 @@ fn unsound(reason: Reason) -> Verdict
 fn asked_rows(start: Start, name: &[u8]) -> Verdict
     ensures { λ r. ⌜ replyOf r ≡ askedReply start (now (name .entry)) ⌝ }
 {
-    if !is_usable(name) {
+    if !changes::is_usable(name) {
         return unsound(Reason::NameNotUsable);
     }
     if !slots::is_carried(start.kind) {
