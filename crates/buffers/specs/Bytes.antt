@@ -1,7 +1,7 @@
 -- Lists of bytes: made by a rule, a part read, a part put.
 use Prim.Native.Nat.{ℕ, zero, suc, _+_, _-_}
 use mathlib.Core.List.{List, [], _∷_, _++_}
-use mathlib.Core.Bool.{Bool, true, false, cond, _&&_, _||_}
+use mathlib.Core.Bool.{Bool, false, cond, _&&_, _||_}
 use lib.Dec.{leb, ltb}
 use lib.ListN.{length, getD, take, drop}
 

@@ -10,10 +10,9 @@ use native.Mathlib.Numerals.{add-one}
 use native.Mathlib.Omega.{arith}
 use borrow.Author.Tests.{lt-ltb, le-ltb}
 use lib.Dec.{ltb}
-use lib.ListN.{length, getD, take, length-append, List·getD-append}
-use lib.Seq.{getD-append-add}
+use lib.ListN.{length, getD, take, length-append}
 use Rattle.buffers.specs.Bytes.{tab, part, put}
-use Rattle.buffers.proofs.Lists.{below-or-not, length-tab, length-put, put-in, put-before, put-after, put-is, put-append, put-none, part-whole, part-long, part-put}
+use Rattle.buffers.proofs.Lists.{below-or-not, length-tab, length-put, put-append, put-none, part-whole, part-long, part-put}
 use Rattle.refusals.specs.Order.{Refusal, refuse, Reply, row}
 use Rattle.refusals.specs.Answers.{refused, done, outcomeOf, Out, out, filled}
 use Rattle.refusals.specs.declared.Answer.{Answer}

@@ -9,7 +9,7 @@ use Rattle.geometry.specs.Disk.{bitOf}
 use Rattle.maps.specs.Bits.{has}
 use Rattle.refusals.specs.Order.{Row, _when_, Reply, rows}
 use Rattle.slots.specs.Slot.{Facts, facts, carried, lengthOf}
-use Rattle.chains.specs.File.{File, fileOf}
+use Rattle.chains.specs.File.{File}
 
 -- "Bytes 511 and 512 of a data sector, counted from one, are the next track and sector." The map bit that a sector's
 -- bytes lead to; 1,560, which no map has, where they name no data sector.

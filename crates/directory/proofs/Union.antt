@@ -1,7 +1,7 @@
 -- The used map against the live slots before: how long it is, which bits it has, and what it shares with another map.
 use Prim.Native.Nat.{ℕ, zero, suc, _+_, _<_}
 use mathlib.Core.Path.{_≡_, sym, ap, ap₂, _∙_}
-use mathlib.Core.Bool.{Bool, true, false, _||_, or-false, true≢false}
+use mathlib.Core.Bool.{Bool, false, _||_, or-false, true≢false}
 use mathlib.Core.List.{List}
 use mathlib.Core.Option.{Option, none, some}
 use native.Mathlib.Numerals.{add-one}

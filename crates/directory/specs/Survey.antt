@@ -2,7 +2,7 @@
 use Prim.Native.Nat.{ℕ, zero, suc, _-_}
 use mathlib.Core.Bool.{Bool, false}
 use mathlib.Core.List.{List, [], _∷_, _++_}
-use mathlib.Core.Option.{Option, none, some}
+use mathlib.Core.Option.{none, some}
 use Rattle.buffers.specs.Bytes.{any}
 use Rattle.maps.specs.Bits.{bitsOf, share, clear, join}
 use Rattle.refusals.specs.Order.{Row, _when_, Reply, rows, sweep}

@@ -1,13 +1,13 @@
 -- The check's reply by the tests that lead to it, with the used map that goes with it.
 use Prim.Native.Nat.{ℕ}
-use mathlib.Core.Path.{_≡_, refl, sym, ap, ap₂, _∙_}
+use mathlib.Core.Path.{_≡_, sym, ap, _∙_}
 use mathlib.Core.List.{List}
-use mathlib.Core.Option.{Option, none, some}
+use mathlib.Core.Option.{none, some}
 use borrow.Author.Tests.{eq-eqb, ne-eqb}
 use lib.ListN.{length}
 use Rattle.geometry.specs.Disk.{imageSize}
-use Rattle.refusals.specs.Order.{Reply, Refusal, refuse, _else_, sweep}
-use Rattle.refusals.specs.Answers.{replyOf, refusalOf, numberOf}
+use Rattle.refusals.specs.Order.{Reply, refuse, _else_, sweep}
+use Rattle.refusals.specs.Answers.{replyOf, refusalOf}
 use Rattle.refusals.specs.declared.Reason.the-variants.{NotAnImage}
 use Rattle.refusals.specs.declared.Refused.{Refused}
 use Rattle.refusals.specs.declared.Verdict.the-variants.{Sound, Unsound}

@@ -1,5 +1,5 @@
 -- Laws of the look: what it holds at a slot, and that two disks which agree have one look.
-use Prim.Native.Nat.{ℕ, suc, _+_, _<_}
+use Prim.Native.Nat.{ℕ, suc, _+_}
 use native.Mathlib.Numerals.{add-one}
 use mathlib.Core.Path.{_≡_, refl, sym, ap, _∙_, fun-ext}
 use mathlib.Core.Bool.{true}
@@ -12,7 +12,7 @@ use Rattle.chains.specs.File.{File, fileOf, sectorAt}
 use Rattle.chains.proofs.Laws.{file-agree}
 use Rattle.chains.specs.Chain.{laterReply}
 use Rattle.directory.specs.Directory.{held, Directory, directory}
-use Rattle.disk.specs.Look.{Look, look, slotsOf}
+use Rattle.disk.specs.Look.{look, slotsOf}
 use Rattle.disk.specs.Check.{chainAt}
 
 -- the directory of a disk's look is the disk's directory

@@ -1,18 +1,15 @@
 -- What it means that no row holds at a file: the rows' tests as facts, both ways.
-use Prim.Native.Nat.{ℕ, suc, _+_, _-_, _*_, _%_, _≤_, _<_}
-use mathlib.Core.Path.{_≡_, refl, sym, ap, _∙_}
-use mathlib.Core.Bool.{Bool, true, false, not, cond, _&&_, _||_, true≢false, false≢true}
+use Prim.Native.Nat.{ℕ, _+_, _-_, _*_, _%_, _≤_}
+use mathlib.Core.Path.{_≡_, refl, ap}
+use mathlib.Core.Bool.{Bool, true, false, not, _&&_, _||_, false≢true}
 use mathlib.Core.List.{List, [], _∷_, _++_}
 use mathlib.Core.Logic.{_⊎_, inl, inr, ⊎-elim}
-use borrow.Author.Tests.{eqb-true, eqb-false, eq-eqb, ne-eqb, leb-true, leb-false, le-leb, lt-leb, ltb-true, ltb-false, lt-ltb, le-ltb, not-true, not-false}
-use native.Mathlib.Omega.{arith}
+use borrow.Author.Tests.{eqb-true, eqb-false, eq-eqb, ne-eqb, leb-true, le-leb, ltb-false, le-ltb, not-false}
 use lib.Dec.{eqb, leb, ltb}
-use lib.ListN.{getD, length}
-use Rattle.geometry.specs.Disk.{isData, bitOf}
-use Rattle.geometry.proofs.Laws.{bit-data}
+use lib.ListN.{getD}
 use Rattle.maps.specs.Bits.{has, bitsOf}
 use Rattle.refusals.specs.Order.{Row, Clear}
-use Rattle.slots.specs.Slot.{Facts, facts, known, carried, kindOf, countOf, mapOf, firstOf, pagesOf, remainderOf, lengthOf}
+use Rattle.slots.specs.Slot.{facts, known, carried, kindOf, countOf, mapOf, firstOf, pagesOf, remainderOf, lengthOf}
 use Rattle.slots.specs.Rows.{own, dataCount}
 use Rattle.chains.specs.Chain.{broken, headerDiffers, later}
 use Rattle.disk.specs.Sound.{Known, Carried, Agrees}

@@ -1,17 +1,15 @@
 -- The check accepts exactly the sound disks.
-use Prim.Native.Nat.{ℕ, suc, _+_, _-_, _*_, _≤_, _<_, min}
+use Prim.Native.Nat.{ℕ, _-_, _≤_, _<_}
 use mathlib.Core.Path.{_≡_, refl, sym, ap, _∙_}
 use mathlib.Core.Bool.{Bool, true, false, false≢true}
-use mathlib.Core.List.{List, _++_}
+use mathlib.Core.List.{List}
 use mathlib.Core.Option.{Option, none, some}
 use native.Mathlib.Omega.{arith}
 use lib.ListN.{getD, length}
-use Rattle.buffers.specs.Bytes.{any}
 use Rattle.buffers.proofs.Lists.{length-part}
 use Rattle.buffers.proofs.Counts.{any-none, none-any}
-use Rattle.geometry.specs.Disk.{isData, bitOf}
 use Rattle.geometry.proofs.Laws.{bit-data}
-use Rattle.maps.specs.Bits.{has, share}
+use Rattle.maps.specs.Bits.{share}
 use Rattle.maps.proofs.Laws.{share-none, none-share}
 use Rattle.refusals.specs.Order.{Clear}
 use Rattle.slots.specs.Slot.{facts, mapOf, nameOf, firstOf}
@@ -23,12 +21,11 @@ use Rattle.chains.specs.Chain.{later}
 use Rattle.chains.proofs.Laws.{map-small}
 use Rattle.chains.proofs.Whole.{whole, of-whole}
 use Rattle.directory.specs.Places.{slots}
-use Rattle.directory.specs.Directory.{held, Directory}
+use Rattle.directory.specs.Directory.{held}
 use Rattle.directory.specs.Survey.{earlier, cross}
 use Rattle.disk.specs.Look.{Look, slotsOf, extra}
 use Rattle.disk.specs.Check.{checkLook}
 use Rattle.disk.specs.Sound.{GoodFile, Sound}
-use Rattle.disk.specs.Given.{rows9, rows11}
 use Rattle.disk.proofs.Order.{Accepted, accepted, accepted-only}
 use Rattle.disk.proofs.Rows.{Own, own-clear, clear-own, later-clear, clear-later, clear-parts, parts-clear}
 

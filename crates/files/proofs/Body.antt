@@ -1,15 +1,12 @@
 -- Runs of bytes put one after another, and the runs that a body is made of.
-use Prim.Native.Nat.{ℕ, zero, suc, _+_, _-_, _*_, _/_, _%_, _≤_, _<_, min}
+use Prim.Native.Nat.{ℕ, suc, _+_, _-_, _*_, _/_, _%_, _≤_, _<_, min}
 use mathlib.Core.Path.{_≡_, sym, ap, ap₂, _∙_}
 use mathlib.Core.Bool.{true}
-use mathlib.Core.List.{List, [], _∷_, _++_, append-assoc, append-nil}
-use mathlib.Core.Logic.{⊎-elim}
-use native.Mathlib.Nat.{add-zero, add-suc}
+use mathlib.Core.List.{List, []}
 use native.Mathlib.Omega.{arith}
-use lib.ListN.{length, getD, length-append, List·getD-append}
-use lib.Seq.{getD-append-add}
+use lib.ListN.{length, getD}
 use Rattle.buffers.specs.Bytes.{tab, part, put}
-use Rattle.buffers.proofs.Lists.{below-or-not, length-tab, tab-of, part-long, part-at, length-put, tab-add, put-append, put-in, put-before, put-after, put-is, put-none}
+use Rattle.buffers.proofs.Lists.{length-tab, tab-of, part-long, part-at, length-put, tab-add, put-append, put-none}
 use Rattle.geometry.specs.Disk.{bitPlace, placeOrEnd}
 use Rattle.geometry.proofs.Laws.{place-inside, place-or-end}
 use Rattle.maps.specs.Bits.{has}

@@ -1,7 +1,7 @@
 -- Laws of the listing: entries and live slots, one slot more, and how long the entries are.
-use Prim.Native.Nat.{ℕ, zero, suc, _+_, _-_, _*_, _/_, _%_, _≤_, _<_}
-use mathlib.Core.Path.{_≡_, refl, sym, ap, ap₂, _∙_}
-use mathlib.Core.Bool.{Bool, true, false, cond}
+use Prim.Native.Nat.{ℕ, zero, suc, _+_, _-_, _*_, _≤_, _<_}
+use mathlib.Core.Path.{_≡_, refl, sym, ap, _∙_}
+use mathlib.Core.Bool.{true, false, cond}
 use mathlib.Core.List.{List, [], _∷_, _++_, append-nil}
 use mathlib.Core.Option.{Option, none, some}
 use native.Mathlib.Numerals.{add-one}
@@ -11,8 +11,8 @@ use lib.Dec.{ltb}
 use lib.ListN.{length, length-append}
 use Rattle.buffers.specs.Bytes.{put, count}
 use Rattle.buffers.proofs.Lists.{length-put, put-none, put-append, part-long}
-use Rattle.buffers.proofs.Counts.{count-more, count-le, count-add}
-use Rattle.directory.specs.Places.{slots, slotBytes, slotAt}
+use Rattle.buffers.proofs.Counts.{count-more, count-le}
+use Rattle.directory.specs.Places.{slots, slotAt}
 use Rattle.directory.specs.Directory.{held, Directory, directory}
 use Rattle.directory.proofs.Live.{directory-some}
 use Rattle.directory.proofs.Places.{slot-front}
@@ -20,7 +20,7 @@ use Rattle.directory.specs.Survey.{free, freeOf, usedMap, usedOr}
 use Rattle.directory.specs.declared.UsedMap.{UsedMap}
 use Rattle.directory.specs.declared.Survey.{Survey}
 use Rattle.refusals.specs.Order.{Refusal, refuse, Reply, _else_, row}
-use Rattle.refusals.specs.Answers.{Outcome, Out, out, filled, done, refused, refusalOf, replyOf}
+use Rattle.refusals.specs.Answers.{Outcome, out, filled, done, refused, refusalOf, replyOf}
 use Rattle.refusals.specs.declared.Refused.{Refused}
 use Rattle.refusals.specs.declared.Verdict.the-variants.{Sound, Unsound}
 use Rattle.disk.specs.Look.{extra}

@@ -3,10 +3,10 @@ use mathlib.Core.List.{List}
 use mathlib.Core.Option.{none}
 use mathlib.Core.Path.{_≡_}
 use Prim.Native.Nat.{ℕ, _+_, _*_, _≤_}
-use mathlib.Core.Bool.{true, false}
+use mathlib.Core.Bool.{false}
 use lib.ListN.{length}
 use Rattle.geometry.specs.Disk.{imageSize}
-use Rattle.slots.specs.Slot.{facts, kindOf, carried, lengthOf}
+use Rattle.slots.specs.Slot.{facts, lengthOf}
 use Rattle.chains.specs.File.{sectorsOf}
 use Rattle.chains.specs.Chain.{broken}
 use Rattle.directory.specs.Directory.{directory}

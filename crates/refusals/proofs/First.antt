@@ -1,14 +1,14 @@
 -- The first refusal in the order is the first: laws of `else`, of rows at a slot and of sweeps over slots.
 use Prim.Native.Nat.{ℕ, zero, suc, _+_, _-_, _≤_, _<_}
 use mathlib.Core.Path.{_≡_, refl, sym, ap, _∙_, subst}
-use mathlib.Core.Bool.{Bool, true, false, cond, true≢false, false≢true}
+use mathlib.Core.Bool.{Bool, true, false, cond}
 use mathlib.Core.List.{List, [], _∷_}
 use mathlib.Core.Logic.{_⊎_, inl, inr, ⊎-elim}
 use mathlib.Core.Option.{Option, none, some, Option·some-ne-none}
 use native.Mathlib.Nat.{eq-or-lt-of-le}
 use native.Mathlib.Numerals.{add-one}
 use native.Mathlib.Omega.{arith}
-use Rattle.refusals.specs.Order.{Refusal, refuse, Reply, _else_, Row, rows, sweepFrom, sweep, Clear, FirstRow, FirstAt}
+use Rattle.refusals.specs.Order.{Refusal, refuse, _else_, Row, rows, sweepFrom, sweep, Clear, FirstRow, FirstAt}
 
 -- ---- the first of two
 

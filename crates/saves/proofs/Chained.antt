@@ -1,7 +1,7 @@
 -- The data sectors written so far, and those that are left of a chain.
-use Prim.Native.Nat.{ℕ, suc, _+_, _*_, _≤_, _<_}
+use Prim.Native.Nat.{ℕ, _+_, _*_, _≤_, _<_}
 use mathlib.Core.Path.{_≡_, refl, sym, ap, ap₂, _∙_}
-use mathlib.Core.List.{List, [], _∷_, _++_}
+use mathlib.Core.List.{List, _∷_}
 use mathlib.Core.Logic.{⊎-elim}
 use borrow.Author.Tests.{lt-ltb}
 use native.Mathlib.Numerals.{add-one}
@@ -18,7 +18,7 @@ use Rattle.steps.specs.Steps.{putAll, enact}
 use Rattle.plans.specs.Saving.{block, nextTrack, nextSector}
 use Rattle.plans.specs.Plan.{dataSteps}
 use Rattle.saves.specs.declared.Link.{Link}
-use Rattle.saves.specs.Write.{Bits, linkTo}
+use Rattle.saves.specs.Write.{linkTo}
 
 -- what is left of a chain from sector j on
 pub from : (bs : List ℕ) (j : ℕ) → j < length bs → drop j bs ≡ getD bs j 0 ∷ drop (j + 1) bs

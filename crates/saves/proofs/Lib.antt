@@ -3,6 +3,6 @@ pub mod Chained
 pub mod Picked
 pub mod Slot
 pub mod Numbers
-pub mod Whole
 pub mod Told
+pub mod Whole
 pub mod Planned

@@ -1,23 +1,23 @@
 -- The plan of a save on an accepted disk, by the tests that led there, and what the writing is then entered with.
-use Prim.Native.Nat.{ℕ, zero, suc, _+_, _-_, _*_, _/_, _≤_, _<_}
+use Prim.Native.Nat.{ℕ, zero, suc, _+_, _-_, _≤_, _<_}
 use mathlib.Core.Path.{_≡_, refl, sym, ap, ap₂, _∙_}
-use mathlib.Core.Bool.{Bool, true, false, cond, not, _&&_, and-eq-true-iff}
-use mathlib.Core.List.{List, [], _∷_, _++_}
+use mathlib.Core.Bool.{Bool, cond, not, _&&_, and-eq-true-iff}
+use mathlib.Core.List.{List, [], _∷_}
 use mathlib.Core.Option.{Option, none, some}
 use native.Mathlib.Numerals.{add-one}
 use native.Mathlib.Omega.{arith}
 use borrow.Author.Tests.{lt-ltb, le-ltb, leb-true, not-false}
 use lib.Dec.{leb, ltb}
-use lib.ListN.{length, getD, take}
+use lib.ListN.{length, take}
 use Rattle.maps.specs.Bits.{has}
 use Rattle.refusals.specs.Order.{Refusal, refuse, Reply, _else_, _when_, row, sweepFrom}
-use Rattle.refusals.specs.Answers.{Outcome, done, refused, refusalOf, replyOf}
+use Rattle.refusals.specs.Answers.{Outcome, done, refused}
 use Rattle.refusals.proofs.First.{rows-clear, else-none, sweep-start, sweep-skip, sweep-stop, sweep-end}
 use Rattle.slots.specs.Slot.{carried}
 use Rattle.slots.specs.Rows.{dataCount}
-use Rattle.directory.specs.Places.{slots, dataBit}
+use Rattle.directory.specs.Places.{slots}
 use Rattle.directory.specs.Directory.{held, Directory, directory}
-use Rattle.directory.specs.Survey.{union, counted, usedMap, freeOf, free}
+use Rattle.directory.specs.Survey.{union, usedMap, freeOf, free}
 use Rattle.directory.specs.Find.{find}
 use Rattle.directory.specs.declared.UsedMap.{UsedMap}
 use Rattle.directory.proofs.Places.{data-all}
@@ -25,16 +25,18 @@ use Rattle.directory.proofs.Union.{counted-bytes}
 use Rattle.disk.specs.Look.{Look, look, slotsOf, extra}
 use Rattle.disk.proofs.Look.{look-slots, look-some, look-none}
 use Rattle.disk.proofs.Rows.{carried-is}
+use Rattle.disk.specs.Check.{checkDisk}
+use Rattle.files.specs.Calls.{Sought, at, barred}
 use Rattle.files.specs.Steps.{Accepted}
-use Rattle.steps.specs.Steps.{Step, enact, numbers}
-use Rattle.plans.specs.Change.{Wish, Change, save, between, usable}
+use Rattle.steps.specs.Steps.{numbers}
+use Rattle.plans.specs.Change.{Wish, save, between, usable}
 use Rattle.plans.specs.Saving.{sectorsFor, passing, freeBit, taken, lowestSlot}
 use Rattle.plans.specs.Plan.{Plan, no, go, orNo, nameTaken, planOf, plan, saveSteps, changed, change}
-use Rattle.plans.proofs.Free.{From, free-long, taken-run, taken-long, run-at, lowest-slot}
+use Rattle.plans.proofs.Free.{taken-run, taken-long, run-at, lowest-slot}
 use Rattle.saves.specs.declared.Start.{Start}
-use Rattle.saves.specs.Write.{wishFor, askedReply, unset, lowest, Bits, Plain, Writable, Savable, Saved, Open}
-use Rattle.saves.proofs.Told.{change-no, change-short, change-done}
-use Rattle.saves.proofs.Whole.{numbers-long}
+use Rattle.saves.specs.Write.{wishFor, askedReply, soughtIn, slotFor, unset, lowest, Open}
+use Rattle.saves.proofs.Told.{Saved, change-no, change-short, change-done}
+use Rattle.saves.proofs.Whole.{Savable, numbers-long}
 
 -- ---- the lowest slot that holds no file, as a loop looks for it
 
@@ -55,6 +57,42 @@ module _ (d : List ℕ) (i : ℕ) (w : lowestSlot (look d) ≡ sweepFrom (slots 
   pub slot-none : slots ≤ i → none ≡ lowestSlot (look d)
   slot-none h = sym (w ∙ sweep-end (slots - i) i (emptyAt (look d)) (omega arith))
 
+-- ---- the slot that a save takes, by the tests that led there
+
+module _ (d : List ℕ) (s : Start) (n : List ℕ) where
+  place-by : {a : Reply} {f o : Option ℕ} → askedReply s n ≡ a → find (directory d) n ≡ f → lowestSlot (look d) ≡ o
+      → slotFor d s n ≡ soughtIn (a else held none (λ i. some (refuse 16 (suc i))) f) o
+  unfolding slotFor
+  place-by ea ef eo =
+      ap₂ soughtIn
+      (ap₂ (λ (p : Reply) (o : Option ℕ). p else held none (λ i. some (refuse 16 (suc i))) o) ea (ap (λ (v : Directory). find v n) (look-slots d) ∙ ef)) eo
+
+  pub place-asked : (r : Refusal) → askedReply s n ≡ some r → barred r ≡ slotFor d s n
+  place-asked r e = sym (place-by e refl refl)
+
+  module _ (e : askedReply s n ≡ none) where
+    pub place-named : (i : ℕ) → find (directory d) n ≡ some i → barred (refuse 16 (i + 1)) ≡ slotFor d s n
+    place-named i f = rw add-one (sym (place-by e f refl))
+
+    module _ (f : find (directory d) n ≡ none) where
+      pub place-full : lowestSlot (look d) ≡ none → barred (refuse 18 0) ≡ slotFor d s n
+      place-full o = sym (place-by e f o)
+
+      pub place-at : (i : ℕ) → lowestSlot (look d) ≡ some i → at i ≡ slotFor d s n
+      place-at i o = sym (place-by e f o)
+
+  -- a slot that is taken is the lowest, and the arguments are not refused
+  taken-at : (i : ℕ) → at i ≡ slotFor d s n → (askedReply s n ≡ none) × (lowestSlot (look d) ≡ some i)
+  unfolding slotFor
+  taken-at i e = by (askedReply s n) refl (nameTaken (look d) n) (lowestSlot (look d)) refl e
+    where
+      by : (p : Reply) → askedReply s n ≡ p → (q : Reply) (o : Option ℕ) → lowestSlot (look d) ≡ o → at i ≡ soughtIn (p else q) o
+          → (askedReply s n ≡ none) × (lowestSlot (look d) ≡ some i)
+      by (some r) a q o b w = let z : _≡_ {A = ℕ} 0 1 = cc in absurd (omega arith)
+      by none a (some r) o b w = let z : _≡_ {A = ℕ} 0 1 = cc in absurd (omega arith)
+      by none a none none b w = let z : _≡_ {A = ℕ} 0 1 = cc in absurd (omega arith)
+      by none a none (some j) b w = let z : j ≡ i = cc in (a, b ∙ ap some z)
+
 -- ---- the plan
 
 -- the rows in their order
@@ -68,33 +106,27 @@ module _ (d : List ℕ) (s : Start) (name exec info body : List ℕ) where
   abbrev w : Wish
   w = wishFor s name exec info body
 
-  -- where the arguments and the name are not refused: by the slot, and by the free sectors
-  rest : Option ℕ → Plan
-  rest o =
-      held (no (refuse 18 0))
-      (λ i. orNo (row 19 0 (ltb (free (extra (look d)) (slotsOf (look d))) (sectorsFor (length body)))) (go (saveSteps (look d) i w (taken (look d) w)))) o
+  -- at a slot the plan goes by the free sectors
+  abbrev planAt : Sought → Plan
+  planAt (barred r) = no r
+  planAt (at i) =
+      orNo (row 19 0 (ltb (free (extra (look d)) (slotsOf (look d))) (sectorsFor (length body)))) (go (saveSteps (look d) i w (taken (look d) w)))
 
-  plan-by : {a : Reply} {f o : Option ℕ} → askedReply s name ≡ a → find (directory d) name ≡ f → lowestSlot (look d) ≡ o
-      → plan (save w) d ≡ orNo (a else held none (λ i. some (refuse 16 (suc i))) f) (rest o)
-  unfolding planOf askedReply rest
-  plan-by ea ef eo =
-      ap₂ orNo
+  plan-is : (x : Sought) → x ≡ slotFor d s name → plan (save w) d ≡ planAt x
+  unfolding planOf askedReply slotFor
+  plan-is x e =
+      ap (λ (q : Reply). orNo q (held (no (refuse 18 0)) (λ i. planAt (at i)) (lowestSlot (look d))))
       (rows-order (row 12 0 (not (usable name))) (row 13 0 (not (carried (s .kind)))) (row 14 0 (not (leb (s .page) 31 && between 32768 (s .offset) 49151)))
-      (nameTaken (look d) name)
-      ∙ ap₂ (λ (p : Reply) (o : Option ℕ). p else held none (λ i. some (refuse 16 (suc i))) o) ea (ap (λ (v : Directory). find v name) (look-slots d) ∙ ef))
-      (ap rest eo)
+      (nameTaken (look d) name))
+      ∙ by (askedReply s name else nameTaken (look d) name) (lowestSlot (look d)) ∙ ap planAt (sym e)
+    where
+      by : (p : Reply) (o : Option ℕ) → orNo p (held (no (refuse 18 0)) (λ i. planAt (at i)) o) ≡ planAt (soughtIn p o)
+      by (some r) o = refl
+      by none (some i) = refl
+      by none none = refl
 
-  pub plan-asked : (r : Refusal) → askedReply s name ≡ some r → plan (save w) d ≡ no r
-  plan-asked r e = plan-by e refl refl
-
-  module _ (e : askedReply s name ≡ none) where
-    pub plan-named : (i : ℕ) → find (directory d) name ≡ some i → plan (save w) d ≡ no (refuse 16 (i + 1))
-    plan-named i f = rw add-one (plan-by e f refl)
-
-    module _ (f : find (directory d) name ≡ none) where
-      pub plan-full : lowestSlot (look d) ≡ none → plan (save w) d ≡ no (refuse 18 0)
-      unfolding rest
-      plan-full o = plan-by e f o
+  pub save-barred : (buf : List ℕ) → checkDisk d ≡ none → (r : Refusal) → barred r ≡ slotFor d s name → changed (refused r) d buf ≡ change (save w) d buf
+  save-barred buf a r e = change-no (save w) d buf a r (plan-is (barred r) e) (refused r) refl
 
 -- ---- the free sectors, and the bits taken of them
 
@@ -138,18 +170,16 @@ module _ (d : List ℕ) (u : UsedMap) (i : ℕ) (s : Start) (name exec info body
   abbrev v : Wish
   v = wishFor s name exec info body
 
-  plan-at : plan (save v) d ≡ rest d s name exec info body (some i)
-  plan-at = plan-by d s name exec info body (o .asked) (o .fresh) (o .slot)
+  plan-at : plan (save v) d ≡ planAt d s name exec info body (at i)
+  plan-at = plan-is d s name exec info body (at i) (o .place)
 
   pub save-few : f < sectorsFor (length body) → (x : Outcome) → x ≡ refused (refuse 19 0) → changed x d buf ≡ change (save v) d buf
-  unfolding rest
   save-few h x p =
       change-no (save v) d buf (o .disk .accepted) (refuse 19 0)
       (plan-at ∙ rw (free-is d u (o .disk) f e, lt-ltb f (sectorsFor (length body)) h)) x p
 
   module _ (h : sectorsFor (length body) ≤ f) where
     plan-go : plan (save v) d ≡ go (saveSteps (look d) i v (taken (look d) v))
-    unfolding rest
     plan-go = plan-at ∙ rw (free-is d u (o .disk) f e, le-ltb f (sectorsFor (length body)) h)
 
     long : length (taken (look d) v) ≡ sectorsFor (length body)
@@ -165,13 +195,14 @@ module _ (d : List ℕ) (u : UsedMap) (i : ℕ) (s : Start) (name exec info body
       pub savable : Savable (u .bytes) i s body buf
       unfolding sectorsFor
       savable =
-          let p = asked-plain s name (o .asked) in
+          let y = taken-at d s name i (o .place) in
+          let p = asked-plain s name (y .0) in
           let t = taken-is d u (o .disk) v in
           let z : f ≤ 1560 = omega (arith, free-le 0 u) in
           let q : length (lowest (u .bytes) (sectorsFor (length body))) ≡ sectorsFor (length body) = ap length t ∙ long in
           record {
             file = record {
-              slot = lowest-slot (look d) i (o .slot) .below;
+              slot = lowest-slot (look d) i (y .1) .below;
               plain = record { kind = omega arith; page = omega arith; offset = omega arith; pages = omega arith };
               bits = record {
                 few = omega arith;

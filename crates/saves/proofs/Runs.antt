@@ -1,17 +1,16 @@
 -- Runs of a header and a body, and the data sectors that they make.
-use Prim.Native.Nat.{ℕ, zero, suc, _+_, _-_, _*_, _≤_, _<_}
+use Prim.Native.Nat.{ℕ, _+_, _-_, _*_, _≤_, _<_}
 use mathlib.Core.Path.{_≡_, refl, sym, ap, ap₂, _∙_}
 use mathlib.Core.Bool.{cond}
 use mathlib.Core.List.{List, [], _∷_, _++_}
 use mathlib.Core.Logic.{⊎-elim}
 use native.Mathlib.Omega.{arith}
-use borrow.Author.Tests.{lt-ltb, le-ltb}
+use borrow.Author.Tests.{lt-ltb}
 use lib.Dec.{eqb, ltb}
 use lib.ListN.{length, getD, replicate, length-append, length-replicate, getD-replicate, List·getD-append}
 use lib.Seq.{getD-append-add}
-use Rattle.buffers.specs.Bytes.{tab, part, put}
-use Rattle.buffers.proofs.Lists.{below-or-not, past-end, length-tab, getD-tab, tab-of, tab-cong, length-part, part-long, part-at, put-append}
-use Rattle.plans.specs.Change.{Wish}
+use Rattle.buffers.specs.Bytes.{part, put}
+use Rattle.buffers.proofs.Lists.{below-or-not, past-end, length-tab, getD-tab, tab-of, length-part, part-long, part-at, put-append}
 use Rattle.plans.specs.Saving.{stream, block}
 use Rattle.saves.specs.declared.Start.{Start}
 use Rattle.saves.specs.Write.{wishFor, header, run}

@@ -1,43 +1,30 @@
 -- What a save answers, by the tests that led there.
-use Prim.Native.Nat.{ℕ, zero, suc, _+_, _-_, _*_, _/_, _≤_, _<_}
-use mathlib.Core.Path.{_≡_, refl, sym, ap, ap₂, _∙_}
-use mathlib.Core.Bool.{Bool, true, false, cond, not, _&&_}
-use mathlib.Core.List.{List, [], _∷_}
-use mathlib.Core.Option.{Option, none, some}
-use native.Mathlib.Numerals.{add-one}
-use native.Mathlib.Omega.{arith}
+use Prim.Native.Nat.{ℕ, _≤_, _<_}
+use mathlib.Core.Path.{_≡_, sym, ap, ap₂, _∙_}
+use mathlib.Core.Bool.{true, false}
+use mathlib.Core.List.{List}
+use mathlib.Core.Option.{none, some}
 use borrow.Author.Tests.{lt-ltb, le-ltb, le-leb, lt-leb}
-use lib.Dec.{leb, ltb}
-use lib.ListN.{length, getD, take}
+use lib.ListN.{length}
 use Rattle.buffers.specs.Bytes.{put}
-use Rattle.maps.specs.Bits.{has}
-use Rattle.refusals.specs.Order.{Refusal, refuse, Reply, _else_, row}
-use Rattle.refusals.specs.Answers.{Outcome, done, refused, refusalOf, replyOf}
-use Rattle.refusals.proofs.First.{sweep-start, sweep-skip, sweep-stop, sweep-end}
+use Rattle.refusals.specs.Order.{Refusal, refuse, Reply}
+use Rattle.refusals.specs.Answers.{Outcome, done, refused}
 use Rattle.slots.specs.Slot.{carried}
-use Rattle.slots.specs.Rows.{dataCount}
-use Rattle.directory.specs.Places.{slots}
-use Rattle.directory.specs.Directory.{held, Directory, directory}
-use Rattle.directory.specs.Survey.{union, counted, usedMap, freeOf, free}
-use Rattle.directory.specs.Find.{find}
-use Rattle.directory.specs.declared.UsedMap.{UsedMap}
-use Rattle.directory.proofs.Places.{data-all}
-use Rattle.directory.proofs.Union.{counted-bytes}
-use Rattle.disk.specs.Look.{Look, look, slotsOf, extra}
+use Rattle.disk.specs.Look.{Look}
 use Rattle.disk.specs.Check.{checkDisk}
-use Rattle.disk.proofs.Look.{look-slots}
-use Rattle.disk.proofs.Rows.{carried-is}
-use Rattle.files.specs.Steps.{Accepted}
 use Rattle.steps.specs.Steps.{Step, enact, numbers}
-use Rattle.steps.proofs.Steps.{numbers-append}
-use Rattle.plans.specs.Change.{Wish, Change, save, between, usable}
-use Rattle.plans.specs.Saving.{sectorsFor, passing, freeBit, taken, lowestSlot}
-use Rattle.plans.specs.Plan.{Plan, no, go, orNo, nameTaken, planOf, plan, saveSteps, settle, checked, run, changed, changedBy, change}
-use Rattle.plans.proofs.Free.{free-long, taken-run, taken-long, run-at, lowest-slot}
+use Rattle.plans.specs.Change.{Change, usable}
+use Rattle.plans.specs.Plan.{Plan, no, go, plan, settle, checked, run, changed, changedBy, change}
 use Rattle.saves.specs.declared.Start.{Start}
-use Rattle.saves.specs.Write.{wishFor, askedReply, unset, lowest, Bits, Plain, Writable, Savable, Saved, Open}
+use Rattle.saves.specs.Write.{askedReply}
 
 -- ---- any change
+
+-- what the steps leave, d and buf being the image and the list as handed in
+pub record Saved (sts : List (Step Look)) (d buf d′ buf′ : List ℕ) (r : ℕ) : Type 0 where
+  pub many : r ≡ length (numbers sts)
+  pub image : d′ ≡ enact d sts
+  pub list : buf′ ≡ put buf 0 (numbers sts)
 
 module _ (c : Change) (d buf : List ℕ) where
   pub change-refused : (r : Refusal) → checkDisk d ≡ some r → changed (refused r) d buf ≡ change c d buf

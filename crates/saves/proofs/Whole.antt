@@ -1,12 +1,12 @@
 -- The pieces that the code writes make the steps of a save.
-use Prim.Native.Nat.{ℕ, suc, _+_, _-_, _*_, _/_, _%_, _≤_, _<_}
-use mathlib.Core.Path.{_≡_, refl, sym, ap, ap₂, _∙_}
+use Prim.Native.Nat.{ℕ, _+_, _*_, _/_, _%_, _≤_, _<_}
+use mathlib.Core.Path.{_≡_, sym, ap, ap₂, _∙_}
 use mathlib.Core.List.{List, [], _∷_, _++_, map}
 use native.Mathlib.Nat.{add-zero}
 use native.Mathlib.Omega.{arith}
-use lib.ListN.{length, getD, take, set, length-map, length-append}
+use lib.ListN.{length, take, set, length-map, length-append}
 use Rattle.buffers.specs.Bytes.{tab, part, put}
-use Rattle.buffers.proofs.Lists.{part-put, length-put}
+use Rattle.buffers.proofs.Lists.{part-put}
 use Rattle.geometry.specs.Disk.{bitNumber}
 use Rattle.directory.specs.Places.{slotAt, dirSector}
 use Rattle.disk.specs.Look.{Look}
@@ -17,9 +17,10 @@ use Rattle.plans.specs.Saving.{sectorsFor, stream, chained, slotByte, newSlot}
 use Rattle.plans.specs.Plan.{entryOf, slotStep, dataSteps, saveSteps}
 use Rattle.plans.proofs.Saved.{data-numbers}
 use Rattle.saves.specs.declared.Start.{Start}
-use Rattle.saves.specs.Write.{wishFor, header, lowest, Writable, Savable, Saved}
+use Rattle.saves.specs.Write.{wishFor, header, lowest, Writable}
 use Rattle.saves.proofs.Runs.{stream-is}
 use Rattle.saves.proofs.Numbers.{put-next, put-over}
+use Rattle.saves.proofs.Told.{Saved}
 
 -- ---- the image
 
@@ -46,6 +47,12 @@ pub bits-front : (buf bs l : List ℕ) (n : ℕ) → length bs ≡ n → n ≤ l
 unfolding part
 bits-front buf bs l n e h p =
     ap₂ (λ (k : ℕ) (x : List ℕ). take k x) (sym e) p ∙ part-put buf 0 bs (omega arith)
+
+-- a save that nothing refuses, into slot i
+pub record Savable (used : List ℕ) (i : ℕ) (s : Start) (body list : List ℕ) : Type 0 where
+  pub file : Writable i s body (lowest used (sectorsFor (length body)))
+  pub enough : length (lowest used (sectorsFor (length body))) ≡ sectorsFor (length body)
+  pub room : sectorsFor (length body) < length list
 
 -- what the writing of the file is entered with
 pub front-writable : (used : List ℕ) (i : ℕ) (s : Start) (body buf : List ℕ) → Savable used i s body buf → (l : List ℕ) → l ≡ put buf 0 (lowest used (sectorsFor (length body)))

@@ -1,24 +1,23 @@
 -- What the steps of a save are entered with, and what they write: the definitions of `plans` in the pieces that the code writes.
-use Prim.Native.Nat.{ℕ, _+_, _*_, _/_, _%_, _≤_, _<_}
+use Prim.Native.Nat.{ℕ, _+_, _/_, _%_, _≤_, _<_}
 use mathlib.Core.Path.{_≡_}
 use mathlib.Core.Bool.{Bool, not, _&&_}
-use mathlib.Core.List.{List, [], _∷_, _++_}
-use mathlib.Core.Option.{none, some}
+use mathlib.Core.List.{List, [], _∷_}
+use mathlib.Core.Option.{Option, none, some}
+use lib.Dec.{eqb, leb}
 use lib.ListN.{length, getD, take}
-use Rattle.buffers.specs.Bytes.{tab, put}
+use Rattle.buffers.specs.Bytes.{tab}
 use Rattle.maps.specs.Bits.{has}
 use Rattle.slots.specs.Slot.{carried}
-use Rattle.refusals.specs.Order.{Reply, _else_, row}
+use Rattle.refusals.specs.Order.{refuse, Reply, _else_, row}
 use Rattle.directory.specs.Places.{slots}
-use Rattle.directory.specs.Directory.{directory}
-use Rattle.directory.specs.Find.{find}
 use Rattle.directory.specs.declared.UsedMap.{UsedMap}
-use Rattle.disk.specs.Look.{Look, look}
+use Rattle.disk.specs.Look.{look}
+use Rattle.files.specs.Calls.{Sought, at, barred}
 use Rattle.files.specs.Steps.{Accepted}
-use Rattle.steps.specs.Steps.{Step, enact, numbers}
 use Rattle.plans.specs.Change.{Wish, between, usable}
-use Rattle.plans.specs.Saving.{passing, sectorsFor, nextTrack, nextSector, lowestSlot}
-use lib.Dec.{eqb, leb}
+use Rattle.plans.specs.Plan.{nameTaken}
+use Rattle.plans.specs.Saving.{passing, nextTrack, nextSector, lowestSlot}
 use Rattle.saves.specs.declared.Start.{Start}
 use Rattle.saves.specs.declared.Link.{Link}
 
@@ -33,6 +32,15 @@ wishFor s n e i b = wish (s .kind) n (s .page) (s .offset) e i b
 unfoldable pub askedReply : Start → List ℕ → Reply
 askedReply s n =
     row 12 0 (not (usable n)) else row 13 0 (not (carried (s .kind))) else row 14 0 (not (leb (s .page) 31 && between 32768 (s .offset) 49151))
+
+abbrev pub soughtIn : Reply → Option ℕ → Sought
+soughtIn (some r) o = barred r
+soughtIn none (some i) = at i
+soughtIn none none = barred (refuse 18 0)
+
+-- the slot that a save takes, or the refusal that stands before it: rows 12, 13, 14 and 16, and 18 where no slot is free
+unfoldable pub slotFor : List ℕ → Start → List ℕ → Sought
+slotFor d s n = soughtIn (askedReply s n else nameTaken (look d) n) (lowestSlot (look d))
 
 -- ---- the bits taken
 
@@ -92,21 +100,7 @@ pub record Writable (i : ℕ) (s : Start) (body bs : List ℕ) : Type 0 where
   pub plain : Plain s (length body)
   pub bits : Bits bs
 
--- a save that nothing refuses, into slot i
-pub record Savable (used : List ℕ) (i : ℕ) (s : Start) (body list : List ℕ) : Type 0 where
-  pub file : Writable i s body (lowest used (sectorsFor (length body)))
-  pub enough : length (lowest used (sectorsFor (length body))) ≡ sectorsFor (length body)
-  pub room : sectorsFor (length body) < length list
-
--- an accepted disk, arguments and a name that nothing refuses, and the slot that the save takes
+-- an accepted disk, and the slot that a save takes there
 pub record Open (d : List ℕ) (u : UsedMap) (i : ℕ) (s : Start) (name : List ℕ) : Type 0 where
   pub disk : Accepted d u
-  pub asked : askedReply s name ≡ none
-  pub fresh : find (directory d) name ≡ none
-  pub slot : lowestSlot (look d) ≡ some i
-
--- what it leaves, d and buf being the image and the list as handed in
-pub record Saved (sts : List (Step Look)) (d buf d′ buf′ : List ℕ) (r : ℕ) : Type 0 where
-  pub many : r ≡ length (numbers sts)
-  pub image : d′ ≡ enact d sts
-  pub list : buf′ ≡ put buf 0 (numbers sts)
+  pub place : at i ≡ slotFor d s name

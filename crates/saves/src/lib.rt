@@ -1,23 +1,24 @@
 // Saving a file: its data sectors along a chain of free bits, then its slot, and the list of the sectors written.
 ghost use mathlib.Core.Path.{_≡_};
 ghost use mathlib.Core.List.{_++_, map};
-ghost use Prim.Native.Nat.{ℕ, _+_, _*_, _/_, _%_, _≤_, _<_};
+ghost use mathlib.Core.Option.{some};
+ghost use Prim.Native.Nat.{_*_, _≤_, _<_};
 ghost use lib.ListN.{length, drop, take};
 ghost use Rattle.buffers.specs.Bytes.{put, tab};
 ghost use Rattle.geometry.specs.Disk.{bitNumber, placeOrEnd};
-ghost use Rattle.plans.specs.Change.{save};
-ghost use Rattle.plans.specs.Saving.{block, mapWith, slotByte, sectorsFor, lowestSlot};
-ghost use Rattle.plans.specs.Plan.{dataSteps, saveSteps, changed, change};
-ghost use mathlib.Core.Option.{some};
 ghost use Rattle.refusals.specs.Order.{refuse};
 ghost use Rattle.refusals.specs.Answers.{numberOf, replyOf, outcomeOf, refused};
 ghost use Rattle.directory.specs.Find.{foundAt};
 ghost use Rattle.disk.specs.Look.{look};
-ghost use Rattle.files.specs.Steps.{Accepted};
+ghost use Rattle.files.specs.Calls.{barred, soughtOf};
 ghost use Rattle.steps.specs.Steps.{enact};
-ghost use Rattle.saves.specs.Write.{wish, wishFor, askedReply, Bits, Plain, header, run, lowest, full, linkTo, chainBytes, span, Writable, Savable, Saved, Open};
+ghost use Rattle.plans.specs.Change.{save};
+ghost use Rattle.plans.specs.Saving.{block, mapWith, slotByte, lowestSlot};
+ghost use Rattle.plans.specs.Plan.{dataSteps, saveSteps, changed, change};
+ghost use Rattle.saves.specs.Write.{wish, wishFor, askedReply, lowest, full, Bits, Plain, header, run, linkTo, chainBytes, span, Writable, slotFor, Open};
 use directory::Found;
 use directory::UsedMap;
+use files::Lookup;
 use geometry::Address;
 use refusals::Answer;
 use refusals::Reason;
@@ -92,7 +93,7 @@ fn header_of(start: Start, len: usize) -> [u8; 9]
 
 // Puts `n` bytes of a body from a place on, and 0 for each past its end.
 fn write_run(image: &mut [u8], at: usize, body: &[u8], from: usize, n: usize)
-    requires { ⌜ (at ≤ 1000000) × (n ≤ 510) ⌝ }
+    requires { ⌜ (at ≤ 819209) × (n ≤ 510) ⌝ }
     ensures { λ _. ⌜ now (image .exit) ≡ put (now (image .entry)) at (run (now (body .entry)) from n) ⌝ }
 {
     let there = buffers::part_at(body, from, n);
@@ -157,11 +158,11 @@ fn write_chain(image: &mut [u8], head: &[u8], body: &[u8], bits: &[u16])
     requires { ⌜ (length (now head) ≡ 9) × Bits (now bits) ⌝ }
     ensures { λ _. ⌜ now (image .exit) ≡ enact (now (image .entry)) (dataSteps (now (head .entry) ++ now (body .entry)) 0 (now (bits .entry))) ⌝ }
 {
-    let mut j: usize = 0;
-    while j < bits.len() {
-        let link = link_to(bits, j + 1);
-        write_sector(image, bits[j] as usize, head, body, j, link);
-        j += 1;
+    let mut k: usize = 0;
+    while k < bits.len() {
+        let link = link_to(bits, k + 1);
+        write_sector(image, bits[k] as usize, head, body, k, link);
+        k += 1;
     }
 }
 
@@ -217,8 +218,7 @@ fn slot_of(
     ensures { λ r. ⌜ r ≡ tab 256 (slotByte (wishFor start (now (name .entry)) (now (exec .entry)) (now (info .entry)) (now (body .entry))) (now (bits .entry))) ⌝ }
 {
     let mut slot = [0u8; 256];
-    let kind = [start.kind as u8];
-    buffers::copy_into(&mut slot, 0, &kind);
+    slot[0] = start.kind as u8;
     let filled = slots::padded_name(name);
     buffers::copy_into(&mut slot, 1, &filled);
     let chain = chain_bytes(bits);
@@ -229,8 +229,8 @@ fn slot_of(
     let span = span_of(start, body.len());
     buffers::copy_into(&mut slot, 236, &span);
     buffers::copy_into(&mut slot, 242, buffers::part_at(exec, 0, 3));
-    let no_date = [255u8];
-    buffers::copy_into(&mut slot, 245, &no_date);
+    // no date
+    slot[245] = 255;
     slot
 }
 
@@ -266,33 +266,10 @@ fn write_file(
     buffers::copy_into(image, i / 20 * 10240 + i % 20 * 256, &slot);
 }
 
-// Writes a save that nothing refuses into the free slot `i`, and lists its sectors; how many.
-fn write(
-    image: &mut [u8],
-    used: &[u8],
-    i: usize,
-    start: Start,
-    name: &[u8],
-    exec: &[u8],
-    info: &[u8],
-    body: &[u8],
-    list: &mut [u16],
-) -> usize
-    requires { ⌜ Savable (now used) i start (now body) (now list) ⌝ }
-    ensures { λ r. ⌜ Saved (saveSteps (look (now (image .entry))) i (wishFor start (now (name .entry)) (now (exec .entry)) (now (info .entry)) (now (body .entry))) (lowest (now (used .entry)) (sectorsFor (length (now (body .entry)))))) (now (image .entry)) (now (list .entry)) (now (image .exit)) (now (list .exit)) r ⌝ }
+fn no(reason: Reason) -> Answer
+    ensures { λ r. ⌜ outcomeOf r ≡ refused (refuse (numberOf reason) 0) ⌝ }
 {
-    let n = (body.len() + 518) / 510;
-    pick_bits(used, n, list);
-    write_file(image, i, start, name, exec, info, body, &list[..n]);
-    to_numbers(list, n);
-    list[n] = (i / 20 * 20 + i % 20 / 2) as u16;
-    n + 1
-}
-
-fn no(reason: Reason, slot: usize) -> Answer
-    ensures { λ r. ⌜ outcomeOf r ≡ refused (refuse (numberOf reason) slot) ⌝ }
-{
-    Answer::No(Refused { reason, slot })
+    Answer::No(Refused { reason, slot: 0 })
 }
 
 fn unsound(reason: Reason) -> Verdict
@@ -339,7 +316,29 @@ fn free_slot(image: &[u8]) -> Found
     Found::Nothing
 }
 
-// Saves into the free slot `i` of an accepted disk, where the sectors and the list suffice.
+fn barred(reason: Reason, slot: usize) -> Lookup
+    ensures { λ r. ⌜ soughtOf r ≡ barred (refuse (numberOf reason) slot) ⌝ }
+{
+    Lookup::Barred(Refused { reason, slot })
+}
+
+// The slot that a save takes, counted from 0; or what is refused before: 12, 13, 14, 16, 18.
+fn slot_for(image: &[u8], start: Start, name: &[u8]) -> Lookup
+    ensures { λ r. ⌜ soughtOf r ≡ slotFor (now (image .entry)) start (now (name .entry)) ⌝ }
+{
+    match asked_rows(start, name) {
+        Verdict::Unsound(r) => Lookup::Barred(r),
+        Verdict::Sound => match directory::find(image, name) {
+            Found::At(i) => barred(Reason::NameTaken, i + 1),
+            Found::Nothing => match free_slot(image) {
+                Found::At(i) => Lookup::At(i),
+                Found::Nothing => barred(Reason::NoFreeSlot, 0),
+            },
+        },
+    }
+}
+
+// Saves into the free slot `i` of an accepted disk whose used map is `used`, where the sectors and the list suffice.
 fn save_at(
     image: &mut [u8],
     used: UsedMap,
@@ -356,42 +355,18 @@ fn save_at(
 {
     let n = (body.len() + 518) / 510;
     if directory::free_of(used) < n {
-        return no(Reason::TooFewSectors, 0);
+        return no(Reason::TooFewSectors);
     }
     if list.len() <= n {
-        return no(Reason::BufferTooShort, 0);
+        return no(Reason::BufferTooShort);
     }
     let map = used.bytes;
-    Answer::Done(
-        write(image, &map, i, start, name, exec, info, body, list),
-        0,
-    )
-}
-
-// Saves on an accepted disk whose used map is `used`.
-fn save_accepted(
-    image: &mut [u8],
-    used: UsedMap,
-    start: Start,
-    name: &[u8],
-    exec: &[u8],
-    info: &[u8],
-    body: &[u8],
-    list: &mut [u16],
-) -> Answer
-    requires { ⌜ Accepted (now image) used ⌝ }
-    ensures { λ r. ⌜ changed (outcomeOf r) (now (image .exit)) (now (list .exit)) ≡ change (save (wishFor start (now (name .entry)) (now (exec .entry)) (now (info .entry)) (now (body .entry)))) (now (image .entry)) (now (list .entry)) ⌝ }
-{
-    match asked_rows(start, name) {
-        Verdict::Unsound(r) => Answer::No(r),
-        Verdict::Sound => match directory::find(image, name) {
-            Found::At(i) => no(Reason::NameTaken, i + 1),
-            Found::Nothing => match free_slot(image) {
-                Found::Nothing => no(Reason::NoFreeSlot, 0),
-                Found::At(i) => save_at(image, used, i, start, name, exec, info, body, list),
-            },
-        },
-    }
+    pick_bits(&map, n, list);
+    write_file(image, i, start, name, exec, info, body, &list[..n]);
+    to_numbers(list, n);
+    let last = n;
+    list[last] = (i / 20 * 20 + i % 20 / 2) as u16;
+    Answer::Done(last + 1, 0)
 }
 
 // Saves a file: the image changes, the front of `list` gets the numbers of the sectors in the order of writing, and the
@@ -416,7 +391,10 @@ pub fn save(
         Verdict::Sound => {
             let used = found.used;
             let start = Start { kind, page, offset };
-            save_accepted(image, used, start, name, exec, info, body, list)
+            match slot_for(image, start, name) {
+                Lookup::Barred(r) => Answer::No(r),
+                Lookup::At(i) => save_at(image, used, i, start, name, exec, info, body, list),
+            }
         }
     }
 }

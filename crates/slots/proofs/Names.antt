@@ -1,18 +1,18 @@
 -- Laws of names: when two are the same, and names filled to ten bytes.
-use Prim.Native.Nat.{ℕ, suc, _+_, _-_, _≤_, _<_, min}
+use Prim.Native.Nat.{ℕ, _+_, _-_, _≤_, _<_}
 use mathlib.Core.Path.{_≡_, refl, sym, ap, ap₂, _∙_}
 use mathlib.Core.Bool.{Bool, true, false, _&&_, false≢true}
-use mathlib.Core.List.{List, [], _∷_, _++_}
+use mathlib.Core.List.{List, [], _∷_}
 use mathlib.Core.Logic.{⊎-elim}
 use native.Mathlib.Numerals.{add-one}
 use native.Mathlib.Omega.{arith}
 use borrow.Author.Tests.{eq-eqb, ne-eqb, eqb-true}
 use lib.Dec.{eqb}
-use lib.ListN.{length, getD, take, drop, replicate, length-append, length-replicate, getD-replicate, drop-of-length-le, List·getD-append}
+use lib.ListN.{length, getD, drop, replicate, length-append, length-replicate, getD-replicate, drop-of-length-le, List·getD-append}
 use lib.Seq.{drop-cons, getD-append-add, ext-getD, take-all}
 use Rattle.buffers.specs.Bytes.{part, put}
-use Rattle.buffers.proofs.Lists.{length-put, length-part, part-at, put-in, put-after, put-before, below-or-not}
-use Rattle.slots.specs.Name.{sameName, padded, askable}
+use Rattle.buffers.proofs.Lists.{length-put, length-part, part-at, put-in, put-after, below-or-not}
+use Rattle.slots.specs.Name.{sameName, padded}
 
 pub same-refl : (xs : List ℕ) → sameName xs xs ≡ true
 unfolding sameName

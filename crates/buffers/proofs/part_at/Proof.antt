@@ -1,5 +1,5 @@
 -- `buffers::part_at` meets its contract.
-use mathlib.Core.Path.{sym, _∙_}
+use mathlib.Core.Path.{sym}
 use native.Mathlib.Omega.{arith}
 use native.Mathlib.Nat.{add-sub-cancel-left}
 use Rattle.buffers.proofs.Lists.{part-none, part-cut}

@@ -1,6 +1,6 @@
 -- `disk::all_chains` meets its contract: the reply is that of the slots from `i` on.
 use Prim.Native.Nat.{_-_, _≤_}
-use mathlib.Core.Path.{_≡_, refl, sym, ap, _∙_}
+use mathlib.Core.Path.{_≡_, sym, ap, _∙_}
 use native.Mathlib.Omega.{arith}
 use denote.Ref.{now}
 use Rattle.refusals.specs.Order.{sweep, sweepFrom}

@@ -1,5 +1,5 @@
 -- `disk::examine` meets its contract: each way out has the tests that led there.
-use mathlib.Core.Path.{_≡_, sym, ap, _∙_}
+use mathlib.Core.Path.{sym, ap, _∙_}
 use Rattle.refusals.specs.Answers.{replyOf}
 use Rattle.disk.proofs.Examined.{examined-length, examined-survey, examined-chains, examined-sound}
 use borrow.Author.Needs.{needs}

@@ -1,8 +1,7 @@
 -- `disk::refused` meets its contract: the map that it hands back is clear.
-use mathlib.Core.Path.{_≡_, refl, sym, ap}
+use mathlib.Core.Path.{refl}
 use Rattle.directory.proofs.Union.{counted-clear}
 use Rattle.disk.specs.Check.{refusedWith}
-use borrow.Author.Needs.{needs}
 use Rattle.disk.proofs.refused.Statement.{statement}
 use Rattle.disk.proofs.refused.Tie as tie
 

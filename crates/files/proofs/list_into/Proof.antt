@@ -1,16 +1,8 @@
 -- `files::list_into` meets its contract: the entries of the first `i` slots are put.
-use Prim.Native.Nat.{_+_, _-_, _*_, _≤_}
-use mathlib.Core.Path.{_≡_, refl, sym, ap, _∙_}
-use mathlib.Core.Option.{none, some}
+use Prim.Native.Nat.{_-_, _*_, _≤_}
 use native.Mathlib.Omega.{arith}
-use denote.Ref.{now}
-use lib.ListN.{length}
-use Rattle.buffers.specs.Bytes.{put}
-use Rattle.buffers.proofs.Lists.{length-put}
 use Rattle.directory.specs.Places.{slots}
-use Rattle.directory.specs.Directory.{directory}
 use Rattle.directory.proofs.Live.{met-live, met-dead}
-use Rattle.files.specs.Calls.{entries, liveAmong}
 use Rattle.files.proofs.Listed.{Listed, listed-none, listed-more, listed-same, listed-long, listed-all}
 use borrow.Author.Needs.{needs}
 use Rattle.files.proofs.list_into.Statement.{statement}

@@ -1,15 +1,12 @@
 -- `files::live_count` meets its contract: `n` of the first `i` slots are live.
-use Prim.Native.Nat.{_+_, _-_, _*_, _≤_}
-use mathlib.Core.Path.{_≡_, refl, sym, ap, _∙_}
-use mathlib.Core.Option.{none, some}
+use Prim.Native.Nat.{_+_, _-_, _≤_}
+use mathlib.Core.Path.{_≡_, sym, ap, _∙_}
 use native.Mathlib.Omega.{arith}
-use denote.Ref.{now}
-use lib.ListN.{length}
 use Rattle.directory.specs.Places.{slots}
 use Rattle.directory.specs.Directory.{directory}
 use Rattle.directory.proofs.Live.{met-live, met-dead}
 use Rattle.files.specs.Calls.{liveAmong}
-use Rattle.files.proofs.Listed.{among-none, among-dead, among-live, among-few}
+use Rattle.files.proofs.Listed.{among-none, among-dead, among-live}
 use borrow.Author.Needs.{needs}
 use Rattle.files.proofs.live_count.Statement.{statement}
 use Rattle.files.proofs.live_count.Tie as tie

@@ -1,6 +1,6 @@
 -- `maps::bits_in_words` meets its contract: after i turns the bits of 8 * i bytes are counted.
-use Prim.Native.Nat.{ℕ, _+_, _≤_, _<_, _*_, _-_}
-use mathlib.Core.Path.{_≡_, refl, ap, _∙_}
+use Prim.Native.Nat.{ℕ, _≤_, _<_, _*_, _-_}
+use mathlib.Core.Path.{_≡_, refl}
 use native.Mathlib.Omega.{arith}
 use lib.ListN.{getD}
 use Rattle.buffers.specs.Bytes.{count}

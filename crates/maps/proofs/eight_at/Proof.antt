@@ -1,9 +1,6 @@
 -- `maps::eight_at` meets its contract: eight bytes, each 256 times the one before.
-use mathlib.Core.Path.{_≡_, ap}
 use native.Mathlib.Nat.{add-zero}
 use native.Mathlib.Omega.{arith}
-use Prim.Native.Nat.{_+_}
-use lib.ListN.{getD}
 use Rattle.maps.specs.Bits.{word}
 use borrow.Author.Needs.{needs}
 use Rattle.maps.proofs.eight_at.Statement.{statement}

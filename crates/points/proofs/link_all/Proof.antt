@@ -1,7 +1,6 @@
 -- `points::link_all` is safe and ends: the image keeps its length, and the map bits run out.
-use Prim.Native.Nat.{_≤_, _-_}
+use Prim.Native.Nat.{_-_}
 use mathlib.Core.Path.{_≡_}
-use native.Mathlib.Omega.{arith}
 use borrow.Author.Needs.{needs}
 use lib.ListN.{length}
 use Rattle.points.proofs.link_all.Statement.{statement}

@@ -1,6 +1,6 @@
 -- `saves::chain_bytes` meets its contract.
-use mathlib.Core.Path.{_≡_, ap}
-use mathlib.Core.List.{List, [], _∷_}
+use mathlib.Core.Path.{ap}
+use mathlib.Core.List.{[], _∷_}
 use Prim.Native.Nat.{_/_, _%_}
 use lib.ListN.{length}
 use Rattle.saves.specs.declared.Link.{Link}

@@ -1,9 +1,6 @@
 -- `saves::link_to` meets its contract: the address of a map bit is a sector's.
-use mathlib.Core.Path.{_≡_, refl, sym, _∙_}
-use Prim.Native.Nat.{_<_}
+use mathlib.Core.Path.{refl, sym, _∙_}
 use native.Mathlib.Omega.{arith}
-use Rattle.geometry.specs.Disk.{trackOf, sectorOf}
-use Rattle.geometry.proofs.Laws.{address-sector}
 use Rattle.saves.proofs.Chained.{link-none, link-some, link-small, link-no-bit}
 use borrow.Author.Needs.{needs}
 use Rattle.saves.proofs.link_to.Statement.{statement}

@@ -2,7 +2,7 @@ use Rattle.plans.proofs.NewFile.{length-mapWith}
 use Rattle.saves.proofs.Slot.{map-none, map-more}
 use Prim.Native.Nat.{_-_, _≤_}
 -- `saves::map_with` meets its contract: before each turn the bits from `j` on are set.
-use mathlib.Core.Path.{_≡_, refl, sym, ap, _∙_}
+use mathlib.Core.Path.{_≡_, sym, ap, _∙_}
 use native.Mathlib.Omega.{arith}
 use lib.ListN.{length, drop}
 use Rattle.plans.specs.Saving.{mapWith}

@@ -1,6 +1,6 @@
 -- `saves::pick_bits` meets its contract: before each turn `j` of the bits are found among those below `b`.
 use Prim.Native.Nat.{_-_}
-use mathlib.Core.Path.{_≡_, sym, _∙_}
+use mathlib.Core.Path.{sym, _∙_}
 use native.Mathlib.Omega.{arith}
 use borrow.Author.Tests.{not-true, not-false}
 use Rattle.saves.proofs.Picked.{Picked, picked-none, picked-full, picked-set, picked-clear, picked-long, picked-all, picked-end}

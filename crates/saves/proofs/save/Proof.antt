@@ -1,8 +1,10 @@
--- `saves::save` meets its contract: a refused check is the answer, and on an accepted disk the save is.
-use mathlib.Core.Path.{_≡_, sym, ap, _∙_}
+-- `saves::save` meets its contract: a refused check is the answer; on an accepted disk what bars the slot, or the save there.
+use mathlib.Core.Path.{sym, ap, _∙_}
 use Rattle.refusals.specs.Answers.{replyOf}
+use Rattle.files.specs.Calls.{soughtOf}
 use Rattle.files.proofs.Listed.{sound-accepted}
 use Rattle.saves.proofs.Told.{change-refused}
+use Rattle.saves.proofs.Planned.{save-barred}
 use borrow.Author.Needs.{needs}
 use Rattle.saves.proofs.save.Statement.{statement}
 use Rattle.saves.proofs.save.Tie as tie
@@ -16,8 +18,23 @@ enum-known-verdict c = search needs
 enum-told : tie.Need-enum-told
 enum-told c = search needs
 
-save-accepted-requires : tie.Need-save-accepted-requires
-save-accepted-requires c κs = let e = c .before .before .before in sound-accepted _ _ (e .before .before .examine .ensures) (e .enum-told .given .1)
+slot-for-requires : tie.Need-slot-for-requires
+slot-for-requires c κs = search needs
+
+enum-known-r : tie.Need-enum-known-r
+enum-known-r c = search needs
+
+enum-known-i : tie.Need-enum-known-i
+enum-known-i c = search needs
+
+save-at-requires : tie.Need-save-at-requires
+save-at-requires c κs =
+    let s = c .before .before .before .before .before in
+    let e = s .before .before .before in
+    record {
+      disk = sound-accepted _ _ (e .before .before .examine .ensures) (e .enum-told .given .1);
+      place = sym (ap soughtOf (c .before .before .before .i .given .1)) ∙ s .slot-for .ensures;
+    }
 
 same-length : tie.Need-same-length
 same-length c = search needs
@@ -28,11 +45,20 @@ returns c = change-refused _ _ _ _ (sym (c .before .before .before .examine .ens
 same-length-2 : tie.Need-same-length-2
 same-length-2 c = search needs
 
+returns-2 : tie.Need-returns-2
+returns-2 c =
+    let s = c .before .before .before in
+    let e = s .before .before .before in
+    save-barred _ _ _ _ _ _ _ (sound-accepted _ _ (e .before .before .examine .ensures) (e .enum-told .given .1) .accepted) _ (sym (ap soughtOf (c .before .r .given .1)) ∙ s .slot-for .ensures)
+
 same-length-3 : tie.Need-same-length-3
 same-length-3 c = search needs
 
-returns-2 : tie.Need-returns-2
-returns-2 c = c .before .before .before .before .save-accepted .ensures
+same-length-4 : tie.Need-same-length-4
+same-length-4 c = search needs
+
+returns-3 : tie.Need-returns-3
+returns-3 c = c .before .before .before .before .save-at .ensures
 
 pub save-spec : {M : Type 1} → statement M
 save-spec =
@@ -41,9 +67,14 @@ save-spec =
     examine-requires
     enum-known-verdict
     enum-told
-    save-accepted-requires
+    slot-for-requires
+    enum-known-r
+    enum-known-i
+    save-at-requires
     same-length
     returns
     same-length-2
+    returns-2
     same-length-3
-    returns-2)
+    same-length-4
+    returns-3)

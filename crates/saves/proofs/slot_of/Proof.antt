@@ -1,11 +1,18 @@
 -- `saves::slot_of` meets its contract: the pieces are put from the front to the back.
+use Rattle.saves.proofs.Picked.{put-one}
 use Rattle.saves.proofs.Slot.{slot-whole}
 use borrow.Author.Needs.{needs}
 use Rattle.saves.proofs.slot_of.Statement.{statement}
 use Rattle.saves.proofs.slot_of.Tie as tie
 
-cast-t14 : tie.Need-cast-t14
-cast-t14 c = search needs
+cast-slot : tie.Need-cast-slot
+cast-slot c = search needs
+
+array-write-slot : tie.Need-array-write-slot
+array-write-slot c = search needs
+
+padded-name-requires : tie.Need-padded-name-requires
+padded-name-requires c κs = search needs
 
 slice-aggregate-copy-into : tie.Need-slice-aggregate-copy-into
 slice-aggregate-copy-into c = search needs
@@ -16,8 +23,8 @@ slice-aggregate-copy-into-2 c = search needs
 copy-into-requires : tie.Need-copy-into-requires
 copy-into-requires c κs = search needs
 
-padded-name-requires : tie.Need-padded-name-requires
-padded-name-requires c κs = search needs
+chain-bytes-requires : tie.Need-chain-bytes-requires
+chain-bytes-requires c κs = search needs
 
 slice-aggregate-copy-into-3 : tie.Need-slice-aggregate-copy-into-3
 slice-aggregate-copy-into-3 c = search needs
@@ -28,8 +35,8 @@ slice-aggregate-copy-into-4 c = search needs
 copy-into-requires-2 : tie.Need-copy-into-requires-2
 copy-into-requires-2 c κs = search needs
 
-chain-bytes-requires : tie.Need-chain-bytes-requires
-chain-bytes-requires c κs = search needs
+map-with-requires : tie.Need-map-with-requires
+map-with-requires c κs = search needs
 
 slice-aggregate-copy-into-5 : tie.Need-slice-aggregate-copy-into-5
 slice-aggregate-copy-into-5 c = search needs
@@ -40,103 +47,78 @@ slice-aggregate-copy-into-6 c = search needs
 copy-into-requires-3 : tie.Need-copy-into-requires-3
 copy-into-requires-3 c κs = search needs
 
-map-with-requires : tie.Need-map-with-requires
-map-with-requires c κs = search needs
-
 slice-aggregate-copy-into-7 : tie.Need-slice-aggregate-copy-into-7
 slice-aggregate-copy-into-7 c = search needs
-
-slice-aggregate-copy-into-8 : tie.Need-slice-aggregate-copy-into-8
-slice-aggregate-copy-into-8 c = search needs
-
-copy-into-requires-4 : tie.Need-copy-into-requires-4
-copy-into-requires-4 c κs = search needs
-
-slice-aggregate-copy-into-9 : tie.Need-slice-aggregate-copy-into-9
-slice-aggregate-copy-into-9 c = search needs
 
 part-at-requires : tie.Need-part-at-requires
 part-at-requires c κs = search needs
 
-copy-into-requires-5 : tie.Need-copy-into-requires-5
-copy-into-requires-5 c κs = search needs
+copy-into-requires-4 : tie.Need-copy-into-requires-4
+copy-into-requires-4 c κs = search needs
 
 span-of-requires : tie.Need-span-of-requires
-span-of-requires c κs = c .before .before .before .before .before .before .before .before .before .before .before .before .before .before .before .before .before .before .before .before .before .before .before .before .before .before .before .before .before .pre .0
+span-of-requires c κs = search needs
+
+slice-aggregate-copy-into-8 : tie.Need-slice-aggregate-copy-into-8
+slice-aggregate-copy-into-8 c = search needs
+
+slice-aggregate-copy-into-9 : tie.Need-slice-aggregate-copy-into-9
+slice-aggregate-copy-into-9 c = search needs
+
+copy-into-requires-5 : tie.Need-copy-into-requires-5
+copy-into-requires-5 c κs = search needs
 
 slice-aggregate-copy-into-10 : tie.Need-slice-aggregate-copy-into-10
 slice-aggregate-copy-into-10 c = search needs
 
-slice-aggregate-copy-into-11 : tie.Need-slice-aggregate-copy-into-11
-slice-aggregate-copy-into-11 c = search needs
+part-at-requires-2 : tie.Need-part-at-requires-2
+part-at-requires-2 c κs = search needs
 
 copy-into-requires-6 : tie.Need-copy-into-requires-6
 copy-into-requires-6 c κs = search needs
 
-slice-aggregate-copy-into-12 : tie.Need-slice-aggregate-copy-into-12
-slice-aggregate-copy-into-12 c = search needs
-
-part-at-requires-2 : tie.Need-part-at-requires-2
-part-at-requires-2 c κs = search needs
-
-copy-into-requires-7 : tie.Need-copy-into-requires-7
-copy-into-requires-7 c κs = search needs
-
-slice-aggregate-copy-into-13 : tie.Need-slice-aggregate-copy-into-13
-slice-aggregate-copy-into-13 c = search needs
-
-slice-aggregate-copy-into-14 : tie.Need-slice-aggregate-copy-into-14
-slice-aggregate-copy-into-14 c = search needs
-
-copy-into-requires-8 : tie.Need-copy-into-requires-8
-copy-into-requires-8 c κs = search needs
+array-write-slot-2 : tie.Need-array-write-slot-2
+array-write-slot-2 c = search needs
 
 returns : tie.Need-returns
 returns c =
-    let h = c .before in
-    let g = h .before .before .before .before in
+    let g = c .before in
     let f = g .before .before .before .before in
     let e = f .before .before .before .before .before in
     let d = e .before .before .before .before in
     let k = d .before .before .before .before .before in
     let b = k .before .before .before .before .before in
-    let a = b .before .before .before .before .before in
-    slot-whole _ _ _ _ _ _ (a .copy-into .ensures) (b .before .before .before .padded-name .ensures) (b .copy-into2 .ensures)
-    (k .before .before .before .chain-bytes .ensures) (k .copy-into3 .ensures) (d .before .before .before .map-with .ensures) (d .copy-into4 .ensures)
-    (e .before .part-at .ensures) (e .copy-into5 .ensures) (f .before .before .before .span-of .ensures) (f .copy-into6 .ensures)
-    (g .before .part-at2 .ensures) (g .copy-into7 .ensures) (h .copy-into8 .ensures)
+    slot-whole _ _ _ _ _ _ (put-one _ 0 _) (b .before .before .before .padded-name .ensures) (b .copy-into .ensures) (k .before .before .before .chain-bytes .ensures) (k .copy-into2 .ensures)
+    (d .before .before .before .map-with .ensures) (d .copy-into3 .ensures) (e .before .part-at .ensures) (e .copy-into4 .ensures) (f .before .before .before .span-of .ensures) (f .copy-into5 .ensures)
+    (g .before .part-at2 .ensures) (g .copy-into6 .ensures) (put-one _ 245 255)
 
 pub slot-of-spec : {M : Type 1} → statement M
 slot-of-spec =
     tie.close
     (tie.spec
-    cast-t14
+    cast-slot
+    array-write-slot
+    padded-name-requires
     slice-aggregate-copy-into
     slice-aggregate-copy-into-2
     copy-into-requires
-    padded-name-requires
+    chain-bytes-requires
     slice-aggregate-copy-into-3
     slice-aggregate-copy-into-4
     copy-into-requires-2
-    chain-bytes-requires
+    map-with-requires
     slice-aggregate-copy-into-5
     slice-aggregate-copy-into-6
     copy-into-requires-3
-    map-with-requires
     slice-aggregate-copy-into-7
-    slice-aggregate-copy-into-8
-    copy-into-requires-4
-    slice-aggregate-copy-into-9
     part-at-requires
-    copy-into-requires-5
+    copy-into-requires-4
     span-of-requires
+    slice-aggregate-copy-into-8
+    slice-aggregate-copy-into-9
+    copy-into-requires-5
     slice-aggregate-copy-into-10
-    slice-aggregate-copy-into-11
-    copy-into-requires-6
-    slice-aggregate-copy-into-12
     part-at-requires-2
-    copy-into-requires-7
-    slice-aggregate-copy-into-13
-    slice-aggregate-copy-into-14
-    copy-into-requires-8
+    copy-into-requires-6
+    array-write-slot-2
     returns)

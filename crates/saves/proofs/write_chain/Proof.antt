@@ -9,10 +9,10 @@ use Rattle.saves.proofs.write_chain.Statement.{statement}
 use Rattle.saves.proofs.write_chain.Tie as tie
 
 abbrev Inv-loop : tie.InvT-loop
-Inv-loop image₀ head body bits j₀ image j = Chained image₀ (head ++ body) bits image j
+Inv-loop image₀ head body bits k₀ image k = Chained image₀ (head ++ body) bits image k
 
 abbrev μ-loop : tie.MeasureT-loop
-μ-loop image₀ head body bits j₀ image j = length bits - j
+μ-loop image₀ head body bits k₀ image k = length bits - k
 
 loop-holds : tie.Need-loop-holds Inv-loop μ-loop
 loop-holds c = chain-none _ _ _
@@ -30,13 +30,13 @@ shared-slice-read-write-sector : tie.Need-shared-slice-read-write-sector Inv-loo
 shared-slice-read-write-sector c = search needs
 
 cast-write-sector : tie.Need-cast-write-sector Inv-loop μ-loop
-cast-write-sector c = omega (arith, c .shared-slice-known4 .given (c .before .before .before .before .loop .j))
+cast-write-sector c = omega (arith, c .shared-slice-known4 .given (c .before .before .before .before .loop .k))
 
 write-sector-requires : tie.Need-write-sector-requires Inv-loop μ-loop
 write-sector-requires c κs = search needs
 
-add-j : tie.Need-add-j Inv-loop μ-loop
-add-j c = search needs
+add-k : tie.Need-add-k Inv-loop μ-loop
+add-k c = search needs
 
 loop-less : tie.Need-loop-less Inv-loop μ-loop
 loop-less c = search needs
@@ -68,7 +68,7 @@ write-chain-spec =
     shared-slice-read-write-sector
     cast-write-sector
     write-sector-requires
-    add-j
+    add-k
     loop-less
     loop-again
     same-length

@@ -1,6 +1,4 @@
 -- `saves::write_payload` meets its contract: the first sector begins with the header, and the later ones have the body alone.
-use mathlib.Core.Path.{_∙_, ap}
-use Rattle.buffers.specs.Bytes.{put}
 use Rattle.saves.proofs.Runs.{payload-first, payload-later}
 use borrow.Author.Needs.{needs}
 use Rattle.saves.proofs.write_payload.Statement.{statement}

@@ -1,5 +1,4 @@
 -- `saves::write_run` meets its contract: what the body has of the run, and zeros after it.
-use mathlib.Core.Path.{refl}
 use Rattle.saves.proofs.Runs.{run-whole, run-short}
 use borrow.Author.Needs.{needs}
 use Rattle.saves.proofs.write_run.Statement.{statement}

@@ -1,6 +1,4 @@
 -- `saves::write_sector` meets its contract: the payload, and after it the link.
-use mathlib.Core.Path.{_≡_, ap₂}
-use Prim.Native.Nat.{_≤_}
 use native.Mathlib.Omega.{arith}
 use Rattle.saves.proofs.Chained.{end-le}
 use Rattle.saves.proofs.Runs.{block-at}

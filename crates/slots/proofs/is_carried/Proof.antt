@@ -1,11 +1,6 @@
 -- `slots::is_carried` meets its contract.
-use borrow.Author.Tests.{lt-ltb, le-ltb, le-leb, lt-leb, eq-eqb, ne-eqb}
-use mathlib.Core.Path.{_≡_, refl, sym, ap, _∙_}
-use Prim.Native.Nat.{ℕ}
-use mathlib.Core.Bool.{not}
-use lib.Dec.{eqb}
+use borrow.Author.Tests.{le-leb, lt-leb}
 use Rattle.slots.specs.Slot.{carried}
-use borrow.Author.Needs.{needs}
 use Rattle.slots.proofs.is_carried.Statement.{statement}
 use Rattle.slots.proofs.is_carried.Tie as tie
 

@@ -1,12 +1,7 @@
 -- `slots::is_known` meets its contract.
 use native.Mathlib.Omega.{arith}
-use borrow.Author.Tests.{lt-ltb, le-ltb, le-leb, lt-leb, eq-eqb, ne-eqb}
-use mathlib.Core.Path.{_≡_, refl, sym, ap, _∙_}
-use Prim.Native.Nat.{ℕ}
-use mathlib.Core.Bool.{not}
-use lib.Dec.{eqb}
+use borrow.Author.Tests.{le-leb, lt-leb}
 use Rattle.slots.specs.Slot.{known}
-use borrow.Author.Needs.{needs}
 use Rattle.slots.proofs.is_known.Statement.{statement}
 use Rattle.slots.proofs.is_known.Tie as tie
 

@@ -1,6 +1,6 @@
 -- `slots::is_live` meets its contract.
-use mathlib.Core.Path.{_≡_, refl, sym, ap, _∙_}
-use Prim.Native.Nat.{ℕ, _+_, _-_, _*_, _/_, _%_, _≤_, _<_}
+use mathlib.Core.Path.{ap}
+use Prim.Native.Nat.{ℕ, _-_}
 use mathlib.Core.Bool.{not}
 use lib.Dec.{eqb}
 use borrow.Author.Needs.{needs}

@@ -1,15 +1,14 @@
 -- `slots::own_rows` meets its contract: each return has the tests that led there, and the first row that holds is its number.
 use borrow.Author.Needs.{needs}
-use Prim.Native.Nat.{ℕ, _+_, _*_}
-use mathlib.Core.Path.{_≡_, refl, sym, ap, ap₂, _∙_}
-use mathlib.Core.Bool.{Bool, true, false, not, _&&_}
-use mathlib.Core.List.{List}
+use Prim.Native.Nat.{_+_, _*_}
+use mathlib.Core.Path.{_≡_, sym, ap, ap₂, _∙_}
+use mathlib.Core.Bool.{Bool, true, false}
 use borrow.Author.Tests.{eq-eqb, ne-eqb, le-leb, lt-leb, lt-ltb, le-ltb, not-true, not-false}
 use denote.Ref.{now}
-use lib.Dec.{eqb, leb, ltb}
+use lib.Dec.{eqb, ltb}
 use lib.ListN.{getD}
 use Rattle.maps.specs.Bits.{has, bitsOf}
-use Rattle.slots.specs.Slot.{Facts, facts, kindOf, countOf, firstOf, mapOf, known, carried, lengthOf}
+use Rattle.slots.specs.Slot.{kindOf, countOf, firstOf, mapOf, known, carried}
 use Rattle.slots.proofs.Rows.{tooLong, Past4, Past6, at2, at3, at4, at5, at6, at7, at-none, at-free}
 use Rattle.slots.proofs.own_rows.Statement.{statement}
 use Rattle.slots.proofs.own_rows.Tie as tie
