@@ -18,7 +18,6 @@ use Rattle.geometry.specs.Disk.{bitOf}
 use Rattle.maps.specs.Bits.{has, bitsOf, join}
 use Rattle.maps.proofs.Laws.{bits-le, bits-join, has-join, none-share}
 use Rattle.refusals.specs.Order.{refuse}
-use Rattle.refusals.specs.Answers.{refused, out}
 use Rattle.slots.specs.Slot.{isLive, hidden, protected, kindOf, nameOf, countOf, mapOf, facts, lengthOf}
 use Rattle.slots.specs.Name.{sameName, askable, padded}
 use Rattle.slots.specs.Rows.{dataCount}
@@ -26,7 +25,7 @@ use Rattle.chains.specs.File.{File}
 use Rattle.chains.specs.Chain.{linked, bodyByte, body}
 use Rattle.chains.proofs.Laws.{map-small}
 use Rattle.directory.specs.Places.{slots, slotAt}
-use Rattle.directory.specs.Directory.{held, Directory, directory}
+use Rattle.directory.specs.Directory.{held, Directory}
 use Rattle.directory.specs.Survey.{union, counted, usedMap, freeOf, free}
 use Rattle.directory.specs.Find.{find}
 use Rattle.directory.proofs.Places.{slot-front, data-all}
@@ -38,19 +37,20 @@ use Rattle.disk.specs.Sound.{Known, Sound}
 use Rattle.disk.proofs.Look.{look-slots}
 use Rattle.disk.proofs.Rows.{and-both}
 use Rattle.disk.proofs.Sound.{sound}
-use Rattle.files.specs.Calls.{noFile, fileAt, reading, starting}
+use Rattle.files.specs.Calls.{noFile, fileAt}
 use Rattle.files.proofs.Named.{lookup-none}
 use Rattle.files.proofs.Reading.{read-barred}
 use Rattle.files.proofs.Starting.{start-barred}
 use Rattle.plans.specs.Change.{Mark, hide, show, protect, release, erase, rename, mark, marked, allBetween, usable}
 use Rattle.plans.specs.Saving.{freeBit}
 use Rattle.plans.specs.Plan.{upd, made, run}
+use Rattle.plans.specs.Accepted.{Named, Unprotected}
+use Rattle.plans.specs.After.{SameAnswers, Gone, AfterErase, AfterRename, hiddenBy, protectedBy, marking, AfterMark}
 use Rattle.plans.proofs.Frame.{slots-some, upd-same, upd-other, slots-same, slots-other, entry-live, entry-dead, holds, holds-long}
 use Rattle.plans.proofs.Kept.{sound-apart, sound-long, usable-is}
-use Rattle.plans.proofs.Sure.{Named}
-use Rattle.plans.proofs.Effect.{Touched, erasing, marking, Unprotected, Renamable, erased, marked-so, renamed}
+use Rattle.plans.proofs.Effect.{Touched, erasing, Renamable, erased, marked-so, renamed}
 use Rattle.plans.proofs.Demand3.{change-accepted}
-use Rattle.plans.proofs.Others.{Alike, alike-same, same-answers, Unnamed, find-upd, file-other, SameAnswers, first-name, name-put}
+use Rattle.plans.proofs.Others.{Alike, alike-same, same-answers, Unnamed, find-upd, file-other, first-name, name-put}
 
 sound-disk : (d : List ℕ) → checkDisk d ≡ none → Sound (look d)
 unfolding checkDisk
@@ -118,11 +118,6 @@ module _ (l : Look) (w : Sound l) (n : List ℕ) (i : ℕ) (f : File) (h : i < s
       by : (k : ℕ) (g : File) → k < slots → upd l i o .files k ≡ some g → nameOf (g .bytes) ≡ padded n → Dec (k ≡ i) → ⊥
       by k g m p r (yes z) = u g (sym (upd-same l i o) ∙ ap (upd l i o .files) (sym z) ∙ p) r
       by k g m p r (no z) = alone k g m z (sym (upd-other l i o k z) ∙ p) r
-
--- "no live slot has the name"
-pub record Gone (new n : List ℕ) : Type 0 where
-  pub unread : (buf : List ℕ) → reading new n buf ≡ out (refused (refuse 15 0)) buf
-  pub unstarted : starting new n ≡ refused (refuse 15 0)
 
 gone-by : (new n : List ℕ) → checkDisk new ≡ none → askable n ≡ true → find (slotsOf (look new)) n ≡ none → Gone new n
 gone-by new n ok a f =
@@ -244,19 +239,6 @@ module _ (d new : List ℕ) (i : ℕ) (f g : File) (e : look d .files i ≡ some
 
 -- ---- marks
 
--- "Hide, show, protect, release set or clear one bit"
-abbrev pub hiddenBy : Mark → Bool → Bool
-hiddenBy hide t = true
-hiddenBy show t = false
-hiddenBy protect t = t
-hiddenBy release t = t
-
-abbrev pub protectedBy : Mark → Bool → Bool
-protectedBy hide t = t
-protectedBy show t = t
-protectedBy protect t = true
-protectedBy release t = false
-
 hidden-bit : (k : Mark) (x : ℕ) → eqb (marked k x / 128 % 2) 1 ≡ hiddenBy k (eqb (x / 128 % 2) 1)
 hidden-bit hide x = eq-eqb ((x % 128 + 128) / 128 % 2) 1 (omega arith)
 hidden-bit show x = ne-eqb (x % 128 / 128 % 2) 1 (omega arith)
@@ -284,37 +266,7 @@ marked-some k x h e = omega (arith, kind-bits k x)
 
 -- ---- erase
 
--- "Erase sets byte 0 to 0 and changes no other byte."
-pub record AfterErase (d n new : List ℕ) : Type 0 where
-  pub slot : ℕ
-  pub file : File
-  pub found : Named d n slot file
-  pub long : length new ≡ length d
-  pub byte : getD new (slotAt slot) 0 ≡ 0
-  pub bytes : (k : ℕ) → (k ≡ slotAt slot → ⊥) → getD new k 0 ≡ getD d k 0
-  -- the slot is free
-  pub empty : look new .files slot ≡ none
-  -- the name is refused 15
-  pub gone : Gone new n
-  -- "So freed sectors and slots are used again."
-  pub freed : (b : ℕ) → has (mapOf (file .bytes)) b ≡ true → freeBit (look new) b ≡ true
-  pub more : free 0 (directory new) ≡ free 0 (directory d) + countOf (file .bytes)
-
 -- ---- rename
-
--- "Rename changes bytes 1 to 10"
-pub record AfterRename (d n to new : List ℕ) : Type 0 where
-  pub slot : ℕ
-  pub file : File
-  pub found : Named d n slot file
-  pub long : length new ≡ length d
-  pub name : (k : ℕ) → k < 10 → getD new (slotAt slot + (1 + k)) 0 ≡ getD (padded to) k 0
-  pub bytes : (k : ℕ) → (k < slotAt slot + 1) ⊎ (slotAt slot + 11 ≤ k) → getD new k 0 ≡ getD d k 0
-  -- the file in the slot has the new name, and its sectors
-  pub now : Named new to slot (record { bytes = put (file .bytes) 1 (padded to); sectors = file .sectors })
-  -- reading and the start address give for the new name what they gave for the old one, and refuse that 15
-  pub answers : SameAnswers new to d n
-  pub gone : Gone new n
 
 -- ---- hide, show, protect, release
 
@@ -323,21 +275,6 @@ pub record AfterRename (d n to new : List ℕ) : Type 0 where
 first-here : (d n : List ℕ) (i : ℕ) (f : File) → Named d n i f → getD (f .bytes) 0 0 ≡ getD d (slotAt i) 0
 first-here d n i f w =
     ap (λ (s : List ℕ). getD s 0 0) (sym (holds d i f (w .here) .bytes)) ∙ part-at (slotAt i) 256 d 0 (omega arith) ∙ ap (λ (k : ℕ). getD d k 0) (omega arith)
-
-pub record AfterMark (k : Mark) (d n new : List ℕ) : Type 0 where
-  pub slot : ℕ
-  pub file : File
-  pub found : Named d n slot file
-  pub long : length new ≡ length d
-  pub byte : getD new (slotAt slot) 0 ≡ marked k (getD d (slotAt slot) 0)
-  pub bytes : (j : ℕ) → (j ≡ slotAt slot → ⊥) → getD new j 0 ≡ getD d j 0
-  -- the file in the slot has its name and sectors
-  pub now : Named new n slot (record { bytes = put (file .bytes) 0 (marking k file); sectors = file .sectors })
-  pub hides : hidden (put (file .bytes) 0 (marking k file)) ≡ hiddenBy k (hidden (file .bytes))
-  pub protects : protected (put (file .bytes) 0 (marking k file)) ≡ protectedBy k (protected (file .bytes))
-  pub kind : kindOf (put (file .bytes) 0 (marking k file)) ≡ kindOf (file .bytes)
-  -- reading and the start address give for every name, its own too, what they gave
-  pub answers : (m : List ℕ) → SameAnswers new m d m
 
 -- ---- each change
 

@@ -1,10 +1,9 @@
 -- What an accepted change has done: the slot it found or took, the disk it made, and what is seen of it.
 use Prim.Native.Nat.{ℕ, suc, _+_}
 use mathlib.Core.Path.{_≡_, sym, ap, _∙_}
-use mathlib.Core.Bool.{true, false, not, _&&_}
+use mathlib.Core.Bool.{true, not, _&&_}
 use mathlib.Core.List.{List, [], _∷_}
 use mathlib.Core.Option.{none}
-use lib.ListN.{getD}
 use Rattle.buffers.specs.Bytes.{put}
 use Rattle.refusals.specs.Order.{_else_, row}
 use Rattle.refusals.proofs.First.{else-none}
@@ -21,10 +20,12 @@ use Rattle.disk.proofs.Sound.{sound}
 use Rattle.files.specs.Calls.{fileAt}
 use Rattle.steps.specs.Steps.{Step, putAll, enact, numbers, commits, lastOf}
 use Rattle.steps.proofs.Steps.{goes-look}
-use Rattle.plans.specs.Change.{Mark, Change, erase, rename, mark, marked, usable}
+use Rattle.plans.specs.Change.{Mark, Change, erase, rename, mark, usable}
 use Rattle.plans.specs.Plan.{upd, entryOf, touch, go, orNo, byName, nameTaken, isProtected, planOf, made, run}
+use Rattle.plans.specs.Accepted.{Named, Unprotected}
+use Rattle.plans.specs.After.{marking}
 use Rattle.plans.proofs.Crash.{Made, run-made, Sure}
-use Rattle.plans.proofs.Sure.{Named, or-none, row-none, not-none, taken-none, at-name, sure-erase, sure-mark, sure-rename}
+use Rattle.plans.proofs.Sure.{or-none, row-none, not-none, taken-none, at-name, sure-erase, sure-mark, sure-rename}
 
 -- a change of bytes y at place o of the slot that has the name, and what else was tested of it
 pub record Touched (d n : List ℕ) (o : ℕ) (y : File → List ℕ) (Also : File → Type 0) (new ss : List ℕ) : Type 0 where
@@ -56,12 +57,6 @@ module _ (c : Change) (d n new ss : List ℕ) (o : ℕ) (y : File → List ℕ) 
 -- the bytes of each change
 abbrev pub erasing : File → List ℕ
 erasing f = 0 ∷ []
-
-abbrev pub marking : Mark → File → List ℕ
-marking m f = marked m (getD (f .bytes) 0 0) ∷ []
-
-abbrev pub Unprotected : File → Type 0
-Unprotected f = protected (f .bytes) ≡ false
 
 -- what a rename has tested: the new name is usable and not live, and the file is not protected
 pub record Renamable (d new : List ℕ) (f : File) : Type 0 where

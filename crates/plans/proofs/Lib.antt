@@ -11,7 +11,9 @@ pub mod ReadBack
 pub mod Counted
 pub mod Others
 pub mod After
-pub mod Stays
 pub mod Refused
 pub mod Asked
 pub mod Exactly
+pub mod Takes
+pub mod Finds
+pub mod Stays

@@ -11,7 +11,7 @@ use lib.ListN.{length, getD}
 use Rattle.buffers.specs.Bytes.{put}
 use Rattle.buffers.proofs.Lists.{part-put, part-put-after}
 use Rattle.refusals.specs.Order.{refuse, _else_, row}
-use Rattle.refusals.specs.Answers.{Outcome, done, unless, Out, filled}
+use Rattle.refusals.specs.Answers.{Outcome, done, refused, unless, Out, out, filled}
 use Rattle.refusals.proofs.First.{sweep-cong}
 use Rattle.slots.specs.Slot.{kindOf, nameOf, facts, lengthOf, pageOf, offsetOf}
 use Rattle.slots.specs.Name.{sameName, askable, padded}
@@ -27,14 +27,15 @@ use Rattle.disk.specs.Check.{checkLook, checkDisk}
 use Rattle.disk.specs.Sound.{Sound}
 use Rattle.disk.proofs.Look.{look-slots}
 use Rattle.disk.proofs.Sound.{sound}
-use Rattle.files.specs.Calls.{noFile, fileAt, fileNamed, notCarried, outOfRange, readReply, readLook, startReply, startOf, startLook, reading, starting}
+use Rattle.files.specs.Calls.{noFile, fileAt, fileNamed, notCarried, outOfRange, readReply, readLook, startReply, startOf, startLook}
 use Rattle.plans.specs.Change.{Mark, erase, rename, mark, marked}
 use Rattle.plans.specs.Plan.{upd, entryOf, made, run}
+use Rattle.plans.specs.Accepted.{Named, Unprotected}
+use Rattle.plans.specs.After.{SameAnswers, marking}
 use Rattle.plans.proofs.Frame.{upd-other, slots-same, slots-other, entry-is, holds-long}
 use Rattle.plans.proofs.Kept.{sound-long, usable-is}
-use Rattle.plans.proofs.Sure.{Named}
 use Rattle.plans.proofs.Demand3.{change-accepted}
-use Rattle.plans.proofs.Effect.{Touched, erasing, marking, Unprotected, Renamable, erased, marked-so, renamed}
+use Rattle.plans.proofs.Effect.{Touched, erasing, Renamable, erased, marked-so, renamed}
 
 -- ---- what the answers hang on
 
@@ -96,6 +97,17 @@ same-answers k l p q m n t e a = (
       ∙ sym (start-by l q n),
 )
 
+-- a name that cannot be asked for is refused 12 on every accepted look
+pub unusable-same : (k l : Look) → checkLook k ≡ none → checkLook l ≡ none → (m : List ℕ) → askable m ≡ false
+    → ((buf : List ℕ) → readLook k m buf ≡ readLook l m buf) × (startLook k m ≡ startLook l m)
+unusable-same k l p q m u = (λ buf. reads k p buf ∙ sym (reads l q buf), begins k p ∙ sym (begins l q))
+  where
+    reads : (l : Look) → checkLook l ≡ none → (buf : List ℕ) → readLook l m buf ≡ out (refused (refuse 12 0)) buf
+    reads l e buf = read-by l e m buf ∙ ap (λ (t : Bool). readBy buf t (find (slotsOf l) m) (fileAt l)) u
+
+    begins : (l : Look) → checkLook l ≡ none → startLook l m ≡ refused (refuse 12 0)
+    begins l e = start-by l e m ∙ ap (λ (t : Bool). startBy t (find (slotsOf l) m) (fileAt l)) u
+
 -- ---- a look with one slot changed
 
 -- what a slot holds, if anything, has not the name
@@ -155,12 +167,6 @@ module _ (l : Look) (i : ℕ) (o : Option File) (m : List ℕ) where
         (find-other, a .0, a .1)
 
 -- ---- the disk after a change of one slot
-
--- reading and the start address, asked for m on one disk, give what they give for n on another: length, address, refusal with its
--- slot, and every output buffer at return
-pub record SameAnswers (new m old n : List ℕ) : Type 0 where
-  pub readings : (buf : List ℕ) → reading new m buf ≡ reading old n buf
-  pub starts : starting new m ≡ starting old n
 
 module _ (d new : List ℕ) (i : ℕ) (o : Option File) (e : look new ≡ upd (look d) i o) where
   pub others : checkDisk d ≡ none → checkDisk new ≡ none → (m : List ℕ) → Unnamed m (look d .files i) → Unnamed m o → SameAnswers new m d m

@@ -30,6 +30,7 @@ use Rattle.plans.specs.Change.{Wish, Mark, Change, save, erase, rename, 
 use Rattle.plans.specs.Saving.{sectorsFor, taken, lowestSlot, stream, newSlot, chained}
 use Rattle.plans.specs.Plan.{slotStep, entryOf, dataSteps, touch, saveSteps, Plan, no, go, orNo, byName, nameTaken, isProtected, planOf, Result, stopped, made, settle, checked, run, changedBy, change}
 use Rattle.plans.specs.Refused.{SlotRow, rowAt, NoRow, FirstOf, someNamed, slotNamed, someFree, startOutside, row14, row15, row16, row17, row18, row19, row20, changeRows, Refuses, by-check, by-row, Passes, Accepts}
+use Rattle.plans.specs.Accepted.{many}
 use Rattle.plans.proofs.Frame.{slots-some}
 use Rattle.plans.proofs.Free.{lowest-slot, no-slot, taken-long}
 

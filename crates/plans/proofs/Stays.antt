@@ -1,31 +1,26 @@
 -- Every other file stays, whatever the change: its slot, its listing entry, and the whole answers to its name.
 use Prim.Native.Nat.{ℕ}
-use mathlib.Core.Path.{_≡_, sym, ap, _∙_}
-use mathlib.Core.Bool.{false, false≢true}
+use mathlib.Core.Path.{_≡_, refl, sym, ap, _∙_}
+use mathlib.Core.Bool.{Bool, true, false, false≢true}
 use mathlib.Core.List.{List}
 use mathlib.Core.Option.{none, some, Option·some-ne-none, Option·some-injective}
 use Rattle.slots.specs.Slot.{nameOf}
-use Rattle.slots.specs.Name.{padded}
+use Rattle.slots.specs.Name.{askable, padded}
 use Rattle.chains.specs.File.{File}
 use Rattle.directory.specs.Directory.{directory}
 use Rattle.disk.specs.Look.{look}
 use Rattle.disk.specs.Check.{checkDisk}
 use Rattle.plans.specs.Change.{Wish, Change, save, erase, rename, mark}
 use Rattle.plans.specs.Plan.{finds, made, run}
+use Rattle.plans.specs.Accepted.{Unprotected}
+use Rattle.plans.specs.After.{SameAnswers, Other, Unasked, marking}
 use Rattle.plans.proofs.Kept.{usable-is}
 use Rattle.plans.proofs.NewFile.{newFile, name-is}
 use Rattle.plans.proofs.Demand3.{change-accepted}
-use Rattle.plans.proofs.Effect.{erased, marked-so, renamed, erasing, marking, Unprotected, Renamable}
+use Rattle.plans.proofs.Effect.{erased, marked-so, renamed, erasing, Renamable}
 use Rattle.plans.proofs.ReadBack.{stored}
-use Rattle.plans.proofs.Others.{Unnamed, SameAnswers, others, other-slots, touched-slots, erase-others, mark-others, rename-others}
-use Rattle.plans.proofs.Exactly.{finds-erase, finds-rename, finds-mark}
-
--- a name that the change does not name
-abbrev pub Unasked : Change → List ℕ → Type 0
-Unasked (save w) m = padded m ≡ padded (w .name) → ⊥
-Unasked (erase n) m = padded m ≡ padded n → ⊥
-Unasked (rename n to) m = (padded m ≡ padded n → ⊥) × (padded m ≡ padded to → ⊥)
-Unasked (mark k n) m = padded m ≡ padded n → ⊥
+use Rattle.plans.proofs.Others.{Unnamed, others, unusable-same, other-slots, touched-slots, erase-others, mark-others, rename-others}
+use Rattle.plans.proofs.Finds.{finds-erase, finds-rename, finds-mark}
 
 module _ (d : List ℕ) (ok : checkDisk d ≡ none) (room : ℕ) (new ss : List ℕ) where
   save-others : (w : Wish) → run (save w) d room ≡ made new ss → (m : List ℕ) → (padded m ≡ padded (w .name) → ⊥) → SameAnswers new m d m
@@ -41,12 +36,25 @@ module _ (d : List ℕ) (ok : checkDisk d ≡ none) (room : ℕ) (new ss : List 
   unfound : (j : ℕ) (f : File) (n : List ℕ) → look d .files j ≡ some f → (nameOf (f .bytes) ≡ padded n → ⊥) → Unnamed n (look d .files j)
   unfound j f n h u g q p = u (ap (λ (f : File). nameOf (f .bytes)) (Option·some-injective f g (sym h ∙ q)) ∙ p)
 
+  others-stay : (c : Change) → run c d room ≡ made new ss → (m : List ℕ) → Other c m → SameAnswers new m d m
+  others-stay (save w) e m u = save-others w e m u
+  others-stay (erase n) e m u = erase-others d ok room new ss n e m u
+  others-stay (rename n to) e m u = rename-others d ok room new ss n to e m (u .0) (u .1)
+  others-stay (mark k n) e m u = mark-others d ok room new ss k n e m u
+
+  unusable-stay : (c : Change) → run c d room ≡ made new ss → (m : List ℕ) → askable m ≡ false → SameAnswers new m d m
+  unfolding checkDisk
+  unusable-stay c e m u =
+      let a = unusable-same (look new) (look d) (change-accepted c d room new ss ok e) ok m u in
+      record { readings = a .0; starts = a .1 }
+
   -- "for every name but those the change names, the whole answer of read and start is the old one"
   pub stays : (c : Change) → run c d room ≡ made new ss → (m : List ℕ) → Unasked c m → SameAnswers new m d m
-  stays (save w) e m u = save-others w e m u
-  stays (erase n) e m u = erase-others d ok room new ss n e m u
-  stays (rename n to) e m u = rename-others d ok room new ss n to e m (u .0) (u .1)
-  stays (mark k n) e m u = mark-others d ok room new ss k n e m u
+  stays c e m u = by (askable m) refl
+    where
+      by : (t : Bool) → askable m ≡ t → SameAnswers new m d m
+      by true q = others-stay c e m (u q)
+      by false q = unusable-stay c e m q
 
   -- "and so is every other listing entry": the slot of each live file that the change does not find
   pub entries-stay : (c : Change) → run c d room ≡ made new ss → (j : ℕ) (f : File) → look d .files j ≡ some f → finds c f ≡ false → directory new j ≡ directory d j

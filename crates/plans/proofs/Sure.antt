@@ -1,5 +1,5 @@
 -- Every plan's steps: quiet but for the last, which commits one slot, of a file that the change finds or of none.
-use Prim.Native.Nat.{ℕ, suc, _+_, _≤_, _<_}
+use Prim.Native.Nat.{ℕ, suc, _+_, _≤_}
 use mathlib.Core.Path.{_≡_, refl, sym, ap, _∙_, subst}
 use mathlib.Core.Bool.{Bool, true, false, not, _&&_, false≢true}
 use mathlib.Core.List.{List, [], _∷_, _++_}
@@ -15,7 +15,6 @@ use Rattle.slots.specs.Slot.{nameOf, carried}
 use Rattle.slots.specs.Name.{sameName, askable, padded}
 use Rattle.slots.proofs.Names.{same-refl}
 use Rattle.chains.specs.File.{File}
-use Rattle.directory.specs.Places.{slots}
 use Rattle.directory.specs.Directory.{held}
 use Rattle.directory.specs.Survey.{free}
 use Rattle.directory.specs.Find.{find}
@@ -30,6 +29,7 @@ use Rattle.steps.proofs.Steps.{commits-append, quiet-take}
 use Rattle.plans.specs.Change.{Wish, Mark, Change, save, erase, rename, mark, marked, between, usable}
 use Rattle.plans.specs.Saving.{sectorsFor, freeBit, taken, lowestSlot, stream, chained, newSlot}
 use Rattle.plans.specs.Plan.{entryOf, slotStep, touch, dataSteps, saveSteps, Plan, no, go, orNo, byName, nameTaken, isProtected, planOf, plan, finds}
+use Rattle.plans.specs.Accepted.{Named}
 use Rattle.plans.proofs.Frame.{upd-other}
 use Rattle.plans.proofs.Kept.{erase-does, mark-does, rename-does}
 use Rattle.plans.proofs.Free.{lowest-slot}
@@ -50,12 +50,6 @@ sure-of c d qs i o y e q g n w = record {
       ap (λ (ts : List Look). lastOf (look d) ts .files j) (commits-append qs (slotStep (look d) i o y e ∷ []) q)
       ∙ upd-other (look d) i e j (λ s. false≢true (sym r ∙ w f (ap (look d .files) (sym s) ∙ m))) ∙ m;
 }
-
--- a slot that holds a file with the name
-pub record Named (d n : List ℕ) (i : ℕ) (f : File) : Type 0 where
-  pub below : i < slots
-  pub here : look d .files i ≡ some f
-  pub name : nameOf (f .bytes) ≡ padded n
 
 found-file : (d n : List ℕ) (i : ℕ) → find (slotsOf (look d)) n ≡ some i → Named d n i (fileAt (look d) i)
 unfolding slotsOf

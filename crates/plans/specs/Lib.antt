@@ -4,3 +4,5 @@ pub mod Plan
 pub mod Safe
 pub mod Refused
 pub mod Asked
+pub mod Accepted
+pub mod After

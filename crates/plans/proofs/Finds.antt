@@ -1,0 +1,57 @@
+-- What a change finds has exactly the ten bytes asked for, and on an accepted disk it is one slot at most.
+use Prim.Native.Nat.{ℕ, _-_}
+use mathlib.Core.Path.{_≡_, refl, sym, ap, _∙_}
+use mathlib.Core.Bool.{Bool, true, false, false≢true}
+use mathlib.Core.List.{List}
+use mathlib.Core.Logic.{_↔_}
+use mathlib.Core.Option.{none, some}
+use borrow.Author.Tests.{eqb-true, eqb-false}
+use lib.Dec.{eqb}
+use Rattle.slots.specs.Slot.{nameOf}
+use Rattle.slots.specs.Name.{sameName, padded}
+use Rattle.slots.proofs.Names.{same-refl, same-is}
+use Rattle.chains.specs.File.{File}
+use Rattle.disk.specs.Look.{look}
+use Rattle.disk.specs.Check.{checkDisk}
+use Rattle.plans.specs.Change.{Wish, Mark, Change, save, erase, rename, mark}
+use Rattle.plans.specs.Plan.{finds}
+use Rattle.plans.proofs.Frame.{holds}
+use Rattle.plans.proofs.Kept.{sound-apart}
+use Rattle.plans.proofs.Exactly.{disk-sound}
+
+same-exactly : (m k : List ℕ) → (sameName m k ≡ true) ↔ (m ≡ k)
+same-exactly m k = (same-is m k, λ e. ap (λ (x : List ℕ). sameName x k) e ∙ same-refl k)
+
+pub finds-erase : (n : List ℕ) (f : File) → (finds (erase n) f ≡ true) ↔ (nameOf (f .bytes) ≡ padded n)
+unfolding finds
+finds-erase n f = same-exactly (nameOf (f .bytes)) (padded n)
+
+pub finds-rename : (n new : List ℕ) (f : File) → (finds (rename n new) f ≡ true) ↔ (nameOf (f .bytes) ≡ padded n)
+unfolding finds
+finds-rename n new f = same-exactly (nameOf (f .bytes)) (padded n)
+
+pub finds-mark : (m : Mark) (n : List ℕ) (f : File) → (finds (mark m n) f ≡ true) ↔ (nameOf (f .bytes) ≡ padded n)
+unfolding finds
+finds-mark m n f = same-exactly (nameOf (f .bytes)) (padded n)
+
+-- "a save finds none"
+pub finds-save : (w : Wish) (f : File) → finds (save w) f ≡ false
+unfolding finds
+finds-save w f = refl
+
+-- two live slots of an accepted disk that a change finds are the same slot
+module _ (d : List ℕ) (ok : checkDisk d ≡ none) (i j : ℕ) (f g : File) (p : look d .files i ≡ some f) (q : look d .files j ≡ some g) where
+  one-name : (n : List ℕ) → nameOf (f .bytes) ≡ padded n → nameOf (g .bytes) ≡ padded n → i ≡ j
+  one-name n a b = by (eqb j i) refl
+    where
+      by : (t : Bool) → eqb j i ≡ t → i ≡ j
+      by true e = sym (eqb-true j i e)
+      by false e =
+          let s = sound-apart (look d) (disk-sound d ok) i j f g (holds d i f p .here) (holds d j g q .here) (eqb-false j i e) p q in
+          absurd (s .names (b ∙ sym a))
+
+  pub finds-one : (c : Change) → finds c f ≡ true → finds c g ≡ true → i ≡ j
+  finds-one (save w) a b = absurd (false≢true (sym (finds-save w f) ∙ a))
+  finds-one (erase n) a b = one-name n (finds-erase n f .0 a) (finds-erase n g .0 b)
+  finds-one (rename n new) a b = one-name n (finds-rename n new f .0 a) (finds-rename n new g .0 b)
+  finds-one (mark m n) a b = one-name n (finds-mark m n f .0 a) (finds-mark m n g .0 b)

@@ -1,0 +1,113 @@
+-- What a change needs to be accepted, and what a save takes: stated by slots, files and bits, without rows and without an order.
+use Prim.Native.Nat.{ℕ, _+_, _-_, _*_, _≤_, _<_}
+use mathlib.Core.Path.{_≡_}
+use mathlib.Core.Bool.{true, false}
+use mathlib.Core.List.{List}
+use mathlib.Core.Option.{none, some}
+use lib.ListN.{length, getD}
+use Rattle.maps.specs.Bits.{has}
+use Rattle.slots.specs.Slot.{protected, nameOf, mapOf}
+use Rattle.slots.specs.Name.{askable, padded}
+use Rattle.chains.specs.File.{File}
+use Rattle.directory.specs.Places.{slots, slotBytes}
+use Rattle.directory.specs.Directory.{directory}
+use Rattle.directory.specs.Survey.{usedMap}
+use Rattle.disk.specs.Look.{look}
+use Rattle.disk.specs.Check.{checkDisk}
+use Rattle.disk.specs.Sound.{Carried}
+use Rattle.steps.specs.Sectors.{listed}
+use Rattle.steps.specs.Steps.{enact, numbers}
+use Rattle.plans.specs.Change.{Wish, usable}
+use Rattle.plans.specs.Saving.{sectorsFor}
+use Rattle.plans.specs.Plan.{saveSteps}
+
+-- a slot that holds a file with the name
+pub record Named (d n : List ℕ) (i : ℕ) (f : File) : Type 0 where
+  pub below : i < slots
+  pub here : look d .files i ≡ some f
+  pub name : nameOf (f .bytes) ≡ padded n
+
+-- no live slot has the name
+abbrev pub Fresh : List ℕ → List ℕ → Type 0
+Fresh d n = (i : ℕ) (f : File) → look d .files i ≡ some f → nameOf (f .bytes) ≡ padded n → ⊥
+
+-- bit 6 is clear
+abbrev pub Unprotected : File → Type 0
+Unprotected f = protected (f .bytes) ≡ false
+
+-- the disk is accepted, the name can be asked for, a live slot has it, more holds of its file, and the list has room for one number
+pub record Allowed (d n : List ℕ) (Also : File → Type 0) (room : ℕ) : Type 0 where
+  pub disk : checkDisk d ≡ none
+  pub name : askable n ≡ true
+  pub slot : ℕ
+  pub file : File
+  pub found : Named d n slot file
+  pub also : Also file
+  pub list : 1 ≤ room
+
+-- for a rename: the new name is usable, no live slot has it, and the file is not protected
+pub record Renames (d new : List ℕ) (f : File) : Type 0 where
+  pub name : usable new ≡ true
+  pub fresh : Fresh d new
+  pub unprotected : Unprotected f
+
+-- a slot whose byte 0 is zero
+abbrev pub Empty : List ℕ → ℕ → Type 0
+Empty d i = getD (slotBytes d i) 0 0 ≡ 0
+
+-- "no slot has byte 0 zero"
+abbrev pub NoSlot : List ℕ → Type 0
+NoSlot d = (i : ℕ) → i < slots → Empty d i → ⊥
+
+-- the disk is accepted, and no row of 12 to 17 holds
+pub record Asked (d : List ℕ) (w : Wish) : Type 0 where
+  pub disk : checkDisk d ≡ none
+  pub name : usable (w .name) ≡ true
+  pub kind : Carried (w .kind)
+  pub page : w .page ≤ 31
+  pub low : 32768 ≤ w .offset
+  pub high : w .offset ≤ 49151
+  pub fresh : Fresh d (w .name)
+
+-- the sectors that a save takes
+abbrev pub many : Wish → ℕ
+many w = sectorsFor (length (w .body))
+
+-- "Free sectors are 1,560 less that count."
+abbrev pub freeSectors : List ℕ → ℕ
+freeSectors d = 1560 - usedMap (directory d) .count
+
+-- a free slot, free sectors and a list for it
+pub record Savable (d : List ℕ) (w : Wish) (room : ℕ) : Type 0 where
+  pub asked : Asked d w
+  pub slot : ℕ
+  pub below : slot < slots
+  pub empty : Empty d slot
+  pub sectors : many w ≤ freeSectors d
+  pub list : many w + 1 ≤ room
+
+-- no live file's map has the bit
+abbrev pub Unused : List ℕ → ℕ → Type 0
+Unused d b = (i : ℕ) (f : File) → look d .files i ≡ some f → has (mapOf (f .bytes)) b ≡ true → ⊥
+
+-- what a save takes, of an accepted disk
+pub record Takes (d : List ℕ) (w : Wish) (new ss : List ℕ) : Type 0 where
+  -- "It takes the least n with 510 × n ≥ 9 + length,"
+  pub enough : 9 + length (w .body) ≤ 510 * many w
+  pub least : 510 * (many w - 1) < 9 + length (w .body)
+  -- "the n lowest free map bits, rising, as chain,"
+  pub bits : List ℕ
+  pub long : length bits ≡ many w
+  pub small : (b : ℕ) → listed b bits ≡ true → b < 1560
+  pub unused : (b : ℕ) → listed b bits ≡ true → Unused d b
+  pub rises : (j k : ℕ) → j < k → k < length bits → getD bits j 0 < getD bits k 0
+  pub lowest : (b c : ℕ) → listed b bits ≡ true → c < b → Unused d c → listed c bits ≡ true
+  -- "and the lowest free slot."
+  pub slot : ℕ
+  pub below : slot < slots
+  pub empty : Empty d slot
+  pub before : (k : ℕ) → k < slot → Empty d k → ⊥
+  -- these are what is written
+  pub disk : new ≡ enact d (saveSteps (look d) slot w bits)
+  pub sectors : ss ≡ numbers (saveSteps (look d) slot w bits)
+  pub named : length ss ≡ many w + 1

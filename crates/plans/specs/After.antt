@@ -1,0 +1,108 @@
+-- What a change leaves: the name that it finds, and every other. The words of document 01 stand above what they define.
+use Prim.Native.Nat.{ℕ, _+_, _≤_, _<_}
+use mathlib.Core.Path.{_≡_}
+use mathlib.Core.Bool.{Bool, true, false}
+use mathlib.Core.List.{List, [], _∷_}
+use mathlib.Core.Logic.{_⊎_}
+use mathlib.Core.Option.{none}
+use lib.ListN.{length, getD}
+use Rattle.buffers.specs.Bytes.{put}
+use Rattle.maps.specs.Bits.{has}
+use Rattle.refusals.specs.Order.{refuse}
+use Rattle.refusals.specs.Answers.{refused, out}
+use Rattle.slots.specs.Slot.{hidden, protected, kindOf, countOf, mapOf}
+use Rattle.slots.specs.Name.{askable, padded}
+use Rattle.chains.specs.File.{File}
+use Rattle.directory.specs.Places.{slotAt}
+use Rattle.directory.specs.Directory.{directory}
+use Rattle.directory.specs.Survey.{free}
+use Rattle.disk.specs.Look.{look}
+use Rattle.files.specs.Calls.{reading, starting}
+use Rattle.plans.specs.Change.{Mark, hide, show, protect, release, Change, save, erase, rename, mark, marked}
+use Rattle.plans.specs.Saving.{freeBit}
+use Rattle.plans.specs.Accepted.{Named}
+
+-- reading and the start address, asked for m on one disk, give what they give for n on another: length, address, refusal with its
+-- slot, and every output buffer at return
+pub record SameAnswers (new m old n : List ℕ) : Type 0 where
+  pub readings : (buf : List ℕ) → reading new m buf ≡ reading old n buf
+  pub starts : starting new m ≡ starting old n
+
+-- a name with other bytes than those that the change names
+abbrev pub Other : Change → List ℕ → Type 0
+Other (save w) m = padded m ≡ padded (w .name) → ⊥
+Other (erase n) m = padded m ≡ padded n → ⊥
+Other (rename n to) m = (padded m ≡ padded n → ⊥) × (padded m ≡ padded to → ⊥)
+Other (mark k n) m = padded m ≡ padded n → ⊥
+
+-- "every name but those the change names": one that cannot be asked for is none of them, whatever its bytes
+abbrev pub Unasked : Change → List ℕ → Type 0
+Unasked c m = askable m ≡ true → Other c m
+
+-- "no live slot has the name"
+pub record Gone (new n : List ℕ) : Type 0 where
+  pub unread : (buf : List ℕ) → reading new n buf ≡ out (refused (refuse 15 0)) buf
+  pub unstarted : starting new n ≡ refused (refuse 15 0)
+
+-- "Erase sets byte 0 to 0 and changes no other byte."
+pub record AfterErase (d n new : List ℕ) : Type 0 where
+  pub slot : ℕ
+  pub file : File
+  pub found : Named d n slot file
+  pub long : length new ≡ length d
+  pub byte : getD new (slotAt slot) 0 ≡ 0
+  pub bytes : (k : ℕ) → (k ≡ slotAt slot → ⊥) → getD new k 0 ≡ getD d k 0
+  -- the slot is free
+  pub empty : look new .files slot ≡ none
+  -- the name is refused 15
+  pub gone : Gone new n
+  -- "So freed sectors and slots are used again."
+  pub freed : (b : ℕ) → has (mapOf (file .bytes)) b ≡ true → freeBit (look new) b ≡ true
+  pub more : free 0 (directory new) ≡ free 0 (directory d) + countOf (file .bytes)
+
+-- "Rename changes bytes 1 to 10"
+pub record AfterRename (d n to new : List ℕ) : Type 0 where
+  pub slot : ℕ
+  pub file : File
+  pub found : Named d n slot file
+  pub long : length new ≡ length d
+  pub name : (k : ℕ) → k < 10 → getD new (slotAt slot + (1 + k)) 0 ≡ getD (padded to) k 0
+  pub bytes : (k : ℕ) → (k < slotAt slot + 1) ⊎ (slotAt slot + 11 ≤ k) → getD new k 0 ≡ getD d k 0
+  -- the file in the slot has the new name, and its sectors
+  pub now : Named new to slot (record { bytes = put (file .bytes) 1 (padded to); sectors = file .sectors })
+  -- reading and the start address give for the new name what they gave for the old one, and refuse that 15
+  pub answers : SameAnswers new to d n
+  pub gone : Gone new n
+
+-- what a mark makes of bit 7, and of bit 6
+abbrev pub hiddenBy : Mark → Bool → Bool
+hiddenBy hide t = true
+hiddenBy show t = false
+hiddenBy protect t = t
+hiddenBy release t = t
+
+abbrev pub protectedBy : Mark → Bool → Bool
+protectedBy hide t = t
+protectedBy show t = t
+protectedBy protect t = true
+protectedBy release t = false
+
+-- the first byte of a file with a mark
+abbrev pub marking : Mark → File → List ℕ
+marking m f = marked m (getD (f .bytes) 0 0) ∷ []
+
+-- "Hide, show, protect, release set or clear one bit": no other byte changes, and of this one no other bit
+pub record AfterMark (k : Mark) (d n new : List ℕ) : Type 0 where
+  pub slot : ℕ
+  pub file : File
+  pub found : Named d n slot file
+  pub long : length new ≡ length d
+  pub byte : getD new (slotAt slot) 0 ≡ marked k (getD d (slotAt slot) 0)
+  pub bytes : (j : ℕ) → (j ≡ slotAt slot → ⊥) → getD new j 0 ≡ getD d j 0
+  -- the file in the slot has its name and sectors
+  pub now : Named new n slot (record { bytes = put (file .bytes) 0 (marking k file); sectors = file .sectors })
+  pub hides : hidden (put (file .bytes) 0 (marking k file)) ≡ hiddenBy k (hidden (file .bytes))
+  pub protects : protected (put (file .bytes) 0 (marking k file)) ≡ protectedBy k (protected (file .bytes))
+  pub kind : kindOf (put (file .bytes) 0 (marking k file)) ≡ kindOf (file .bytes)
+  -- reading and the start address give for every name, its own too, what they gave
+  pub answers : (m : List ℕ) → SameAnswers new m d m
