@@ -145,7 +145,7 @@ pub fn rename(image: &mut [u8], name: &[u8], new: &[u8], list: &mut [u16]) -> An
 }
 
 // The four marks.
-enum Marking {
+pub enum Marking {
     Hide,
     Show,
     Protect,
@@ -165,7 +165,7 @@ fn marked(marking: Marking, x: u8) -> u8
 }
 
 // Marks a file; one that has the mark already is accepted.
-fn set_mark(image: &mut [u8], name: &[u8], marking: Marking, list: &mut [u16]) -> Answer
+pub fn set_mark(image: &mut [u8], name: &[u8], marking: Marking, list: &mut [u16]) -> Answer
     ensures { λ r. ⌜ changed (outcomeOf r) (now (image .exit)) (now (list .exit)) ≡ change (mark (markOf marking) (now (name .entry))) (now (image .entry)) (now (list .entry)) ⌝ }
 {
     match files::look_up(image, name) {

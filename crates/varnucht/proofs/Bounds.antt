@@ -46,7 +46,7 @@ abbrev pub Small : Reply → Type 0
 Small none = Unit {0}
 Small (some r) = (r .number ≤ 21) × (r .slot ≤ 80)
 
-small-else : (p q : Reply) → Small p → Small q → Small (p else q)
+pub small-else : (p q : Reply) → Small p → Small q → Small (p else q)
 small-else none q a b = b
 small-else (some r) q a b = a
 
@@ -64,7 +64,7 @@ small-rows s (r ∷ rs) h e =
     by true a b = (a, h)
     by false a b = b
 
-small-row : (n s : ℕ) (t : Bool) → n ≤ 21 → s ≤ 80 → Small (row n s t)
+pub small-row : (n s : ℕ) (t : Bool) → n ≤ 21 → s ≤ 80 → Small (row n s t)
 small-row n s true p q = (p, q)
 small-row n s false p q = tt
 
@@ -93,7 +93,7 @@ check-slot l r e = subst Small e (check-small l) .1
 
 -- ---- outcomes
 
-within-refused : (r : Refusal) (v f : ℕ) → Small (some r) → Within (refused r) v f
+pub within-refused : (r : Refusal) (v f : ℕ) → Small (some r) → Within (refused r) v f
 within-refused r v f a = record { refusal = a .0; slot = a .1; value = omega arith; free = omega arith }
 
 within-unless : (q : Reply) (x y v f : ℕ) → Small q → (q ≡ none → (x ≤ v) × (y ≤ f)) → Within (unless q (done x y)) v f

@@ -1,3 +1,5 @@
 pub mod Bounds
+pub mod Changing
+pub mod Pairs
 pub mod Parts
 pub mod Replies

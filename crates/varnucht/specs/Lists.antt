@@ -1,0 +1,29 @@
+-- The changes for the app's C layer: the list of sectors as bytes.
+use Prim.Native.Nat.{ℕ, _*_, _/_, _%_, _≤_}
+use mathlib.Core.List.{List, [], _∷_}
+use lib.ListN.{length}
+use Rattle.buffers.specs.Bytes.{put}
+use Rattle.refusals.specs.Answers.{Outcome, done, refused}
+use Rattle.plans.specs.Change.{Change}
+use Rattle.plans.specs.Plan.{Result, stopped, made, run, Changed, changed}
+use Rattle.varnucht.specs.Packed.{valueIn, Fits}
+
+-- "In the C layer the buffer is bytes, two to a number, low byte first."
+unfoldable pub inBytes : List ℕ → List ℕ
+inBytes [] = []
+inBytes (s ∷ ss) = s % 256 ∷ s / 256 ∷ inBytes ss
+
+-- "Each change fills a lent buffer .. with its sector numbers and answers how many .. Its rest stays."
+abbrev pub changingBy : Result → List ℕ → List ℕ → Changed
+changingBy (stopped r) d b = changed (refused r) d b
+changingBy (made new ss) d b = changed (done (length ss) 0) new (put b 0 (inBytes ss))
+
+-- a change with a list of bytes; an odd last byte holds no number
+unfoldable pub changing : Change → List ℕ → List ℕ → Changed
+changing c d b = changingBy (run c d (length b / 2)) d b
+
+-- an answer that fits, beside as many numbers as it counts and a list with room for them
+pub record Tellable (o : Outcome) (named b : List ℕ) : Type 0 where
+  pub fits : Fits o
+  pub enough : valueIn o ≤ length named
+  pub room : 2 * valueIn o ≤ length b
