@@ -45,7 +45,7 @@ most (erase n) = 1
 most (rename n new) = 1
 most (mark m n) = 1
 
-most-few : (c : Change) → most c ≤ 1561
+pub most-few : (c : Change) → most c ≤ 1561
 most-few (save w) = omega arith
 most-few (erase n) = omega arith
 most-few (rename n new) = omega arith
@@ -135,11 +135,11 @@ mild (mark m n) l =
 
 -- ---- the same of what comes of it
 
-abbrev Settled : ℕ → Result → Type 0
+abbrev pub Settled : ℕ → Result → Type 0
 Settled m (stopped r) = Small (some r)
 Settled m (made new ss) = length ss ≤ m
 
-mild-run : (c : Change) (d : List ℕ) (room : ℕ) → Settled (most c) (run c d room)
+pub mild-run : (c : Change) (d : List ℕ) (room : ℕ) → Settled (most c) (run c d room)
 unfolding run checkDisk
 mild-run c d room = by (checkDisk d) (plan c d) (check-small (look d)) (mild c (look d))
   where

@@ -3,3 +3,4 @@ pub mod Changing
 pub mod Pairs
 pub mod Parts
 pub mod Replies
+pub mod Safe

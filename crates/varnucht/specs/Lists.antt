@@ -1,5 +1,5 @@
 -- The changes for the app's C layer: the list of sectors as bytes.
-use Prim.Native.Nat.{ℕ, _*_, _/_, _%_, _≤_}
+use Prim.Native.Nat.{ℕ, _+_, _*_, _/_, _%_, _≤_}
 use mathlib.Core.List.{List, [], _∷_}
 use lib.ListN.{length}
 use Rattle.buffers.specs.Bytes.{put}
@@ -13,12 +13,18 @@ unfoldable pub inBytes : List ℕ → List ℕ
 inBytes [] = []
 inBytes (s ∷ ss) = s % 256 ∷ s / 256 ∷ inBytes ss
 
+-- the numbers that bytes hold; an odd last byte holds none
+unfoldable pub numbersIn : List ℕ → List ℕ
+numbersIn [] = []
+numbersIn (lo ∷ []) = []
+numbersIn (lo ∷ hi ∷ b) = (lo + 256 * hi) ∷ numbersIn b
+
 -- "Each change fills a lent buffer .. with its sector numbers and answers how many .. Its rest stays."
 abbrev pub changingBy : Result → List ℕ → List ℕ → Changed
 changingBy (stopped r) d b = changed (refused r) d b
 changingBy (made new ss) d b = changed (done (length ss) 0) new (put b 0 (inBytes ss))
 
--- a change with a list of bytes; an odd last byte holds no number
+-- a change with a list of bytes, two to a number
 unfoldable pub changing : Change → List ℕ → List ℕ → Changed
 changing c d b = changingBy (run c d (length b / 2)) d b
 
