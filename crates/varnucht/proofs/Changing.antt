@@ -34,7 +34,7 @@ use Rattle.plans.proofs.Free.{taken-long}
 use Rattle.plans.proofs.Refused.{save-long}
 use Rattle.plans.proofs.Demand3.{run-room}
 use Rattle.varnucht.specs.Packed.{packed, valueIn, Within, Fits, Told}
-use Rattle.varnucht.specs.Lists.{inBytes, changingBy, changing, Tellable}
+use Rattle.varnucht.specs.Lists.{inBytes, changingBy, changing, Returns, Tellable}
 use Rattle.varnucht.proofs.Parts.{within-fits, told}
 use Rattle.varnucht.proofs.Bounds.{Small, small-else, small-row, check-small, within-refused}
 
@@ -213,12 +213,12 @@ module _ (c : Change) (d b xs : List ℕ) (k : ℕ) (room : k ≡ min (length b 
             })
 
     pub changing-is : (r : ℕ) → r ≡ packed o → (b′ : List ℕ) → b′ ≡ put b 0 (inBytes (take (valueIn o) (ys ++ drop k xs)))
-        → (r ≡ packed (changing c d b .outcome)) × (d′ ≡ changing c d b .image) × (b′ ≡ changing c d b .list)
+        → Returns c d b r d′ b′
     unfolding change changing inBytes part
     changing-is r p b′ q = by (run c d (length (take k xs))) refl e
       where
         by : (x : Result) → run c d (length (take k xs)) ≡ x → changed o d′ ys ≡ changedBy x d (take k xs)
-            → (r ≡ packed (changing c d b .outcome)) × (d′ ≡ changing c d b .image) × (b′ ≡ changing c d b .list)
+            → Returns c d b r d′ b′
         by (stopped z) g w =
             let a : o ≡ refused z = ap (λ (x : Changed). x .outcome) w in
             let h : stopped z ≡ run c d (length b / 2) = sym g ∙ ran in (

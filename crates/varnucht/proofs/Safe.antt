@@ -30,7 +30,7 @@ unfolding part
 put-back b ss h =
     let x : List ℕ = inBytes ss in
     let e : put b 0 x ≡ x ++ drop (length x) (put b 0 x) =
-        sym (take-append-drop (length x) (put b 0 x)) ∙ ap (λ (y : List ℕ). y ++ drop (length x) (put b 0 x)) (part-put b 0 x (omega (arith, length-pairs ss))) in
+    sym (take-append-drop (length x) (put b 0 x)) ∙ ap (λ (y : List ℕ). y ++ drop (length x) (put b 0 x)) (part-put b 0 x (omega (arith, length-pairs ss))) in
     ap (λ (y : List ℕ). take (length ss) (numbersIn y)) e ∙ pairs-back ss (drop (length x) (put b 0 x))
 
 module _ (c : Change) (d b : List ℕ) where

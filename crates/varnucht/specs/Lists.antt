@@ -1,12 +1,13 @@
 -- The changes for the app's C layer: the list of sectors as bytes.
 use Prim.Native.Nat.{ℕ, _+_, _*_, _/_, _%_, _≤_}
 use mathlib.Core.List.{List, [], _∷_}
+use mathlib.Core.Path.{_≡_}
 use lib.ListN.{length}
 use Rattle.buffers.specs.Bytes.{put}
 use Rattle.refusals.specs.Answers.{Outcome, done, refused}
 use Rattle.plans.specs.Change.{Change}
 use Rattle.plans.specs.Plan.{Result, stopped, made, run, Changed, changed}
-use Rattle.varnucht.specs.Packed.{valueIn, Fits}
+use Rattle.varnucht.specs.Packed.{packed, valueIn, Fits}
 
 -- "In the C layer the buffer is bytes, two to a number, low byte first."
 unfoldable pub inBytes : List ℕ → List ℕ
@@ -27,6 +28,10 @@ changingBy (made new ss) d b = changed (done (length ss) 0) new (put b 0 (inByte
 -- a change with a list of bytes, two to a number
 unfoldable pub changing : Change → List ℕ → List ℕ → Changed
 changing c d b = changingBy (run c d (length b / 2)) d b
+
+-- answer, image and list at return are those of the change
+abbrev pub Returns : Change → List ℕ → List ℕ → ℕ → List ℕ → List ℕ → Type 0
+Returns c d b r d′ b′ = (r ≡ packed (changing c d b .outcome)) × (d′ ≡ changing c d b .image) × (b′ ≡ changing c d b .list)
 
 -- an answer that fits, beside as many numbers as it counts and a list with room for them
 pub record Tellable (o : Outcome) (named b : List ℕ) : Type 0 where

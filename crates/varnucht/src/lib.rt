@@ -10,7 +10,7 @@ ghost use Rattle.plans.specs.Change.{save, erase, rename, mark, hide, show, pro
 ghost use Rattle.changes.specs.Marks.{markOf};
 ghost use Rattle.saves.specs.Write.{wish};
 ghost use Rattle.varnucht.specs.Packed.{packed, checking, sectorPlace, valueIn, Fits};
-ghost use Rattle.varnucht.specs.Lists.{inBytes, changing, Tellable};
+ghost use Rattle.varnucht.specs.Lists.{inBytes, Returns, Tellable};
 use changes::Marking;
 use geometry::Spot;
 use refusals::Answer;
@@ -120,39 +120,39 @@ fn tell(a: Answer, numbers: &[u16], list: &mut [u8]) -> u64
 // Erases a file: how many sectors, and their numbers to the front of the list.
 #[no_mangle]
 pub extern "C" fn varnucht_erase(image: &mut [u8], name: &[u8], list: &mut [u8]) -> u64
-    ensures { λ r. ⌜ (r ≡ packed (changing (erase (now (name .entry))) (now (image .entry)) (now (list .entry)) .outcome)) × (now (image .exit) ≡ changing (erase (now (name .entry))) (now (image .entry)) (now (list .entry)) .image) × (now (list .exit) ≡ changing (erase (now (name .entry))) (now (image .entry)) (now (list .entry)) .list) ⌝ }
+    ensures { λ r. ⌜ Returns (erase (now (name .entry))) (now (image .entry)) (now (list .entry)) r (now (image .exit)) (now (list .exit)) ⌝ }
 {
     let mut numbers = [0u16; 1];
     let room = buffers::lesser(list.len() / 2, 1);
-    let done = changes::erase(image, name, &mut numbers[..room]);
-    tell(done, &numbers, list)
+    let erased = changes::erase(image, name, &mut numbers[..room]);
+    tell(erased, &numbers, list)
 }
 
 // Gives a file a new name.
 #[no_mangle]
 pub extern "C" fn varnucht_rename(image: &mut [u8], name: &[u8], new: &[u8], list: &mut [u8]) -> u64
-    ensures { λ r. ⌜ (r ≡ packed (changing (rename (now (name .entry)) (now (new .entry))) (now (image .entry)) (now (list .entry)) .outcome)) × (now (image .exit) ≡ changing (rename (now (name .entry)) (now (new .entry))) (now (image .entry)) (now (list .entry)) .image) × (now (list .exit) ≡ changing (rename (now (name .entry)) (now (new .entry))) (now (image .entry)) (now (list .entry)) .list) ⌝ }
+    ensures { λ r. ⌜ Returns (rename (now (name .entry)) (now (new .entry))) (now (image .entry)) (now (list .entry)) r (now (image .exit)) (now (list .exit)) ⌝ }
 {
     let mut numbers = [0u16; 1];
     let room = buffers::lesser(list.len() / 2, 1);
-    let done = changes::rename(image, name, new, &mut numbers[..room]);
-    tell(done, &numbers, list)
+    let renamed = changes::rename(image, name, new, &mut numbers[..room]);
+    tell(renamed, &numbers, list)
 }
 
 // Sets or clears one of a file's two marks.
 fn mark(image: &mut [u8], name: &[u8], marking: Marking, list: &mut [u8]) -> u64
-    ensures { λ r. ⌜ (r ≡ packed (changing (mark (markOf marking) (now (name .entry))) (now (image .entry)) (now (list .entry)) .outcome)) × (now (image .exit) ≡ changing (mark (markOf marking) (now (name .entry))) (now (image .entry)) (now (list .entry)) .image) × (now (list .exit) ≡ changing (mark (markOf marking) (now (name .entry))) (now (image .entry)) (now (list .entry)) .list) ⌝ }
+    ensures { λ r. ⌜ Returns (mark (markOf marking) (now (name .entry))) (now (image .entry)) (now (list .entry)) r (now (image .exit)) (now (list .exit)) ⌝ }
 {
     let mut numbers = [0u16; 1];
     let room = buffers::lesser(list.len() / 2, 1);
-    let done = changes::set_mark(image, name, marking, &mut numbers[..room]);
-    tell(done, &numbers, list)
+    let marked = changes::set_mark(image, name, marking, &mut numbers[..room]);
+    tell(marked, &numbers, list)
 }
 
 // Hides a file.
 #[no_mangle]
 pub extern "C" fn varnucht_hide(image: &mut [u8], name: &[u8], list: &mut [u8]) -> u64
-    ensures { λ r. ⌜ (r ≡ packed (changing (mark hide (now (name .entry))) (now (image .entry)) (now (list .entry)) .outcome)) × (now (image .exit) ≡ changing (mark hide (now (name .entry))) (now (image .entry)) (now (list .entry)) .image) × (now (list .exit) ≡ changing (mark hide (now (name .entry))) (now (image .entry)) (now (list .entry)) .list) ⌝ }
+    ensures { λ r. ⌜ Returns (mark hide (now (name .entry))) (now (image .entry)) (now (list .entry)) r (now (image .exit)) (now (list .exit)) ⌝ }
 {
     mark(image, name, Marking::Hide, list)
 }
@@ -160,7 +160,7 @@ pub extern "C" fn varnucht_hide(image: &mut [u8], name: &[u8], list: &mut [u8]) 
 // Shows a hidden file.
 #[no_mangle]
 pub extern "C" fn varnucht_show(image: &mut [u8], name: &[u8], list: &mut [u8]) -> u64
-    ensures { λ r. ⌜ (r ≡ packed (changing (mark show (now (name .entry))) (now (image .entry)) (now (list .entry)) .outcome)) × (now (image .exit) ≡ changing (mark show (now (name .entry))) (now (image .entry)) (now (list .entry)) .image) × (now (list .exit) ≡ changing (mark show (now (name .entry))) (now (image .entry)) (now (list .entry)) .list) ⌝ }
+    ensures { λ r. ⌜ Returns (mark show (now (name .entry))) (now (image .entry)) (now (list .entry)) r (now (image .exit)) (now (list .exit)) ⌝ }
 {
     mark(image, name, Marking::Show, list)
 }
@@ -168,7 +168,7 @@ pub extern "C" fn varnucht_show(image: &mut [u8], name: &[u8], list: &mut [u8]) 
 // Protects a file.
 #[no_mangle]
 pub extern "C" fn varnucht_protect(image: &mut [u8], name: &[u8], list: &mut [u8]) -> u64
-    ensures { λ r. ⌜ (r ≡ packed (changing (mark protect (now (name .entry))) (now (image .entry)) (now (list .entry)) .outcome)) × (now (image .exit) ≡ changing (mark protect (now (name .entry))) (now (image .entry)) (now (list .entry)) .image) × (now (list .exit) ≡ changing (mark protect (now (name .entry))) (now (image .entry)) (now (list .entry)) .list) ⌝ }
+    ensures { λ r. ⌜ Returns (mark protect (now (name .entry))) (now (image .entry)) (now (list .entry)) r (now (image .exit)) (now (list .exit)) ⌝ }
 {
     mark(image, name, Marking::Protect, list)
 }
@@ -176,7 +176,7 @@ pub extern "C" fn varnucht_protect(image: &mut [u8], name: &[u8], list: &mut [u8
 // Takes a file's protection away.
 #[no_mangle]
 pub extern "C" fn varnucht_release(image: &mut [u8], name: &[u8], list: &mut [u8]) -> u64
-    ensures { λ r. ⌜ (r ≡ packed (changing (mark release (now (name .entry))) (now (image .entry)) (now (list .entry)) .outcome)) × (now (image .exit) ≡ changing (mark release (now (name .entry))) (now (image .entry)) (now (list .entry)) .image) × (now (list .exit) ≡ changing (mark release (now (name .entry))) (now (image .entry)) (now (list .entry)) .list) ⌝ }
+    ensures { λ r. ⌜ Returns (mark release (now (name .entry))) (now (image .entry)) (now (list .entry)) r (now (image .exit)) (now (list .exit)) ⌝ }
 {
     mark(image, name, Marking::Release, list)
 }
@@ -201,11 +201,11 @@ pub extern "C" fn varnucht_save(
     body: &[u8],
     list: &mut [u8],
 ) -> u64
-    ensures { λ r. ⌜ (r ≡ packed (changing (save (wish kind (now (name .entry)) page offset (now (exec .entry)) (now (info .entry)) (now (body .entry)))) (now (image .entry)) (now (list .entry)) .outcome)) × (now (image .exit) ≡ changing (save (wish kind (now (name .entry)) page offset (now (exec .entry)) (now (info .entry)) (now (body .entry)))) (now (image .entry)) (now (list .entry)) .image) × (now (list .exit) ≡ changing (save (wish kind (now (name .entry)) page offset (now (exec .entry)) (now (info .entry)) (now (body .entry)))) (now (image .entry)) (now (list .entry)) .list) ⌝ }
+    ensures { λ r. ⌜ Returns (save (wish kind (now (name .entry)) page offset (now (exec .entry)) (now (info .entry)) (now (body .entry)))) (now (image .entry)) (now (list .entry)) r (now (image .exit)) (now (list .exit)) ⌝ }
 {
     let mut numbers = no_numbers();
     let room = buffers::lesser(list.len() / 2, 1561);
-    let done = saves::save(
+    let saved = saves::save(
         image,
         kind as usize,
         name,
@@ -216,5 +216,5 @@ pub extern "C" fn varnucht_save(
         body,
         &mut numbers[..room],
     );
-    tell(done, &numbers, list)
+    tell(saved, &numbers, list)
 }
