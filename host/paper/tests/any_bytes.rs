@@ -73,7 +73,7 @@ fn calls_hold_on_damaged_disks() {
     let (mut image, mut old) = (disk.clone(), disk.clone());
     for _ in 0..4_000 {
         for _ in 0..1 + numbers.below(2) {
-            let byte = [0, 1, 4, 16, 19, 65, 66, 128, 255][numbers.below(9)];
+            let byte = [0, 1, 4, 5, 16, 19, 65, 66, 128, 255][numbers.below(10)];
             image[place(&mut numbers)] = byte;
         }
         old.copy_from_slice(&image);
