@@ -19,13 +19,14 @@ impl Numbers {
     }
 }
 
-/// Where a byte of meaning lies: a slot's front, its end, or the header or link of a low data sector.
+/// Where a byte of meaning lies: a slot's front, its end, its first map byte, or the header or link of a low data sector.
 fn place(numbers: &mut Numbers) -> usize {
     let slot = slot_place(1 + numbers.below(4));
-    match numbers.below(4) {
+    match numbers.below(5) {
         0 => slot + numbers.below(18),
         1 => slot + 236 + numbers.below(8),
-        2 => 40_960 + numbers.below(12) * 512 + 510 + numbers.below(2),
+        2 => slot + 15,
+        3 => 40_960 + numbers.below(12) * 512 + 510 + numbers.below(2),
         _ => 40_960 + numbers.below(12) * 512 + numbers.below(9),
     }
 }
