@@ -182,6 +182,13 @@ pub place-end : (b : ℕ) → 1560 ≤ b → placeOrEnd b ≡ imageSize
 unfolding placeOrEnd
 place-end b h = rw (le-ltb b 1560 h)
 
+-- The same from the track and the sector.
+pub data-or-end : (t s : ℕ) → isData t s ≡ true → placeOrEnd (bitOf t s) ≡ placeOf t s
+data-or-end t s e = place-or-end (bitOf t s) (data-bit t s e .small) ∙ data-place t s e
+
+pub none-or-end : (t s : ℕ) → isData t s ≡ false → placeOrEnd (bitOf t s) ≡ imageSize
+none-or-end t s e = place-end (bitOf t s) (omega (arith, bit-none t s e))
+
 -- What an answer says.
 pub record SectorAt (t s p : ℕ) : Type 0 where
   pub sector : isSector t s ≡ true

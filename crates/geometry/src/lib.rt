@@ -126,3 +126,14 @@ pub fn bit_place(bit: usize) -> usize
     }
     819200
 }
+
+// The place of a data sector, from its address, with no division by 10: the image's size where it is none.
+pub fn data_place(track: usize, sector: usize) -> usize
+    ensures { λ r. ⌜ r ≡ placeOrEnd (bitOf track sector) ⌝ }
+{
+    if is_data(track, sector) {
+        ((2 * (track % 128) + track / 128) * 10 + sector - 1) * 512
+    } else {
+        819200
+    }
+}
