@@ -65,7 +65,7 @@ module _ (map : List ℕ) (sec : ℕ → List ℕ) where
     pub last : isLast (sec (linked sec b n)) ≡ true
 
   -- the first link taken first
-  linked-front : (b i : ℕ) → linked sec b (suc i) ≡ linked sec (nextOf (sec b)) i
+  pub linked-front : (b i : ℕ) → linked sec b (suc i) ≡ linked sec (nextOf (sec b)) i
   unfolding linked
   linked-front b zero = refl
   linked-front b (suc i) = ap (λ (c : ℕ). nextOf (sec c)) (linked-front b i)

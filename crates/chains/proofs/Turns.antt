@@ -1,31 +1,28 @@
--- The chain as the code follows it, with the passed sectors marked in a map; and what rows 10 and 11 then answer.
+-- The chain as the code follows it, from place to place; and what rows 10 and 11 then answer.
 use Prim.Native.Nat.{ℕ, suc, _-_, _≤_, _<_}
-use mathlib.Core.Path.{_≡_, refl, sym, ap, ap₂, _∙_, fun-ext}
+use mathlib.Core.Path.{_≡_, refl, sym, ap, _∙_}
 use mathlib.Core.Bool.{Bool, true, false, not, cond, _&&_, and-false}
 use mathlib.Core.List.{List}
 use mathlib.Core.Option.{none, some}
 use native.Mathlib.Omega.{arith}
-use lib.ListN.{length}
 use Rattle.buffers.specs.Bytes.{part}
+use Rattle.buffers.proofs.Lists.{length-part}
 use Rattle.geometry.specs.Disk.{placeOrEnd}
 use Rattle.geometry.proofs.Laws.{place-or-end}
-use Rattle.maps.specs.Bits.{has, clear, marked}
-use Rattle.maps.proofs.Laws.{has-clear, has-marked, length-marked}
+use Rattle.maps.specs.Bits.{has}
 use Rattle.refusals.specs.Order.{refuse}
 use Rattle.slots.specs.Slot.{facts, kindOf, carried, firstOf, countOf, mapOf}
 use Rattle.chains.specs.File.{sectorsOf, fileOf}
-use Rattle.chains.specs.Chain.{nextOf, isLast, passing, strays, broken, headerDiffers, laterReply, linked}
+use Rattle.chains.specs.Chain.{nextOf, isLast, broken, headerDiffers, laterReply, linked}
 use Rattle.chains.proofs.Laws.{sectors-own, map-small, chain-steps}
+use Rattle.chains.proofs.Ring.{roams, strays-roams}
 
--- from bit b on, with the passed sectors in the map p
-abbrev pub straysFrom : List ℕ → List ℕ → ℕ → ℕ → List ℕ → Bool
-straysFrom d s n b p = strays (mapOf s) (sectorsOf d s) n b (has p)
-
--- before a turn: the chain is broken exactly where what is left of it strays
-pub record Walked (d s : List ℕ) (left : ℕ) (p : List ℕ) (b : ℕ) : Type 0 where
-  pub own : has (mapOf s) b ≡ true
-  pub long : length p ≡ 195
-  pub rest : broken (facts s) (sectorsOf d s) ≡ straysFrom d s (left - 1) b p
+-- before a turn, at the sector of a bit: the chain is broken exactly where what is left of it strays
+pub record Walked (d s : List ℕ) (left at : ℕ) : Type 0 where
+  pub bit : ℕ
+  pub own : has (mapOf s) bit ≡ true
+  pub place : at ≡ placeOrEnd bit
+  pub rest : broken (facts s) (sectorsOf d s) ≡ roams (mapOf s) (sectorsOf d s) (left - 1) bit
 
 -- what a test of the map that the code holds says of the slot's
 pub in-map : (m s : List ℕ) (c : ℕ) {t v : Bool} → m ≡ mapOf s → t ≡ has m c → t ≡ v → has (mapOf s) c ≡ v
@@ -40,41 +37,41 @@ module _ (d s : List ℕ) where
   unfolding broken facts
   outside b e h = rw (← e, h)
 
-  pub start : (b n : ℕ) → b ≡ firstOf s → n ≡ countOf s → has (mapOf s) b ≡ true → Walked d s n clear b
+  pub start : (b n a : ℕ) → b ≡ firstOf s → n ≡ countOf s → a ≡ placeOrEnd b → has (mapOf s) b ≡ true → Walked d s n a
   unfolding broken facts
-  start b n e f h =
+  start b n a e f g h =
       record {
+        bit = b;
         own = h;
-        long = refl;
-        rest = rw (← e, h, ← f) (ap (strays (mapOf s) (sectorsOf d s) (n - 1) b) (fun-ext (λ c. sym (has-clear c))));
+        place = g;
+        rest = rw (← e, h, ← f) (strays-roams (mapOf s) (sectorsOf d s) (omega (arith, length-part 15 195 s)) (n - 1) b h);
       }
 
-  pub end : (p h : List ℕ) (left b : ℕ) → Walked d s left p b → left ≤ 1 → h ≡ part (placeOrEnd b) 512 d → broken (facts s) (sectorsOf d s) ≡ not (isLast h)
-  unfolding strays
-  end p h left b w l e =
-      let k : left - 1 ≡ 0 = omega arith in
-      w .rest ∙ ap (λ (m : ℕ). straysFrom d s m b p) k ∙ ap (λ (x : List ℕ). not (isLast x)) (read b h (w .own) e)
+  -- the part that the code takes is the bit's sector
+  here : (h : List ℕ) (left a : ℕ) (w : Walked d s left a) → h ≡ part a 512 d → sectorsOf d s (w .bit) ≡ h
+  here h left a w e = read (w .bit) h (w .own) (e ∙ ap (λ (x : ℕ). part x 512 d) (w .place))
 
--- a turn: b is marked in p, which is then q, and the link of its sector h leads to c
-module _ (d s p q h : List ℕ) (left b c : ℕ) (w : Walked d s left p b) (more : 1 < left) (marks : q ≡ marked p b) (reads : h ≡ part (placeOrEnd b) 512 d) (leads : c ≡ nextOf h) where
-  turn : broken (facts s) (sectorsOf d s) ≡ cond (has (mapOf s) c && not (has q c)) (straysFrom d s (left - 1 - 1) c q) true
-  unfolding strays
+  pub end : (h : List ℕ) (left a : ℕ) → Walked d s left a → left ≤ 1 → h ≡ part a 512 d → broken (facts s) (sectorsOf d s) ≡ not (isLast h)
+  unfolding roams
+  end h left a w l e =
+      let k : left - 1 ≡ 0 = omega arith in
+      w .rest ∙ ap (λ (m : ℕ). roams (mapOf s) (sectorsOf d s) m (w .bit)) k ∙ ap (λ (x : List ℕ). not (isLast x)) (here h left a w e)
+
+-- a turn: the link of the sector h leads to bit c
+module _ (d s h : List ℕ) (left a c : ℕ) (w : Walked d s left a) (more : 1 < left) (reads : h ≡ part a 512 d) (leads : c ≡ nextOf h) where
+  turn : broken (facts s) (sectorsOf d s) ≡ cond (has (mapOf s) c) (roams (mapOf s) (sectorsOf d s) (left - 1 - 1) c) true
+  unfolding roams
   turn =
       let k : left - 1 ≡ suc (left - 1 - 1) = omega arith in
-      let next : nextOf (sectorsOf d s b) ≡ c = ap nextOf (read d s b h (w .own) reads) ∙ sym leads in
-      let now : passing (has p) b ≡ has q =
-      fun-ext (λ x. sym (ap (λ (m : List ℕ). has m x) marks ∙ has-marked p b x (omega (arith, w .long, map-small s b (w .own))))) in
-      w .rest ∙ ap (λ (m : ℕ). straysFrom d s m b p) k
-      ∙ ap₂ (λ (x : ℕ) (v : ℕ → Bool). cond (has (mapOf s) x && not (v x)) (strays (mapOf s) (sectorsOf d s) (left - 1 - 1) x v) true) next now
+      let next : nextOf (sectorsOf d s (w .bit)) ≡ c = ap nextOf (here d s h left a w reads) ∙ sym leads in
+      w .rest ∙ ap (λ (m : ℕ). roams (mapOf s) (sectorsOf d s) m (w .bit)) k
+      ∙ ap (λ (x : ℕ). cond (has (mapOf s) x) (roams (mapOf s) (sectorsOf d s) (left - 1 - 1) x) true) next
 
   pub strays-off : has (mapOf s) c ≡ false → true ≡ broken (facts s) (sectorsOf d s)
   strays-off i = sym (turn ∙ rw i)
 
-  pub strays-back : has q c ≡ true → true ≡ broken (facts s) (sectorsOf d s)
-  strays-back j = sym (turn ∙ rw (j, and-false))
-
-  pub walked : has (mapOf s) c ≡ true → has q c ≡ false → Walked d s (left - 1) q c
-  walked i j = record { own = i; long = ap length marks ∙ length-marked p b ∙ w .long; rest = turn ∙ rw (i, j) }
+  pub walked : (e : ℕ) → has (mapOf s) c ≡ true → e ≡ placeOrEnd (nextOf h) → Walked d s (left - 1) e
+  walked e i f = record { bit = c; own = i; place = f ∙ ap placeOrEnd (sym leads); rest = turn ∙ rw i }
 
 -- ---- the rows
 

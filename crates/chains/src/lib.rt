@@ -36,7 +36,15 @@ pub fn is_last(sector: &[u8]) -> bool
     }
 }
 
-// Row 10: whether the chain is broken. The sectors passed are marked, so that none is passed twice.
+// The place of the sector that a sector's link leads to: the image's size where it names no data sector.
+fn next_place(sector: &[u8]) -> usize
+    ensures { λ r. ⌜ r ≡ placeOrEnd (nextOf (now (sector .entry))) ⌝ }
+{
+    geometry::data_place(buffers::num_at(sector, 510), buffers::num_at(sector, 511))
+}
+
+// Row 10: whether the chain is broken. A sector that comes twice is on a ring, and no sector of a ring has the link 0, 0:
+// so the sectors passed need not be kept.
 fn chain_broken(image: &[u8], s: &[u8]) -> bool
     ensures { λ r. ⌜ r ≡ broken (facts (now (s .entry))) (sectorsOf (now (image .entry)) (now (s .entry))) ⌝ }
 {
@@ -46,21 +54,16 @@ fn chain_broken(image: &[u8], s: &[u8]) -> bool
         return true;
     }
     let mut left = slots::count_of(s);
-    let mut passed = [0u8; 195];
-    let mut b = first;
+    let mut at = geometry::bit_place(first);
     while 1 < left {
-        maps::mark(&mut passed, b);
-        let c = next_of(sector_at(image, b));
-        if !maps::has_bit(map, c) {
+        let sector = buffers::part_at(image, at, 512);
+        if !maps::has_bit(map, next_of(sector)) {
             return true;
         }
-        if maps::has_bit(&passed, c) {
-            return true;
-        }
-        b = c;
+        at = next_place(sector);
         left -= 1;
     }
-    !is_last(sector_at(image, b))
+    !is_last(buffers::part_at(image, at, 512))
 }
 
 // Row 11's test of the nine header bytes that a file's first sector begins with.

@@ -2,16 +2,16 @@
 use mathlib.Core.Path.{sym, ap, _∙_}
 use mathlib.Core.Bool.{not}
 use borrow.Author.Tests.{not-true, not-false}
-use Rattle.chains.proofs.Turns.{Walked, in-map, outside, start, strays-off, strays-back, walked, end}
+use Rattle.chains.proofs.Turns.{Walked, in-map, outside, start, strays-off, walked, end}
 use borrow.Author.Needs.{needs}
 use Rattle.chains.proofs.chain_broken.Statement.{statement}
 use Rattle.chains.proofs.chain_broken.Tie as tie
 
 abbrev Inv-loop : tie.InvT-loop
-Inv-loop image s map first left₀ passed₀ b₀ left passed b = Walked image s left passed b
+Inv-loop image s map first left₀ at₀ left at = Walked image s left at
 
 abbrev μ-loop : tie.MeasureT-loop
-μ-loop image s map first left₀ passed₀ b₀ left passed b = left
+μ-loop image s map first left₀ at₀ left at = left
 
 map-of-requires : tie.Need-map-of-requires Inv-loop μ-loop
 map-of-requires c κs = search needs
@@ -30,20 +30,18 @@ returns c =
 count-of-requires : tie.Need-count-of-requires Inv-loop μ-loop
 count-of-requires c κs = search needs
 
+bit-place-requires : tie.Need-bit-place-requires Inv-loop μ-loop
+bit-place-requires c κs = search needs
+
 loop-holds : tie.Need-loop-holds Inv-loop μ-loop
 loop-holds c =
-    let e = c .before in
+    let n = c .before in
+    let e = n .before in
     let f = e .before .before in
-    start _ _ _ _ (f .first-of .ensures .0) (c .count-of .ensures .0) (in-map _ _ _ (f .before .map-of .ensures) (e .before .has-bit .ensures) (not-false _ (e .if1 .left)))
+    start _ _ _ _ _ (f .first-of .ensures .0) (n .count-of .ensures .0) (c .bit-place .ensures) (in-map _ _ _ (f .before .map-of .ensures) (e .before .has-bit .ensures) (not-false _ (e .if1 .left)))
 
-slice-aggregate-mark : tie.Need-slice-aggregate-mark Inv-loop μ-loop
-slice-aggregate-mark c = search needs
-
-mark-requires : tie.Need-mark-requires Inv-loop μ-loop
-mark-requires c κs = search needs
-
-sector-at-requires : tie.Need-sector-at-requires Inv-loop μ-loop
-sector-at-requires c κs = search needs
+part-at-requires : tie.Need-part-at-requires Inv-loop μ-loop
+part-at-requires c κs = search needs
 
 next-of-requires : tie.Need-next-of-requires Inv-loop μ-loop
 next-of-requires c κs = search needs
@@ -54,25 +52,13 @@ has-bit-requires-2 c κs = search needs
 returns-2 : tie.Need-returns-2 Inv-loop μ-loop
 returns-2 c =
     let n = c .before .before in
-    let i = n .before .before .before .before .before in
+    let i = n .before .before in
     let l = i .before in
-    strays-off _ _ _ _ _ _ _ _ (l .loop .inv) (i .loop-test .taken) (n .before .before .before .mark .ensures) (n .before .sector-at .ensures) (n .next-of .ensures .0)
-    (in-map _ _ _ (l .before .before .before .before .before .map-of .ensures) (c .before .has-bit2 .ensures) (not-true _ (c .if2 .taken)))
+    strays-off _ _ _ _ _ _ (l .loop .inv) (i .loop-test .taken) (n .before .part-at .ensures) (n .next-of .ensures .0)
+    (in-map _ _ _ (l .before .before .before .before .before .before .map-of .ensures) (c .before .has-bit2 .ensures) (not-true _ (c .if2 .taken)))
 
-slice-aggregate-has-bit : tie.Need-slice-aggregate-has-bit Inv-loop μ-loop
-slice-aggregate-has-bit c = search needs
-
-has-bit-requires-3 : tie.Need-has-bit-requires-3 Inv-loop μ-loop
-has-bit-requires-3 c κs = search needs
-
-returns-3 : tie.Need-returns-3 Inv-loop μ-loop
-returns-3 c =
-    let e = c .before .before .before in
-    let n = e .before .before in
-    let i = n .before .before .before .before .before in
-    let l = i .before in
-    strays-back _ _ _ _ _ _ _ _ (l .loop .inv) (i .loop-test .taken) (n .before .before .before .mark .ensures) (n .before .sector-at .ensures) (n .next-of .ensures .0)
-    (sym (c .before .has-bit3 .ensures) ∙ c .if3 .taken)
+next-place-requires : tie.Need-next-place-requires Inv-loop μ-loop
+next-place-requires c κs = search needs
 
 sub-left : tie.Need-sub-left Inv-loop μ-loop
 sub-left c = search needs
@@ -82,24 +68,24 @@ loop-less c = search needs
 
 loop-again : tie.Need-loop-again Inv-loop μ-loop
 loop-again c =
-    let e = c .before .before .before in
+    let e = c .before in
     let n = e .before .before in
-    let i = n .before .before .before .before .before in
+    let i = n .before .before in
     let l = i .before in
-    walked _ _ _ _ _ _ _ _ (l .loop .inv) (i .loop-test .taken) (n .before .before .before .mark .ensures) (n .before .sector-at .ensures) (n .next-of .ensures .0)
-    (in-map _ _ _ (l .before .before .before .before .before .map-of .ensures) (e .before .has-bit2 .ensures) (not-false _ (e .if2 .left)))
-    (sym (c .before .has-bit3 .ensures) ∙ c .if3 .left)
+    walked _ _ _ _ _ _ (l .loop .inv) (i .loop-test .taken) (n .before .part-at .ensures) (n .next-of .ensures .0) _
+    (in-map _ _ _ (l .before .before .before .before .before .before .map-of .ensures) (e .before .has-bit2 .ensures) (not-false _ (e .if2 .left)))
+    (c .next-place .ensures)
 
-sector-at-requires-2 : tie.Need-sector-at-requires-2 Inv-loop μ-loop
-sector-at-requires-2 c κs = search needs
+part-at-requires-2 : tie.Need-part-at-requires-2 Inv-loop μ-loop
+part-at-requires-2 c κs = search needs
 
 is-last-requires : tie.Need-is-last-requires Inv-loop μ-loop
 is-last-requires c κs = search needs
 
-returns-4 : tie.Need-returns-4 Inv-loop μ-loop
-returns-4 c =
+returns-3 : tie.Need-returns-3 Inv-loop μ-loop
+returns-3 c =
     let a = c .before .before in
-    ap not (c .is-last .ensures) ∙ sym (end _ _ _ _ _ _ (a .before .loop .inv) (a .loop-test .left) (c .before .sector-at2 .ensures))
+    ap not (c .is-last .ensures) ∙ sym (end _ _ _ _ _ (a .before .loop .inv) (a .loop-test .left) (c .before .part-at2 .ensures))
 
 pub chain-broken-spec : {M : Type 1} → statement M
 chain-broken-spec =
@@ -112,19 +98,16 @@ chain-broken-spec =
     has-bit-requires
     returns
     count-of-requires
+    bit-place-requires
     loop-holds
-    slice-aggregate-mark
-    mark-requires
-    sector-at-requires
+    part-at-requires
     next-of-requires
     has-bit-requires-2
     returns-2
-    slice-aggregate-has-bit
-    has-bit-requires-3
-    returns-3
+    next-place-requires
     sub-left
     loop-less
     loop-again
-    sector-at-requires-2
+    part-at-requires-2
     is-last-requires
-    returns-4)
+    returns-3)

@@ -1,0 +1,26 @@
+-- `chains::next_place` meets its contract.
+use Prim.Native.Nat.{ℕ}
+use mathlib.Core.Path.{ap₂, _∙_}
+use Rattle.geometry.specs.Disk.{bitOf, placeOrEnd}
+use Rattle.chains.specs.Chain.{nextOf}
+use borrow.Author.Needs.{needs}
+use Rattle.chains.proofs.next_place.Statement.{statement}
+use Rattle.chains.proofs.next_place.Tie as tie
+
+num-at-requires : tie.Need-num-at-requires
+num-at-requires c κs = search needs
+
+num-at-requires-2 : tie.Need-num-at-requires-2
+num-at-requires-2 c κs = search needs
+
+data-place-requires : tie.Need-data-place-requires
+data-place-requires c κs = search needs
+
+returns : tie.Need-returns
+unfolding nextOf
+returns c =
+    c .data-place .ensures
+    ∙ ap₂ (λ (t s : ℕ). placeOrEnd (bitOf t s)) (c .before .before .num-at .ensures .0) (c .before .num-at2 .ensures .0)
+
+pub next-place-spec : {M : Type 1} → statement M
+next-place-spec = tie.close (tie.spec num-at-requires num-at-requires-2 data-place-requires returns)
