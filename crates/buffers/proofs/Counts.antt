@@ -7,6 +7,7 @@ use native.Mathlib.Nat.{eq-or-lt-of-le, le-of-suc-le-suc, not-suc-le-zero, add-z
 use native.Mathlib.Numerals.{add-one}
 use native.Mathlib.Omega.{arith}
 use Rattle.buffers.specs.Bytes.{count, any}
+use Rattle.buffers.proofs.Lists.{below-or-not}
 
 pub count-more : (n : ℕ) (p : ℕ → Bool) → count (n + 1) p ≡ count n p + cond (p n) 1 0
 unfolding count
@@ -37,6 +38,16 @@ pub count-none : (n : ℕ) (p : ℕ → Bool) → ((k : ℕ) → k < n → p k �
 unfolding count
 count-none zero p h = refl
 count-none (suc n) p h = rw (h n (omega arith), count-none n p (λ k l. h k (omega arith)))
+
+pub none-count : (n : ℕ) (p : ℕ → Bool) → count n p ≡ 0 → (k : ℕ) → k < n → p k ≡ false
+unfolding count
+none-count zero p e k h = absurd (not-suc-le-zero h)
+none-count (suc n) p e k h =
+    ⊎-elim (λ l. none-count n p (omega arith) k l) (λ (l : n ≤ k). let z : k ≡ n = omega arith in ap p z ∙ by (p n) (omega arith)) (below-or-not k n)
+  where
+    by : (t : Bool) → _≡_ {A = ℕ} (cond t 1 0) 0 → t ≡ false
+    by true e = absurd (omega arith)
+    by false e = refl
 
 -- ---- any
 

@@ -239,3 +239,24 @@ put-append d a x y =
     (below-or-not i (length x)))
     (λ k h. put-before (put d a x) (a + length x) y k (omega arith) ∙ put-before d a x k h)
     (λ k h l. put-after (put d a x) (a + length x) y k (omega (arith, length-append x y)) ∙ put-after d a x k (omega (arith, length-append x y)))
+
+-- one element stored is put
+pub put-one : (d : List ℕ) (a v : ℕ) → set d a v ≡ put d a (v ∷ [])
+put-one d a v =
+    put-is d a (v ∷ []) (set d a v) (length-set d a v)
+    (λ i h k. let z : i ≡ 0 = omega arith in let y : a + 0 ≡ a = omega arith in rw (z, y) (getD-set-same d a v 0 (omega arith)))
+    (λ k h. getD-set-other d a k v 0 (omega arith)) (λ k h m. getD-set-other d a k v 0 (omega arith))
+
+-- what is put at the front, and one element after it
+pub put-next : (d x : List ℕ) (a v : ℕ) → length x ≡ a → (e : List ℕ) → e ≡ put d 0 x → set e a v ≡ put d 0 (x ++ (v ∷ []))
+put-next d x a v l e p =
+    let z : a ≡ 0 + length x = omega arith in
+    put-one e a v ∙ ap₂ (λ (y : List ℕ) (b : ℕ). put y b (v ∷ [])) p z ∙ put-append d 0 x (v ∷ [])
+
+-- as many elements put over others
+pub put-over : (d : List ℕ) (a : ℕ) (x y : List ℕ) → length x ≡ length y → put (put d a x) a y ≡ put d a y
+put-over d a x y l =
+    put-is d a y (put (put d a x) a y) (length-put (put d a x) a y ∙ length-put d a x)
+    (λ i h k. put-in (put d a x) a y i h (omega (arith, length-put d a x)))
+    (λ k h. put-before (put d a x) a y k h ∙ put-before d a x k h)
+    (λ k h m. put-after (put d a x) a y k h ∙ put-after d a x k (omega arith))

@@ -7,9 +7,8 @@ use mathlib.Core.Option.{Option, none, some}
 use native.Mathlib.Numerals.{add-one}
 use native.Mathlib.Omega.{arith}
 use borrow.Author.Tests.{lt-ltb, le-ltb}
-use lib.ListN.{length, getD, set}
+use lib.ListN.{length, getD}
 use Rattle.buffers.specs.Bytes.{put}
-use Rattle.buffers.proofs.Lists.{put-none, put-more}
 use Rattle.refusals.specs.Order.{Refusal, refuse, Reply, _else_, row}
 use Rattle.refusals.specs.Answers.{Outcome, done, refused}
 use Rattle.slots.specs.Slot.{protected}
@@ -27,11 +26,6 @@ use Rattle.steps.specs.Steps.{putAll, enact, numbers}
 use Rattle.plans.specs.Change.{Mark, Change, erase, rename, mark, marked, usable}
 use Rattle.plans.specs.Plan.{Plan, no, go, orNo, byName, nameTaken, isProtected, touch, planOf, plan, settle, checked, run, Changed, changed, changedBy, change}
 use Rattle.changes.specs.Settled.{settled, touching, unprotected, renaming, Holds}
-
--- ---- one store in front of a list
-
-pub put-front : (l : List ℕ) (v : ℕ) → 1 ≤ length l → set l 0 v ≡ put l 0 (v ∷ [])
-put-front l v h = ap (λ (k : List ℕ). set k 0 v) (put-none l 0 (v ∷ [])) ∙ put-more l 0 (v ∷ []) 0 (omega arith) (omega arith)
 
 -- ---- a change is settled by its plan, once the disk is accepted
 

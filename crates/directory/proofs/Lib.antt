@@ -1,5 +1,6 @@
 pub mod Places
 pub mod Live
+pub mod Keys
 pub mod Union
 pub mod Pass
 pub mod Search

@@ -1,19 +1,20 @@
 -- What the directory says of a slot: its bytes where it is live, and nothing of another; and the directory lies in front.
-use Prim.Native.Nat.{ℕ, _≤_, _<_}
+use Prim.Native.Nat.{ℕ, _+_, _-_, _≤_, _<_}
 use mathlib.Core.Path.{_≡_, refl, sym, ap, ap₂, _∙_, fun-ext}
-use mathlib.Core.Bool.{Bool, true, false, cond, _&&_}
+use mathlib.Core.Bool.{Bool, true, false, cond, _&&_, true≢false}
 use mathlib.Core.List.{List, []}
 use mathlib.Core.Logic.{⊎-elim}
-use mathlib.Core.Option.{none, some, Option·some-ne-none}
+use mathlib.Core.Option.{Option, none, some, Option·some-ne-none}
 use native.Mathlib.Omega.{arith}
 use borrow.Author.Tests.{ltb-true, lt-ltb, le-ltb}
 use lib.Dec.{ltb}
-use Rattle.buffers.specs.Bytes.{part}
+use Rattle.buffers.specs.Bytes.{part, count}
 use Rattle.buffers.proofs.Lists.{below-or-not, part-part}
+use Rattle.buffers.proofs.Counts.{count-more, count-le, count-add, none-count}
 use Rattle.slots.specs.Slot.{isLive, nameOf}
 use Rattle.slots.specs.Name.{sameName}
 use Rattle.directory.specs.Places.{slots, slotAt, slotBytes}
-use Rattle.directory.specs.Directory.{seen, directory, slotOr}
+use Rattle.directory.specs.Directory.{held, Directory, seen, directory, slotOr, liveAmong}
 use Rattle.directory.proofs.Places.{slot-front}
 
 -- ---- the bytes of a slot that is read
@@ -85,3 +86,40 @@ at-front d i = ⊎-elim (λ h. rw (lt-ltb i slots h, slot-in-front d i h)) (λ h
 
 pub directory-front : (d : List ℕ) → directory d ≡ directory (part 0 40960 d)
 directory-front d = fun-ext (at-front d)
+
+-- ---- how many slots are live
+
+module _ (v : Directory) (i : ℕ) where
+  pub among-dead : v i ≡ none → liveAmong v (i + 1) ≡ liveAmong v i
+  unfolding liveAmong
+  among-dead e = count-more i (λ i. held false (λ s. true) (v i)) ∙ rw e (omega arith)
+
+  pub among-live : (s : List ℕ) → v i ≡ some s → liveAmong v (i + 1) ≡ liveAmong v i + 1
+  unfolding liveAmong
+  among-live s e = count-more i (λ i. held false (λ s. true) (v i)) ∙ rw e
+
+pub among-few : (v : Directory) (i : ℕ) → liveAmong v i ≤ i
+unfolding liveAmong
+among-few v i = count-le i (λ i. held false (λ s. true) (v i))
+
+-- the same of a number that is it
+pub among-seen : (v : Directory) (i n : ℕ) → n ≡ liveAmong v i → n ≤ i
+among-seen v i n e = omega (arith, among-few v i)
+
+pub among-none : (v : Directory) → liveAmong v 0 ≡ 0
+unfolding liveAmong count
+among-none v = refl
+
+-- past all of them there is none
+pub among-rest : (v : Directory) (i n : ℕ) → i ≤ n → liveAmong v n ≤ liveAmong v i → (j : ℕ) → i ≤ j → j < n → v j ≡ none
+unfolding liveAmong
+among-rest v i n h e j k l =
+    let live : ℕ → Bool = λ i. held false (λ s. true) (v i) in
+    let m : i + (n - i) ≡ n = omega arith in
+    let z : count (n - i) (λ j. live (i + j)) ≡ 0 = omega (arith, ap (λ (x : ℕ). count x live) m, count-add i (n - i) live) in
+    let w : i + (j - i) ≡ j = omega arith in
+    by (v j) (sym (ap live w) ∙ none-count (n - i) (λ j. live (i + j)) z (j - i) (omega arith))
+  where
+    by : (o : Option (List ℕ)) → held false (λ s. true) o ≡ false → o ≡ none
+    by none q = refl
+    by (some s) q = absurd (true≢false q)

@@ -23,9 +23,9 @@ use Rattle.slots.specs.Slot.{kindOf, countOf, firstOf, nameOf, mapOf, facts, kn
 use Rattle.slots.specs.Name.{sameName}
 use Rattle.slots.specs.Rows.{own, ownReply, dataCount}
 use Rattle.directory.specs.Places.{slots}
-use Rattle.directory.specs.Directory.{held, Directory, directory}
+use Rattle.directory.specs.Directory.{held, Directory, directory, liveAmong}
 use Rattle.directory.specs.Survey.{earlier, cross, surveyAt, survey, union, counted, usedMap}
-use Rattle.directory.specs.Steps.{Apart, Reached, Surveyed}
+use Rattle.directory.specs.Steps.{Apart, Keyed, Reached, Surveyed}
 use Rattle.directory.specs.declared.Survey.{Survey}
 use Rattle.directory.specs.declared.UsedMap.{UsedMap}
 use Rattle.directory.proofs.Union.{union-dead, union-live, length-union, share-union, counted-bytes, counted-count}
@@ -175,8 +175,8 @@ pub used-dead : (v : Directory) (i : ℕ) (u : UsedMap) → u ≡ counted (union
 used-dead v i u e p = e ∙ ap counted (sym (union-dead v i p))
 
 module _ (d : List ℕ) (i : ℕ) (u : UsedMap) (used : u ≡ counted (union (directory d) i)) (s : List ℕ) (here : directory d i ≡ some s) where
-  pub reached : i < slots → Reached d i s (u .bytes)
-  reached h = record { slot = h; here = here; used = counted-bytes (union (directory d) i) u used }
+  pub reached : i < slots → {keys : List ℕ} → Keyed d i keys → Reached d i s (u .bytes) keys
+  reached h k = record { slot = h; here = here; used = counted-bytes (union (directory d) i) u used; keyed = k }
 
   -- past its rows: m is its map, k its count
   module _ {m : List ℕ} (em : m ≡ mapOf s) where
@@ -198,23 +198,24 @@ module _ (d : List ℕ) (i : ℕ) (u : UsedMap) (used : u ≡ counted (union (di
 
 -- what the pass gives: at a slot that is refused, and at the end
 module _ (d : List ℕ) (r : Survey) (i : ℕ) (left : survey 0 (directory d) ≡ sweepFrom (slots - i) i (surveyAt 0 (directory d))) where
-  pub pass-stops : (f : Refused) → i < slots → r .verdict ≡ Unsound f → replyOf (Unsound f) ≡ surveyAt 0 (directory d) i → r .used ≡ counted clear → Surveyed d r
-  pass-stops f h p e w =
+  pub pass-stops : (f : Refused) → i < slots → r .verdict ≡ Unsound f → replyOf (Unsound f) ≡ surveyAt 0 (directory d) i → r .used ≡ counted clear → r .files ≡ 0 → Surveyed d r
+  pass-stops f h p e w n =
       let z : survey 0 (directory d) ≡ some (refusalOf f) = left ∙ sweep-stop slots i (surveyAt 0 (directory d)) (refusalOf f) h (sym e) in
-      record { reply = rw (p, z); used = rw z w }
+      record { reply = rw (p, z); used = rw z w; files = rw z n }
 
-  pub pass-ends : slots ≤ i → i ≤ slots → r .verdict ≡ Sound → r .used ≡ counted (union (directory d) i) → Surveyed d r
+  pub pass-ends : slots ≤ i → i ≤ slots → r .verdict ≡ Sound → r .used ≡ counted (union (directory d) i) → r .files ≡ liveAmong (directory d) i → Surveyed d r
   unfolding usedMap
-  pass-ends h l p w =
+  pass-ends h l p w f =
       let n : i ≡ slots = omega arith in
       let z : survey 0 (directory d) ≡ none = left ∙ sweep-end (slots - i) i (surveyAt 0 (directory d)) (omega arith) in
-      record { reply = rw (p, z); used = rw z (w ∙ ap (λ (k : ℕ). counted (union (directory d) k)) n) }
+      record { reply = rw (p, z); used = rw z (w ∙ ap (λ (k : ℕ). counted (union (directory d) k)) n); files = rw z (f ∙ ap (liveAmong (directory d)) n) }
 
 -- what its caller learns by the verdict
-pub surveyed-sound : (d : List ℕ) (r : Survey) → Surveyed d r → r .verdict ≡ Sound → (survey 0 (directory d) ≡ none) × (r .used ≡ usedMap (directory d))
+pub surveyed-sound : (d : List ℕ) (r : Survey) → Surveyed d r → r .verdict ≡ Sound
+    → (survey 0 (directory d) ≡ none) × (r .used ≡ usedMap (directory d)) × (r .files ≡ liveAmong (directory d) slots)
 surveyed-sound d r h e =
     let z : survey 0 (directory d) ≡ none = sym (h .reply) ∙ ap replyOf e in
-    (z, h .used ∙ rw z)
+    (z, h .used ∙ rw z, h .files ∙ rw z)
 
 pub surveyed-unsound : (d : List ℕ) (r : Survey) (f : Refused) → Surveyed d r → r .verdict ≡ Unsound f → survey 0 (directory d) ≡ some (refusalOf f)
 surveyed-unsound d r f h e = sym (h .reply) ∙ ap replyOf e

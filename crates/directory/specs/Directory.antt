@@ -1,9 +1,10 @@
 -- The directory: the bytes of its live slots.
 use Prim.Native.Nat.{ℕ}
-use mathlib.Core.Bool.{Bool, cond, _&&_}
+use mathlib.Core.Bool.{Bool, true, false, cond, _&&_}
 use mathlib.Core.List.{List, []}
 use mathlib.Core.Option.{Option, none, some}
 use lib.Dec.{ltb}
+use Rattle.buffers.specs.Bytes.{count}
 use Rattle.slots.specs.Slot.{isLive}
 use Rattle.directory.specs.Places.{slots, slotBytes}
 
@@ -27,3 +28,7 @@ directory d i = cond (seen d i && isLive (slotBytes d i)) (some (slotBytes d i))
 -- the bytes of a slot that is read, and none of another
 unfoldable pub slotOr : List ℕ → ℕ → List ℕ
 slotOr d i = cond (seen d i) (slotBytes d i) []
+
+-- how many of the first k slots are live
+unfoldable pub liveAmong : Directory → ℕ → ℕ
+liveAmong v k = count k (λ i. held false (λ s. true) (v i))

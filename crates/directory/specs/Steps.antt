@@ -1,23 +1,31 @@
 -- What the pass knows at a live slot, what a map is joined under, and what the pass gives.
-use Prim.Native.Nat.{ℕ, _<_}
+use Prim.Native.Nat.{ℕ, _≤_, _<_}
 use mathlib.Core.Path.{_≡_}
 use mathlib.Core.Bool.{false}
 use mathlib.Core.List.{List}
 use mathlib.Core.Option.{some}
-use lib.ListN.{length}
+use lib.ListN.{length, getD}
 use Rattle.maps.specs.Bits.{bitsOf, share}
 use Rattle.refusals.specs.Answers.{replyOf}
+use Rattle.slots.specs.Slot.{nameOf}
+use Rattle.slots.specs.Name.{keyOf}
 use Rattle.directory.specs.Places.{slots}
 use Rattle.directory.specs.Directory.{directory}
-use Rattle.directory.specs.Survey.{survey, union, usedOr}
+use Rattle.directory.specs.Survey.{survey, union, usedOr, filesOr}
 use Rattle.directory.specs.declared.Survey.{Survey}
 use Rattle.directory.specs.declared.UsedMap.{UsedMap}
 
+-- the keys of the names of the live slots before slot i
+pub record Keyed (d : List ℕ) (i : ℕ) (keys : List ℕ) : Type 0 where
+  pub room : i ≤ length keys
+  pub key : (j : ℕ) (t : List ℕ) → j < i → directory d j ≡ some t → getD keys j 0 ≡ keyOf (nameOf t)
+
 -- slot i is live and its bytes are s; u is the used map of the slots before it
-pub record Reached (d : List ℕ) (i : ℕ) (s u : List ℕ) : Type 0 where
+pub record Reached (d : List ℕ) (i : ℕ) (s u keys : List ℕ) : Type 0 where
   pub slot : i < slots
   pub here : directory d i ≡ some s
   pub used : u ≡ union (directory d) i
+  pub keyed : Keyed d i keys
 
 -- the counts are the maps' own, and no bit is in both
 pub record Apart (u : UsedMap) (m : List ℕ) (own : ℕ) : Type 0 where
@@ -26,7 +34,8 @@ pub record Apart (u : UsedMap) (m : List ℕ) (own : ℕ) : Type 0 where
   pub own-count : own ≡ bitsOf m
   pub apart : share (u .bytes) m ≡ false
 
--- the reply to rows 2 to 9, and the used map of a directory that is not refused
+-- the reply to rows 2 to 9, and the used map and the number of files of a directory that is not refused
 pub record Surveyed (d : List ℕ) (r : Survey) : Type 0 where
   pub reply : replyOf (r .verdict) ≡ survey 0 (directory d)
   pub used : r .used ≡ usedOr (survey 0 (directory d)) (directory d)
+  pub files : r .files ≡ filesOr (survey 0 (directory d)) (directory d)

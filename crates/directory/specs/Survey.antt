@@ -10,7 +10,7 @@ use Rattle.slots.specs.Slot.{nameOf, mapOf, facts}
 use Rattle.slots.specs.Name.{sameName}
 use Rattle.slots.specs.Rows.{own, dataCount}
 use Rattle.directory.specs.Places.{slots}
-use Rattle.directory.specs.Directory.{held, Directory}
+use Rattle.directory.specs.Directory.{held, Directory, liveAmong}
 use Rattle.directory.specs.declared.UsedMap.{UsedMap}
 
 -- an earlier live slot to which a test applies
@@ -58,3 +58,8 @@ free n v = freeOf n (usedMap v)
 abbrev pub usedOr : Reply → Directory → UsedMap
 usedOr none v = usedMap v
 usedOr (some r) v = counted clear
+
+-- how many files such a directory has; 0 of another
+abbrev pub filesOr : Reply → Directory → ℕ
+filesOr none v = liveAmong v slots
+filesOr (some r) v = 0

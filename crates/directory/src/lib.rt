@@ -1,14 +1,15 @@
 // The directory: its slots, the pass over rows 2 to 9 with the used map, and a slot by its name. All of it goes by the
 // directory's bytes alone, and answers for a slice of any length.
 ghost use mathlib.Core.Path.{_≡_};
+ghost use mathlib.Core.Bool.{false};
 ghost use Rattle.maps.specs.Bits.{clear, join};
 ghost use Rattle.refusals.specs.Answers.{replyOf};
 ghost use Rattle.slots.specs.Slot.{nameOf};
 ghost use Rattle.slots.specs.Name.{sameName};
-ghost use Rattle.directory.specs.Directory.{directory, slotOr};
+ghost use Rattle.directory.specs.Directory.{held, directory, slotOr};
 ghost use Rattle.directory.specs.Survey.{earlier, surveyAt, counted, freeOf};
 ghost use Rattle.directory.specs.Find.{find, foundAt};
-ghost use Rattle.directory.specs.Steps.{Apart, Reached, Surveyed};
+ghost use Rattle.directory.specs.Steps.{Apart, Keyed, Reached, Surveyed};
 use refusals::Reason;
 use refusals::Refused;
 use refusals::Verdict;
@@ -19,10 +20,12 @@ pub struct UsedMap {
     pub count: usize,
 }
 
-// What the pass over rows 2 to 9 gives: its verdict, and the used map where that is sound (else a clear one).
+// What the pass over rows 2 to 9 gives: its verdict, and where that is sound the used map and how many slots are live
+// (else a clear map and 0).
 pub struct Survey {
     pub verdict: Verdict,
     pub used: UsedMap,
+    pub files: usize,
 }
 
 // A live slot, counted from 0, or none.
@@ -41,16 +44,30 @@ pub fn slot_at(dir: &[u8], i: usize) -> &[u8]
     buffers::part_at(dir, i / 20 * 10240 + i % 20 * 256, 256)
 }
 
-// Whether a live slot before slot `i` has that name.
-fn named_before(dir: &[u8], i: usize, name: &[u8]) -> bool
+// Whether slot `j` is live and has that name.
+fn is_named(dir: &[u8], j: usize, name: &[u8]) -> bool
+    ensures { λ r. ⌜ r ≡ held false (λ t. sameName (nameOf t) (now (name .entry))) (directory (now (dir .entry)) j) ⌝ }
+{
+    let t = slot_at(dir, j);
+    if slots::is_live(t) {
+        return slots::same_name(slots::name_of(t), name);
+    }
+    false
+}
+
+// Whether a live slot before slot `i` has that name; `keys` are the keys of their names. Only a name with the same key is
+// looked at.
+fn named_before(dir: &[u8], i: usize, name: &[u8], keys: &[u64]) -> bool
+    requires { ⌜ Keyed (now dir) i (now keys) ⌝ }
     ensures { λ r. ⌜ r ≡ earlier (directory (now (dir .entry))) i (λ t. sameName (nameOf t) (now (name .entry))) ⌝ }
 {
+    let key = slots::key_of(name);
     let mut j: usize = 0;
     while j < i {
-        let t = slot_at(dir, j);
+        let k = j;
         j += 1;
-        if slots::is_live(t) {
-            if slots::same_name(slots::name_of(t), name) {
+        if keys[k] == key {
+            if is_named(dir, k, name) {
                 return true;
             }
         }
@@ -58,9 +75,10 @@ fn named_before(dir: &[u8], i: usize, name: &[u8]) -> bool
     false
 }
 
-// Rows 2 to 9 at the live slot `i`, whose bytes are `s`; `used` is the used map of the slots before it.
-fn live_rows(dir: &[u8], i: usize, s: &[u8], used: &[u8]) -> Verdict
-    requires { ⌜ Reached (now dir) i (now s) (now used) ⌝ }
+// Rows 2 to 9 at the live slot `i`, whose bytes are `s`; `used` is the used map of the slots before it, and `keys` are the
+// keys of their names.
+fn live_rows(dir: &[u8], i: usize, s: &[u8], used: &[u8], keys: &[u64]) -> Verdict
+    requires { ⌜ Reached (now dir) i (now s) (now used) (now keys) ⌝ }
     ensures { λ r. ⌜ replyOf r ≡ surveyAt 0 (directory (now (dir .entry))) i ⌝ }
 {
     let slot = i + 1;
@@ -73,7 +91,7 @@ fn live_rows(dir: &[u8], i: usize, s: &[u8], used: &[u8]) -> Verdict
                     slot,
                 });
             }
-            if named_before(dir, i, slots::name_of(s)) {
+            if named_before(dir, i, slots::name_of(s), keys) {
                 return Verdict::Unsound(Refused {
                     reason: Reason::NameTwice,
                     slot,
@@ -105,26 +123,31 @@ fn joined(used: UsedMap, map: &[u8], own: usize) -> UsedMap
     UsedMap { bytes, count }
 }
 
-// Rows 2 to 9 at all slots, and the used map.
+// Rows 2 to 9 at all slots, the used map, and how many slots are live.
 pub fn survey_slots(dir: &[u8]) -> Survey
     ensures { λ r. ⌜ Surveyed (now (dir .entry)) r ⌝ }
 {
     let mut used = unused();
+    let mut keys = [0u64; 80];
+    let mut files: usize = 0;
     let mut i: usize = 0;
     while i < 80 {
         let s = slot_at(dir, i);
         let k = i;
         i += 1;
         if slots::is_live(s) {
-            match live_rows(dir, k, s, &used.bytes) {
+            match live_rows(dir, k, s, &used.bytes, &keys) {
                 Verdict::Unsound(f) => {
                     let none = unused();
                     return Survey {
                         verdict: Verdict::Unsound(f),
                         used: none,
+                        files: 0,
                     };
                 }
                 Verdict::Sound => {
+                    keys[k] = slots::key_of(slots::name_of(s));
+                    files += 1;
                     let next = joined(used, slots::map_of(s), slots::count_of(s));
                     used = next;
                 }
@@ -134,6 +157,7 @@ pub fn survey_slots(dir: &[u8]) -> Survey
     Survey {
         verdict: Verdict::Sound,
         used,
+        files,
     }
 }
 

@@ -13,7 +13,7 @@ use Rattle.refusals.specs.declared.Refused.{Refused}
 use Rattle.refusals.specs.declared.Verdict.the-variants.{Sound, Unsound}
 use Rattle.directory.specs.Places.{slots}
 use Rattle.directory.specs.Directory.{Directory, directory}
-use Rattle.directory.specs.Survey.{survey, usedOr}
+use Rattle.directory.specs.Survey.{survey, usedOr, filesOr}
 use Rattle.directory.specs.Steps.{Surveyed}
 use Rattle.directory.specs.declared.Survey.{Survey}
 use Rattle.disk.specs.Look.{look, slotsOf, extra}
@@ -38,6 +38,7 @@ module _ (d : List ℕ) where
   examined-length h x e = record {
     reply = ap (λ (x : Survey). replyOf (x .verdict)) e ∙ sym (length-first h);
     used = ap (λ (x : Survey). x .used) e ∙ ap (λ (q : Reply). usedOr q (directory d)) (sym (length-first h));
+    files = ap (λ (x : Survey). x .files) e ∙ ap (λ (q : Reply). filesOr q (directory d)) (sym (length-first h));
   }
 
   module _ (h : length d ≡ imageSize) (s : Survey) (w : Surveyed d s) where
@@ -50,6 +51,7 @@ module _ (d : List ℕ) where
     examined-survey r e = record {
       reply = w .reply ∙ sym (survey-refuses r e);
       used = w .used ∙ ap (λ (q : Reply). usedOr q (directory d)) (sym (survey-refuses r e));
+      files = w .files ∙ ap (λ (q : Reply). filesOr q (directory d)) (sym (survey-refuses r e));
     }
 
     module _ (e : s .verdict ≡ Sound) where
@@ -66,6 +68,7 @@ module _ (d : List ℕ) where
           record {
             reply = ap (λ (x : Survey). replyOf (x .verdict)) f ∙ sym c;
             used = ap (λ (x : Survey). x .used) f ∙ ap (λ (q : Reply). usedOr q (directory d)) (sym c);
+            files = ap (λ (x : Survey). x .files) f ∙ ap (λ (q : Reply). filesOr q (directory d)) (sym c);
           }
 
       pub examined-sound : none ≡ sweep slots (chainAt (look d)) → Examined d s
@@ -74,6 +77,7 @@ module _ (d : List ℕ) where
           record {
             reply = ap replyOf e ∙ sym c;
             used = w .used ∙ ap (λ (q : Reply). usedOr q (directory d)) (no-refusal ∙ sym c);
+            files = w .files ∙ ap (λ (q : Reply). filesOr q (directory d)) (no-refusal ∙ sym c);
           }
 
 -- an accepted image has its size

@@ -1,6 +1,7 @@
 -- Laws of the look: what it holds at a slot, and that two disks which agree have one look.
-use Prim.Native.Nat.{ℕ, suc, _+_}
+use Prim.Native.Nat.{ℕ, suc, _+_, _-_, _≤_}
 use native.Mathlib.Numerals.{add-one}
+use native.Mathlib.Omega.{arith}
 use mathlib.Core.Path.{_≡_, refl, sym, ap, _∙_, fun-ext}
 use mathlib.Core.Bool.{true}
 use mathlib.Core.List.{List}
@@ -11,7 +12,11 @@ use Rattle.slots.specs.Slot.{mapOf}
 use Rattle.chains.specs.File.{File, fileOf, sectorAt}
 use Rattle.chains.proofs.Laws.{file-agree}
 use Rattle.chains.specs.Chain.{laterReply}
-use Rattle.directory.specs.Directory.{held, Directory, directory}
+use Rattle.refusals.specs.Order.{sweepFrom}
+use Rattle.refusals.proofs.First.{none-sweepFrom}
+use Rattle.directory.specs.Places.{slots}
+use Rattle.directory.specs.Directory.{held, Directory, directory, liveAmong}
+use Rattle.directory.proofs.Live.{among-rest}
 use Rattle.disk.specs.Look.{look, slotsOf}
 use Rattle.disk.specs.Check.{chainAt}
 
@@ -58,3 +63,8 @@ look-agree d e l v h = λ q. record { long = l q; files = λ i. (by i (directory
     by : (i : ℕ) (o : Option (List ℕ)) → directory d i ≡ o → held none (λ s. some (fileOf d s)) o ≡ held none (λ s. some (fileOf e s)) o
     by i none q = refl
     by i (some s) q = ap {B = Option File} some (file-agree d e s (h i s q))
+
+-- past the last live slot no row holds
+pub chain-rest : (d : List ℕ) (i : ℕ) → i ≤ slots → (files seen : ℕ) → files ≡ liveAmong (directory d) slots → seen ≡ liveAmong (directory d) i → files ≤ seen
+    → sweepFrom (slots - i) i (chainAt (look d)) ≡ none
+chain-rest d i h files seen p q e = none-sweepFrom (slots - i) i (chainAt (look d)) (λ j l k. chain-none d j (among-rest (directory d) i slots h (omega arith) j l (omega arith)))

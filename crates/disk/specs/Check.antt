@@ -14,7 +14,7 @@ use Rattle.chains.specs.Chain.{laterReply}
 use Rattle.maps.specs.Bits.{clear}
 use Rattle.directory.specs.Places.{slots}
 use Rattle.directory.specs.Directory.{held, directory}
-use Rattle.directory.specs.Survey.{survey, counted, usedOr}
+use Rattle.directory.specs.Survey.{survey, counted, usedOr, filesOr}
 use Rattle.directory.specs.declared.Survey.{Survey}
 use Rattle.disk.specs.Look.{Look, look, slotsOf, extra}
 
@@ -29,11 +29,12 @@ checkLook l = row 1 0 (not (eqb (l .long) imageSize)) else survey (extra l) (slo
 unfoldable pub checkDisk : List ℕ → Reply
 checkDisk d = checkLook (look d)
 
--- the check's reply, and the used map of a disk that is not refused (a clear one of another)
+-- the check's reply, and the used map and the number of files of a disk that is not refused (a clear map and 0 of another)
 pub record Examined (d : List ℕ) (r : Survey) : Type 0 where
   pub reply : replyOf (r .verdict) ≡ checkDisk d
   pub used : r .used ≡ usedOr (checkDisk d) (directory d)
+  pub files : r .files ≡ filesOr (checkDisk d) (directory d)
 
 -- what is handed back of a refused disk
 unfoldable pub refusedWith : Reason → ℕ → Survey
-refusedWith n s = record { verdict = Unsound (record { reason = n; slot = s }); used = counted clear }
+refusedWith n s = record { verdict = Unsound (record { reason = n; slot = s }); used = counted clear; files = 0 }

@@ -3,6 +3,7 @@ ghost use mathlib.Core.Path.{_≡_};
 ghost use Rattle.refusals.specs.Order.{sweep};
 ghost use Rattle.refusals.specs.Answers.{replyOf};
 ghost use Rattle.directory.specs.Places.{slots};
+ghost use Rattle.directory.specs.Directory.{directory, liveAmong};
 ghost use Rattle.disk.specs.Look.{look};
 ghost use Rattle.disk.specs.Check.{chainAt, checkDisk, Examined, refusedWith};
 use directory::Survey;
@@ -11,15 +12,21 @@ use refusals::Reason;
 use refusals::Refused;
 use refusals::Verdict;
 
-// Rows 10 and 11 at all slots.
-fn all_chains(image: &[u8]) -> Verdict
+// Rows 10 and 11 at all slots, of which `files` are live: past the last of them there is none to look at.
+fn all_chains(image: &[u8], files: usize) -> Verdict
+    requires { ⌜ files ≡ liveAmong (directory (now image)) slots ⌝ }
     ensures { λ r. ⌜ replyOf r ≡ sweep slots (chainAt (look (now (image .entry)))) ⌝ }
 {
+    let mut seen: usize = 0;
     let mut i: usize = 0;
     while i < 80 {
+        if files <= seen {
+            return Verdict::Sound;
+        }
         let s = directory::slot_at(image, i);
         i += 1;
         if slots::is_live(s) {
+            seen += 1;
             match chains::later_rows(image, s, i) {
                 Verdict::Unsound(r) => {
                     return Verdict::Unsound(r);
@@ -39,10 +46,14 @@ fn refused(reason: Reason, slot: usize) -> Survey
         bytes: [0; 195],
         count: 0,
     };
-    Survey { verdict, used }
+    Survey {
+        verdict,
+        used,
+        files: 0,
+    }
 }
 
-// The check with the used map of an accepted disk; a clear map where the disk is refused.
+// The check with the used map and the number of files of an accepted disk; a clear map and 0 where the disk is refused.
 pub fn examine(image: &[u8]) -> Survey
     ensures { λ r. ⌜ Examined (now (image .entry)) r ⌝ }
 {
@@ -53,7 +64,7 @@ pub fn examine(image: &[u8]) -> Survey
     let verdict = found.verdict;
     match verdict {
         Verdict::Unsound(_) => found,
-        Verdict::Sound => match all_chains(image) {
+        Verdict::Sound => match all_chains(image, found.files) {
             Verdict::Unsound(r) => {
                 let reason = r.reason;
                 refused(reason, r.slot)

@@ -11,12 +11,11 @@ use lib.Dec.{ltb}
 use lib.ListN.{length, length-append}
 use Rattle.buffers.specs.Bytes.{put, count}
 use Rattle.buffers.proofs.Lists.{length-put, put-none, put-append, part-long}
-use Rattle.buffers.proofs.Counts.{count-more, count-le}
 use Rattle.directory.specs.Places.{slots, slotAt}
-use Rattle.directory.specs.Directory.{held, Directory, directory}
-use Rattle.directory.proofs.Live.{directory-some}
+use Rattle.directory.specs.Directory.{held, Directory, directory, liveAmong}
+use Rattle.directory.proofs.Live.{directory-some, among-rest}
 use Rattle.directory.proofs.Places.{slot-front}
-use Rattle.directory.specs.Survey.{free, freeOf, usedMap, usedOr}
+use Rattle.directory.specs.Survey.{free, freeOf, usedMap, usedOr, filesOr}
 use Rattle.directory.specs.declared.UsedMap.{UsedMap}
 use Rattle.directory.specs.declared.Survey.{Survey}
 use Rattle.refusals.specs.Order.{Refusal, refuse, Reply, _else_, row}
@@ -27,8 +26,9 @@ use Rattle.disk.specs.Look.{extra}
 use Rattle.disk.specs.Check.{checkDisk, Examined}
 use Rattle.disk.proofs.Look.{look-slots}
 use Rattle.disk.proofs.Examined.{accepted-size}
-use Rattle.files.specs.Calls.{entry, entries, liveAmong, listLook, listing}
+use Rattle.files.specs.Calls.{entry, entries, listLook, listing}
 use Rattle.files.specs.Steps.{Accepted}
+use native.Mathlib.Nat.{add-zero, add-suc}
 
 module _ (v : Directory) (i : ℕ) where
   pub entries-dead : v i ≡ none → entries v (i + 1) ≡ entries v i
@@ -39,25 +39,15 @@ module _ (v : Directory) (i : ℕ) where
   unfolding entries
   entries-live s e = rw (add-one i, e)
 
-  pub among-dead : v i ≡ none → liveAmong v (i + 1) ≡ liveAmong v i
-  unfolding liveAmong
-  among-dead e = count-more i (λ i. held false (λ s. true) (v i)) ∙ rw e (omega arith)
-
-  pub among-live : (s : List ℕ) → v i ≡ some s → liveAmong v (i + 1) ≡ liveAmong v i + 1
-  unfolding liveAmong
-  among-live s e = count-more i (λ i. held false (λ s. true) (v i)) ∙ rw e
-
-pub among-few : (v : Directory) (i : ℕ) → liveAmong v i ≤ i
-unfolding liveAmong
-among-few v i = count-le i (λ i. held false (λ s. true) (v i))
-
-pub among-none : (v : Directory) → liveAmong v 0 ≡ 0
-unfolding liveAmong count
-among-none v = refl
-
 pub entries-none : (v : Directory) → entries v 0 ≡ []
 unfolding entries
 entries-none v = refl
+
+-- past the last live slot there is no entry
+entries-rest : (v : Directory) (i m : ℕ) → ((j : ℕ) → i ≤ j → j < i + m → v j ≡ none) → entries v (i + m) ≡ entries v i
+unfolding entries
+entries-rest v i zero h = rw add-zero
+entries-rest v i (suc m) h = rw (add-suc i m, h (i + m) (omega arith) (omega arith), append-nil) (entries-rest v i m (λ j l k. h j l (omega arith)))
 
 -- a slot of a whole directory is 256 bytes
 slot-long : (d : List ℕ) (i : ℕ) (s : List ℕ) → directory d i ≡ some s → 40960 ≤ length d → length s ≡ 256
@@ -111,6 +101,13 @@ module _ (d buf : List ℕ) where
     pub listed-long : length now ≡ length buf
     listed-long = ap length (w .bytes) ∙ length-put buf 0 (entries (directory d) i)
 
+    pub listed-end : i ≤ slots → 40960 ≤ length d → (end : ℕ) → end ≡ 258 * liveAmong (directory d) slots → end ≤ at → now ≡ put buf 0 (entries (directory d) slots)
+    listed-end h l end e k =
+        let f : liveAmong (directory d) slots ≤ liveAmong (directory d) i = omega (arith, w .place, entries-long d l i h) in
+        let z : i + (slots - i) ≡ slots = omega arith in
+        w .bytes
+        ∙ ap (put buf 0) (sym (ap (entries (directory d)) (sym z) ∙ entries-rest (directory d) i (slots - i) (λ j x y. among-rest (directory d) i slots h f j x (omega arith))))
+
     pub listed-all : i ≡ slots → now ≡ put buf 0 (entries (directory d) slots)
     listed-all e = w .bytes ∙ ap (λ (k : ℕ). put buf 0 (entries (directory d) k)) e
 
@@ -150,6 +147,11 @@ module _ (d buf : List ℕ) (u : UsedMap) (w : Accepted d u) where
 -- what a refused check says of the listing, and an accepted one
 pub listing-unsound : (d buf : List ℕ) (s : Survey) (r : Refused) → Examined d s → s .verdict ≡ Unsound r → out (refused (refusalOf r)) buf ≡ listing d buf
 listing-unsound d buf s r w e = listing-refused d buf (refusalOf r) (sym (w .reply) ∙ ap replyOf e)
+
+pub sound-files : (d : List ℕ) (s : Survey) → Examined d s → s .verdict ≡ Sound → s .files ≡ liveAmong (directory d) slots
+sound-files d s w e =
+    let a : checkDisk d ≡ none = sym (w .reply) ∙ ap replyOf e in
+    w .files ∙ ap (λ (q : Reply). filesOr q (directory d)) a
 
 pub sound-accepted : (d : List ℕ) (s : Survey) → Examined d s → s .verdict ≡ Sound → Accepted d (s .used)
 sound-accepted d s w e =

@@ -1,11 +1,10 @@
 -- Listing, reading and start addresses, as functions of the look. The words of document 01 stand above what they define.
 use Prim.Native.Nat.{ℕ, zero, suc, _+_, _-_, _*_, _/_, _%_}
-use mathlib.Core.Bool.{true, false, not, _&&_}
+use mathlib.Core.Bool.{not, _&&_}
 use mathlib.Core.List.{List, [], _∷_, _++_}
 use mathlib.Core.Option.{Option, none, some}
 use lib.Dec.{leb, ltb}
 use lib.ListN.{length}
-use Rattle.buffers.specs.Bytes.{count}
 use Rattle.refusals.specs.Order.{Refusal, refuse, Reply, _else_, row}
 use Rattle.refusals.specs.Answers.{Outcome, done, unless, Out, filled, refusalOf}
 use Rattle.slots.specs.Slot.{kindOf, carried, facts, lengthOf, pageOf, offsetOf}
@@ -13,7 +12,7 @@ use Rattle.slots.specs.Name.{askable}
 use Rattle.chains.specs.File.{File}
 use Rattle.chains.specs.Chain.{body}
 use Rattle.directory.specs.Places.{slots}
-use Rattle.directory.specs.Directory.{held, Directory}
+use Rattle.directory.specs.Directory.{held, Directory, liveAmong}
 use Rattle.directory.specs.Survey.{free}
 use Rattle.directory.specs.Find.{find}
 use Rattle.disk.specs.Look.{Look, look, slotsOf, extra}
@@ -31,10 +30,6 @@ entry number s = number % 256 ∷ number / 256 ∷ s
 unfoldable pub entries : Directory → ℕ → List ℕ
 entries v zero = []
 entries v (suc k) = entries v k ++ held [] (entry (suc k)) (v k)
-
--- how many slots among the first k are live
-unfoldable pub liveAmong : Directory → ℕ → ℕ
-liveAmong v k = count k (λ i. held false (λ s. true) (v i))
 
 unfoldable pub listLook : Look → List ℕ → Out
 listLook l buf =

@@ -10,9 +10,9 @@ ghost use Rattle.slots.specs.Slot.{kindOf, carried};
 ghost use Rattle.chains.specs.File.{fileOf};
 ghost use Rattle.chains.specs.Chain.{body};
 ghost use Rattle.directory.specs.Places.{slots};
-ghost use Rattle.directory.specs.Directory.{directory};
+ghost use Rattle.directory.specs.Directory.{directory, liveAmong};
 ghost use Rattle.disk.specs.Look.{look};
-ghost use Rattle.files.specs.Calls.{entry, entries, liveAmong, listing, barred, lookup, soughtOf, startAt, starting, readAt, reading};
+ghost use Rattle.files.specs.Calls.{entry, entries, listing, barred, lookup, soughtOf, startAt, starting, readAt, reading};
 ghost use Rattle.files.specs.Steps.{Accepted, Readable};
 use directory::Found;
 use directory::UsedMap;
@@ -20,22 +20,6 @@ use refusals::Answer;
 use refusals::Reason;
 use refusals::Refused;
 use refusals::Verdict;
-
-// How many slots are live.
-fn live_count(dir: &[u8]) -> usize
-    ensures { λ r. ⌜ (r ≡ liveAmong (directory (now (dir .entry))) slots) × (r ≤ 80) ⌝ }
-{
-    let mut n: usize = 0;
-    let mut i: usize = 0;
-    while i < 80 {
-        let s = directory::slot_at(dir, i);
-        i += 1;
-        if slots::is_live(s) {
-            n += 1;
-        }
-    }
-    n
-}
 
 // Puts a slot's number, low byte first, and its bytes at a place of a buffer.
 fn put_entry(buf: &mut [u8], at: usize, number: usize, s: &[u8])
@@ -47,14 +31,17 @@ fn put_entry(buf: &mut [u8], at: usize, number: usize, s: &[u8])
     buffers::copy_into(buf, at + 2, s);
 }
 
-// Puts an entry for each live slot to the front of a buffer.
-fn list_into(dir: &[u8], buf: &mut [u8])
-    requires { ⌜ 40960 ≤ length (now dir) ⌝ }
+// Puts an entry for each live slot to the front of a buffer, as far as `end`: past it there is no live slot to look for.
+fn list_into(dir: &[u8], end: usize, buf: &mut [u8])
+    requires { ⌜ (40960 ≤ length (now dir)) × (end ≡ 258 * liveAmong (directory (now dir)) slots) ⌝ }
     ensures { λ _. ⌜ now (buf .exit) ≡ put (now (buf .entry)) 0 (entries (directory (now (dir .entry))) slots) ⌝ }
 {
     let mut at: usize = 0;
     let mut i: usize = 0;
     while i < 80 {
+        if end <= at {
+            return;
+        }
         let s = directory::slot_at(dir, i);
         i += 1;
         if slots::is_live(s) {
@@ -70,16 +57,16 @@ fn no(reason: Reason, slot: usize) -> Answer
     Answer::No(Refused { reason, slot })
 }
 
-// Lists the live slots of an accepted disk whose used map is `used`.
-fn list_accepted(image: &[u8], used: UsedMap, buf: &mut [u8]) -> Answer
-    requires { ⌜ Accepted (now image) used ⌝ }
+// Lists the files of an accepted disk, as many as `files`, whose used map is `used`.
+fn list_accepted(image: &[u8], used: UsedMap, files: usize, buf: &mut [u8]) -> Answer
+    requires { ⌜ Accepted (now image) used × (files ≡ liveAmong (directory (now image)) slots) ⌝ }
     ensures { λ r. ⌜ out (outcomeOf r) (now (buf .exit)) ≡ listing (now (image .entry)) (now (buf .entry)) ⌝ }
 {
-    let files = live_count(image);
-    if buf.len() < 258 * files {
+    let end = 258 * files;
+    if buf.len() < end {
         return no(Reason::BufferTooShort, 0);
     }
-    list_into(image, buf);
+    list_into(image, end, buf);
     Answer::Done(files, directory::free_of(used))
 }
 
@@ -93,7 +80,7 @@ pub fn list(image: &[u8], buf: &mut [u8]) -> Answer
         Verdict::Unsound(r) => Answer::No(r),
         Verdict::Sound => {
             let used = found.used;
-            list_accepted(image, used, buf)
+            list_accepted(image, used, found.files, buf)
         }
     }
 }

@@ -7,7 +7,7 @@ use mathlib.Core.Logic.{⊎-elim}
 use native.Mathlib.Decide.{ℕ-discrete}
 use native.Mathlib.Nat.{add-zero, zero-add, zero-mul, zero-div, div-one, div-eq-of-lt, div-div-eq-div-mul, mul-div-mul-right, mod-eq-of-lt, pow-suc, add-suc}
 use native.Mathlib.Omega.{arith}
-use borrow.Author.Tests.{eq-eqb, ne-eqb, eqb-false}
+use borrow.Author.Tests.{eq-eqb, ne-eqb, eqb-false, le-leb, lt-leb}
 use lib.Bits.{bitOr, bitAnd, or-shr, or-mod, and-shr, and-mod, or-zero-r}
 use lib.Count.{ones, ones-step}
 use lib.Dec.{eqb, lit<, eqb·suc-zero, eqb·zero-suc, eqb·suc-suc}
@@ -17,7 +17,7 @@ use lib.Seq.{getD-set-same, getD-set-other, getD-take}
 use Rattle.buffers.specs.Bytes.{count, any}
 use Rattle.buffers.proofs.Lists.{below-or-not, past-end, length-tab, getD-tab, tab-of}
 use Rattle.buffers.proofs.Counts.{count-cong, count-le, count-add, count-none, any-cong, any-none, none-any}
-use Rattle.maps.specs.Bits.{has, bitsOf, share, clear, join, marked, word}
+use Rattle.maps.specs.Bits.{has, bitsOf, share, clear, join, marked, word, wordOr}
 
 -- ---- a byte
 
@@ -375,3 +375,13 @@ has-marked m b c h = go (ℕ-discrete c b) (ℕ-discrete (c / 8) (b / 8))
     go (no e) (yes f) =
         marked-same m b c h f ∙ rw (ne-eqb c b e, ne-eqb (c % 8) (b % 8) (λ g. e (omega arith))) (or-false (has m c))
     go (no e) (no f) = marked-other m b c f ∙ rw (ne-eqb c b e)
+
+-- ---- eight bytes at a place
+
+pub word-there : (m : List ℕ) (i : ℕ) → i + 8 ≤ length m → wordOr m i ≡ word 8 m i 0
+unfolding wordOr
+word-there m i h = rw (le-leb (i + 8) (length m) h)
+
+pub word-not : (m : List ℕ) (i : ℕ) → length m < i + 8 → wordOr m i ≡ 0
+unfolding wordOr
+word-not m i h = rw (lt-leb (i + 8) (length m) h)

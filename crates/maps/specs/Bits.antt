@@ -1,9 +1,9 @@
 -- A map: 195 bytes, a bit for each data sector of the disk.
 use Prim.Native.Nat.{ℕ, zero, suc, _+_, _*_, _/_, _%_, _^_}
 use mathlib.Core.List.{List}
-use mathlib.Core.Bool.{Bool, _&&_}
+use mathlib.Core.Bool.{Bool, cond, _&&_}
 use lib.Bits.{bitOr}
-use lib.Dec.{eqb}
+use lib.Dec.{eqb, leb}
 use lib.ListN.{length, getD, set, replicate}
 use Rattle.buffers.specs.Bytes.{tab, count, any}
 
@@ -35,3 +35,7 @@ marked m b = set m (b / 8) (bitOr (getD m (b / 8) 0) (2 ^ (b % 8)))
 unfoldable pub word : ℕ → List ℕ → ℕ → ℕ → ℕ
 word zero m i j = 0
 word (suc k) m i j = getD m (i + j) 0 + 256 * word k m i (suc j)
+
+-- the eight bytes from place i on; 0 where they are not all there
+unfoldable pub wordOr : List ℕ → ℕ → ℕ
+wordOr m i = cond (leb (i + 8) (length m)) (word 8 m i 0) 0

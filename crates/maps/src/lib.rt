@@ -6,7 +6,7 @@ ghost use lib.Bits.{bitOr, bitAnd};
 ghost use lib.Count.{ones};
 ghost use lib.ListN.{length};
 ghost use Rattle.buffers.specs.Bytes.{count, any};
-ghost use Rattle.maps.specs.Bits.{has, bitsOf, share, join, marked, word};
+ghost use Rattle.maps.specs.Bits.{has, bitsOf, share, join, marked, word, wordOr};
 
 // On bytes: or, and, the number of set bits. The compiler inlines them.
 fn or8(x: u8, y: u8) -> u8
@@ -63,6 +63,20 @@ fn eight_at(m: &[u8], i: usize) -> u64
         + 1099511627776 * wide(m[i + 5])
         + 281474976710656 * wide(m[i + 6])
         + 72057594037927936 * wide(m[i + 7])
+}
+
+// The same of any place; 0 where the eight bytes are not all there.
+pub fn word_at(m: &[u8], i: usize) -> u64
+    ensures { λ r. ⌜ r ≡ wordOr (now (m .entry)) i ⌝ }
+{
+    let len = m.len();
+    if len < 8 {
+        return 0;
+    }
+    if len - 8 < i {
+        return 0;
+    }
+    eight_at(m, i)
 }
 
 // The set bits of the first `8 * n` bytes, eight at a time.

@@ -16,13 +16,13 @@ use Rattle.slots.specs.Slot.{kindOf, carried, facts, lengthOf, pageOf, offsetOf
 use Rattle.slots.specs.Name.{askable}
 use Rattle.chains.specs.File.{File}
 use Rattle.directory.specs.Places.{slots}
-use Rattle.directory.specs.Directory.{held, Directory}
+use Rattle.directory.specs.Directory.{held, Directory, liveAmong}
 use Rattle.directory.specs.Find.{find}
 use Rattle.disk.specs.Look.{Look, look, slotsOf}
 use Rattle.disk.specs.Check.{checkDisk}
 use Rattle.disk.proofs.Look.{look-slots}
 use Rattle.disk.proofs.Examined.{accepted-size}
-use Rattle.files.specs.Calls.{noFile, fileAt, fileNamed, entries, liveAmong, notCarried, outOfRange, listLook, readReply, readLook, startReply, startLook, listing, reading, starting}
+use Rattle.files.specs.Calls.{noFile, fileAt, fileNamed, entries, notCarried, outOfRange, listLook, readReply, readLook, startReply, startLook, listing, reading, starting}
 use Rattle.files.proofs.Listed.{entries-long}
 use Rattle.plans.specs.Refused.{SlotRow, FirstOf, someNamed, slotNamed, startOutside, row12, row15, row20}
 use Rattle.plans.specs.Asked.{foundRow13, foundRow14, listRows, readRows, startRows, RefusesBy, by-check, by-row}

@@ -16,12 +16,11 @@ use Rattle.maps.specs.Bits.{has, bitsOf}
 use Rattle.slots.specs.Slot.{mapOf}
 use Rattle.chains.specs.File.{File}
 use Rattle.directory.specs.Places.{slots, dataBit}
-use Rattle.directory.specs.Directory.{held}
+use Rattle.directory.specs.Directory.{held, liveAmong}
 use Rattle.directory.specs.Survey.{union, free}
 use Rattle.directory.proofs.Union.{has-union}
 use Rattle.disk.specs.Look.{Look, look, slotsOf, extra}
 use Rattle.disk.specs.Check.{checkDisk}
-use Rattle.files.specs.Calls.{liveAmong}
 use Rattle.steps.specs.Sectors.{listed}
 use Rattle.plans.specs.Change.{Wish, save}
 use Rattle.plans.specs.Saving.{sectorsFor, freeBit, mapWith, newSlot}

@@ -10,8 +10,9 @@ use Rattle.slots.specs.Name.{askable}
 use Rattle.directory.specs.Places.{slots}
 use Rattle.disk.specs.Look.{Look, slotsOf}
 use Rattle.disk.specs.Check.{checkDisk}
-use Rattle.files.specs.Calls.{fileNamed, liveAmong}
+use Rattle.files.specs.Calls.{fileNamed}
 use Rattle.plans.specs.Refused.{SlotRow, rowAt, FirstOf, someNamed, slotNamed, startOutside, row12, row15, row20}
+use Rattle.directory.specs.Directory.{liveAmong}
 
 -- ---- rows at the slot found
 

@@ -86,10 +86,10 @@ module _ {A : Type 0} where
       let c = else-none (f i) (sweepFrom n (suc i) f) e in
       ⊎-elim (λ q. subst (λ (m : ℕ). f m ≡ none) q (c .0)) (λ q. sweepFrom-none n (suc i) f (c .1) j q (omega arith)) (eq-or-lt-of-le h)
 
-  none-sweepFrom : (n i : ℕ) (f : ℕ → Option A) → ((j : ℕ) → j < i + n → f j ≡ none) → sweepFrom n i f ≡ none
+  pub none-sweepFrom : (n i : ℕ) (f : ℕ → Option A) → ((j : ℕ) → i ≤ j → j < i + n → f j ≡ none) → sweepFrom n i f ≡ none
   unfolding sweepFrom
   none-sweepFrom zero i f h = refl
-  none-sweepFrom (suc n) i f h = rw (h i (omega arith)) (none-sweepFrom n (suc i) f (λ j k. h j (omega arith)))
+  none-sweepFrom (suc n) i f h = rw (h i (omega arith) (omega arith)) (none-sweepFrom n (suc i) f (λ j l k. h j (omega arith) (omega arith)))
 
   pub sweep-none : (n : ℕ) (f : ℕ → Option A) → sweep n f ≡ none → (j : ℕ) → j < n → f j ≡ none
   unfolding sweep
@@ -97,7 +97,7 @@ module _ {A : Type 0} where
 
   pub none-sweep : (n : ℕ) (f : ℕ → Option A) → ((j : ℕ) → j < n → f j ≡ none) → sweep n f ≡ none
   unfolding sweep
-  none-sweep n f h = none-sweepFrom n 0 f (λ j k. h j (omega arith))
+  none-sweep n f h = none-sweepFrom n 0 f (λ j l k. h j (omega arith))
 
   -- two that agree below n
   sweepFrom-cong : (n i : ℕ) (f g : ℕ → Option A) → ((j : ℕ) → j < i + n → f j ≡ g j) → sweepFrom n i f ≡ sweepFrom n i g

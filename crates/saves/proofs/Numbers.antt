@@ -1,31 +1,16 @@
 -- Map bits turned into sector numbers, and the list of a save's sectors.
 use Prim.Native.Nat.{ℕ, _+_, _*_, _/_, _≤_, _<_}
-use mathlib.Core.Path.{_≡_, sym, ap, ap₂, _∙_}
+use mathlib.Core.Path.{_≡_, sym, ap, _∙_}
 use mathlib.Core.List.{List, [], _∷_, _++_, map, map-append}
 use native.Mathlib.Numerals.{add-one}
 use native.Mathlib.Omega.{arith}
 use lib.ListN.{length, getD, take, set, length-map}
 use lib.Seq.{length-take-le, take-suc, getD-take}
 use Rattle.buffers.specs.Bytes.{put}
-use Rattle.buffers.proofs.Lists.{length-put, put-none, put-is, put-in, put-before, put-after, put-append}
+use Rattle.buffers.proofs.Lists.{length-put, put-none, put-after, put-next}
 use Rattle.geometry.specs.Disk.{bitNumber, placeOrEnd}
 use Rattle.geometry.proofs.Laws.{place-or-end, number-small}
 use Rattle.saves.specs.Write.{Bits}
-use Rattle.saves.proofs.Picked.{put-one}
-
--- what is put at the front, and one number after it
-pub put-next : (d x : List ℕ) (a v : ℕ) → length x ≡ a → (e : List ℕ) → e ≡ put d 0 x → set e a v ≡ put d 0 (x ++ (v ∷ []))
-put-next d x a v l e p =
-    let z : a ≡ 0 + length x = omega arith in
-    put-one e a v ∙ ap₂ (λ (y : List ℕ) (b : ℕ). put y b (v ∷ [])) p z ∙ put-append d 0 x (v ∷ [])
-
--- as many bytes put over others
-pub put-over : (d : List ℕ) (a : ℕ) (x y : List ℕ) → length x ≡ length y → put (put d a x) a y ≡ put d a y
-put-over d a x y l =
-    put-is d a y (put (put d a x) a y) (length-put (put d a x) a y ∙ length-put d a x)
-    (λ i h k. put-in (put d a x) a y i h (omega (arith, length-put d a x)))
-    (λ k h. put-before (put d a x) a y k h ∙ put-before d a x k h)
-    (λ k h m. put-after (put d a x) a y k h ∙ put-after d a x k (omega arith))
 
 -- the first j of a list's n map bits are turned
 pub record Numbered (l : List ℕ) (n : ℕ) (l′ : List ℕ) (j : ℕ) : Type 0 where

@@ -8,21 +8,14 @@ use native.Mathlib.Numerals.{add-one}
 use native.Mathlib.Omega.{arith}
 use borrow.Author.Tests.{eqb-true}
 use lib.Dec.{eqb}
-use lib.ListN.{length, getD, take, set, length-set, length-append}
-use lib.Seq.{take-nil, getD-set-same, getD-set-other}
+use lib.ListN.{length, getD, take, set, length-append}
+use lib.Seq.{take-nil}
 use Rattle.buffers.specs.Bytes.{put}
-use Rattle.buffers.proofs.Lists.{length-put, put-is, put-append, put-none}
+use Rattle.buffers.proofs.Lists.{put-one, length-put, put-append, put-none}
 use Rattle.maps.specs.Bits.{has}
 use Rattle.maps.proofs.Laws.{bit, has-byte}
 use Rattle.plans.specs.Saving.{passing}
 use Rattle.saves.specs.Write.{unset, lowest, full}
-
--- one number stored is put
-pub put-one : (l : List ℕ) (a v : ℕ) → set l a v ≡ put l a (v ∷ [])
-put-one l a v =
-    put-is l a (v ∷ []) (set l a v) (length-set l a v)
-    (λ i h k. let z : i ≡ 0 = omega arith in let y : a + 0 ≡ a = omega arith in rw (z, y) (getD-set-same l a v 0 (omega arith)))
-    (λ k h. getD-set-other l a k v 0 (omega arith)) (λ k h m. getD-set-other l a k v 0 (omega arith))
 
 -- ---- the numbers that pass, from b on
 

@@ -6,7 +6,7 @@ use native.Mathlib.Nat.{add-zero}
 use native.Mathlib.Omega.{arith}
 use lib.ListN.{length, take, set, length-map, length-append}
 use Rattle.buffers.specs.Bytes.{tab, part, put}
-use Rattle.buffers.proofs.Lists.{part-put}
+use Rattle.buffers.proofs.Lists.{put-next, put-over, part-put}
 use Rattle.geometry.specs.Disk.{bitNumber}
 use Rattle.directory.specs.Places.{slotAt, dirSector}
 use Rattle.disk.specs.Look.{Look}
@@ -19,7 +19,6 @@ use Rattle.plans.proofs.Saved.{data-numbers}
 use Rattle.saves.specs.declared.Start.{Start}
 use Rattle.saves.specs.Write.{wishFor, header, lowest, Writable}
 use Rattle.saves.proofs.Runs.{stream-is}
-use Rattle.saves.proofs.Numbers.{put-next, put-over}
 use Rattle.saves.proofs.Told.{Saved}
 
 -- ---- the image

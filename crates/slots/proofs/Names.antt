@@ -7,12 +7,14 @@ use mathlib.Core.Logic.{⊎-elim}
 use native.Mathlib.Numerals.{add-one}
 use native.Mathlib.Omega.{arith}
 use borrow.Author.Tests.{eq-eqb, ne-eqb, eqb-true}
+use lib.Bits.{bitXor}
 use lib.Dec.{eqb}
 use lib.ListN.{length, getD, drop, replicate, length-append, length-replicate, getD-replicate, drop-of-length-le, List·getD-append}
 use lib.Seq.{drop-cons, getD-append-add, ext-getD, take-all}
 use Rattle.buffers.specs.Bytes.{part, put}
 use Rattle.buffers.proofs.Lists.{length-put, length-part, part-at, put-in, put-after, below-or-not}
-use Rattle.slots.specs.Name.{sameName, padded}
+use Rattle.maps.specs.Bits.{wordOr}
+use Rattle.slots.specs.Name.{sameName, padded, keyOf}
 
 pub same-refl : (xs : List ℕ) → sameName xs xs ≡ true
 unfolding sameName
@@ -95,3 +97,17 @@ padded-put n =
 pub padded-whole : (n : List ℕ) → length n ≤ 10 → part 0 10 (padded n) ≡ padded n
 unfolding part
 padded-whole n h = take-all 10 (padded n) (omega (arith, length-padded n h))
+
+-- ---- keys
+
+pub key-is : (n : List ℕ) (a b : ℕ) → a ≡ wordOr n 0 → b ≡ wordOr n 2 → bitXor a b ≡ keyOf n
+unfolding keyOf
+key-is n a b p q = ap₂ bitXor p q
+
+-- other keys, other names
+pub keys-differ : (xs ys : List ℕ) → (keyOf xs ≡ keyOf ys → ⊥) → sameName xs ys ≡ false
+keys-differ xs ys h = by (sameName xs ys) refl
+  where
+    by : (t : Bool) → sameName xs ys ≡ t → t ≡ false
+    by true e = absurd (h (ap keyOf (same-is xs ys e)))
+    by false e = refl

@@ -7,7 +7,7 @@ ghost use mathlib.Core.Option.{some};
 ghost use Rattle.refusals.specs.Order.{refuse};
 ghost use Rattle.refusals.specs.Answers.{replyOf, numberOf};
 ghost use Rattle.slots.specs.Slot.{isLive, hidden, protected, kindOf, known, carried, nameOf, countOf, firstOf, mapOf, pageOf, offsetOf, pagesOf, remainderOf, facts, lengthOf};
-ghost use Rattle.slots.specs.Name.{sameName, askable, padded};
+ghost use Rattle.slots.specs.Name.{sameName, askable, padded, keyOf};
 ghost use Rattle.slots.specs.Rows.{ownReply};
 use refusals::Reason;
 use refusals::Refused;
@@ -132,6 +132,13 @@ pub fn same_name(a: &[u8], b: &[u8]) -> bool
         i += 1;
     }
     true
+}
+
+// A number that two equal names share, of the first eight bytes and the last; it tells most other names apart.
+pub fn key_of(name: &[u8]) -> u64
+    ensures { λ r. ⌜ r ≡ keyOf (now (name .entry)) ⌝ }
+{
+    maps::word_at(name, 0) ^ maps::word_at(name, 2)
 }
 
 // Whether a name can be asked for.

@@ -21,7 +21,7 @@ use Rattle.chains.specs.Chain.{body}
 use Rattle.drives.specs.Raw.{isImage, isDrive, rawRefusal}
 use Rattle.drives.proofs.Laws.{accepted}
 use Rattle.directory.specs.Places.{slots}
-use Rattle.directory.specs.Directory.{held, directory, slotOr}
+use Rattle.directory.specs.Directory.{held, directory, slotOr, liveAmong}
 use Rattle.directory.specs.Survey.{free, freeOf}
 use Rattle.directory.specs.Find.{find}
 use Rattle.disk.specs.Look.{Look, look, slotsOf, extra}
@@ -31,13 +31,14 @@ use Rattle.disk.proofs.Look.{look-some}
 use Rattle.disk.proofs.Order.{passAt, pass, check-passes}
 use Rattle.disk.proofs.Rows.{and-both, carried-is}
 use Rattle.disk.proofs.Sound.{sound}
-use Rattle.files.specs.Calls.{entries, liveAmong, listing, Sought, at, barred, soughtBy, lookup, address, startOf, startAt, starting, readAt, reading}
-use Rattle.files.proofs.Listed.{among-few, listing-is}
+use Rattle.files.specs.Calls.{entries, listing, Sought, at, barred, soughtBy, lookup, address, startOf, startAt, starting, readAt, reading}
+use Rattle.files.proofs.Listed.{listing-is}
 use Rattle.files.proofs.Named.{Named, lookup-named, named-slot}
 use Rattle.files.proofs.Reading.{read-barred, read-found}
 use Rattle.files.proofs.Starting.{start-barred, start-found}
 use Rattle.varnucht.specs.Packed.{packed, checking, sectorPlace, Within, Told}
 use Rattle.varnucht.proofs.Parts.{within-fits, told}
+use Rattle.directory.proofs.Live.{among-few}
 
 -- ---- replies
 

@@ -7,8 +7,7 @@ use native.Mathlib.Omega.{arith}
 use lib.ListN.{length, getD, take, set, length-append, length-set}
 use lib.Seq.{length-take-le, take-suc}
 use Rattle.buffers.specs.Bytes.{put}
-use Rattle.buffers.proofs.Lists.{length-put, put-none}
-use Rattle.saves.proofs.Numbers.{put-next}
+use Rattle.buffers.proofs.Lists.{length-put, put-none, put-next}
 use Rattle.refusals.specs.Answers.{done, outcomeOf}
 use Rattle.refusals.specs.declared.Refused.{Refused}
 use Rattle.refusals.specs.declared.Answer.{Answer}

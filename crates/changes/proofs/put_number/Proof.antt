@@ -1,5 +1,5 @@
 -- `changes::put_number` meets its contract.
-use Rattle.changes.proofs.Laws.{put-front}
+use Rattle.buffers.proofs.Lists.{put-one}
 use borrow.Author.Needs.{needs}
 use Rattle.changes.proofs.put_number.Statement.{statement}
 use Rattle.changes.proofs.put_number.Tie as tie
@@ -14,7 +14,7 @@ same-length : tie.Need-same-length
 same-length c = search needs
 
 returns : tie.Need-returns
-returns c = put-front _ _ (c .pre .0)
+returns c = put-one _ 0 _
 
 pub put-number-spec : {M : Type 1} → statement M
 put-number-spec = tie.close (tie.spec cast-list slice-write-list same-length returns)

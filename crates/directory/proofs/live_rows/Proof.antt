@@ -26,7 +26,7 @@ returns : tie.Need-returns
 returns c =
     let m = c .before .before in
     let o = m .before .before .before in
-    let p = o .before .before .before .before .pre in
+    let p = o .before .before .before .before .before .pre in
     slot-shared _ _ _ _ (p .here) (p .used) _ (o .own-rows .ensures) (m .before .enum-told .given .1) (m .map-of .ensures) (c .before .shares .ensures) (c .if1 .taken)
 
 name-of-requires : tie.Need-name-of-requires
@@ -40,14 +40,14 @@ returns-2 c =
     let n = c .before .before in
     let m = n .before .before .before in
     let o = m .before .before .before in
-    let p = o .before .before .before .before .pre in
+    let p = o .before .before .before .before .before .pre in
     slot-twice _ _ _ _ (p .here) (p .used) _ (o .own-rows .ensures) (m .before .enum-told .given .1) (m .map-of .ensures) (n .before .before .shares .ensures)
     (n .before .if1 .left) (n .name-of .ensures) (c .before .named-before .ensures) (c .if2 .taken)
 
 returns-3 : tie.Need-returns-3
 returns-3 c =
     let o = c .before .before .before in
-    let p = o .before .before .before .before .pre in
+    let p = o .before .before .before .before .before .pre in
     slot-own _ _ _ _ (p .here) (p .used) _ (o .own-rows .ensures) _ (c .before .f .given .1)
 
 returns-4 : tie.Need-returns-4
@@ -55,7 +55,7 @@ returns-4 c =
     let n = c .before .before in
     let m = n .before .before .before in
     let o = m .before .before .before in
-    let p = o .before .before .before .before .pre in
+    let p = o .before .before .before .before .before .pre in
     slot-clear _ _ _ _ (p .here) (p .used) _ (o .own-rows .ensures) (m .before .enum-told .given .1) (m .map-of .ensures) (n .before .before .shares .ensures)
     (n .before .if1 .left) (n .name-of .ensures) (c .before .named-before .ensures) (c .if2 .left)
 

@@ -11,29 +11,24 @@ use Rattle.directory.specs.Places.{slots}
 use Rattle.directory.specs.Directory.{directory}
 use Rattle.directory.specs.Survey.{surveyAt, survey, union, counted}
 use Rattle.directory.proofs.Live.{met-live, met-dead}
+use Rattle.directory.proofs.Keys.{Noted, noted-none, noted-few, noted-dead, noted-live}
 use Rattle.directory.proofs.Pass.{survey-dead, survey-start, used-start, used-dead, reached, apart, used-more, pass-stops, pass-ends}
 use borrow.Author.Needs.{needs}
 use Rattle.directory.proofs.survey_slots.Statement.{statement}
 use Rattle.directory.proofs.survey_slots.Tie as tie
 
 abbrev Inv-loop : tie.InvT-loop
-Inv-loop dir used₀ i₀ used i =
-    (i ≤ slots) × (used ≡ counted (union (directory dir) i)) × (survey 0 (directory dir) ≡ sweepFrom (slots - i) i (surveyAt 0 (directory dir)))
+Inv-loop dir used₀ keys₀ files₀ i₀ used keys files i =
+    (i ≤ slots) × (used ≡ counted (union (directory dir) i)) × (survey 0 (directory dir) ≡ sweepFrom (slots - i) i (surveyAt 0 (directory dir))) × Noted dir i keys files
 
 abbrev μ-loop : tie.MeasureT-loop
-μ-loop dir used₀ i₀ used i = slots - i
-
-live : (c : tie.Then1 Inv-loop μ-loop) → directory (now (c .before .before .before .before .before .before .before .args .dir)) (c .before .before .before .before .loop .i) ≡ some (now (c .before .before .slot-at .result))
-live c = met-live _ _ (c .before .before .slot-at .ensures) (c .before .is-live .ensures) (c .if1 .taken)
-
-sound : (c : tie.After-enum-told Inv-loop μ-loop) → surveyAt 0 (directory (now (c .before .before .before .before .before .before .before .before .before .before .before .before .before .args .dir))) (c .before .before .before .before .before .before .before .before .before .before .loop .i) ≡ none
-sound c = sym (ap replyOf (sym (c .enum-told .given .1)) ∙ c .before .before .live-rows .ensures)
+μ-loop dir used₀ keys₀ files₀ i₀ used keys files i = slots - i
 
 unused-requires : tie.Need-unused-requires Inv-loop μ-loop
 unused-requires c κs = search needs
 
 loop-holds : tie.Need-loop-holds Inv-loop μ-loop
-loop-holds c = (omega arith, used-start _ _ (c .unused .ensures), survey-start _ _)
+loop-holds c = (omega arith, used-start _ _ (c .unused .ensures), survey-start _ _, noted-none _ _ refl)
 
 slot-at-requires : tie.Need-slot-at-requires Inv-loop μ-loop
 slot-at-requires c κs = search needs
@@ -44,11 +39,14 @@ add-i c = search needs
 is-live-requires : tie.Need-is-live-requires Inv-loop μ-loop
 is-live-requires c κs = search needs
 
+slice-aggregate-live-rows : tie.Need-slice-aggregate-live-rows Inv-loop μ-loop
+slice-aggregate-live-rows c = search needs
+
 live-rows-requires : tie.Need-live-rows-requires Inv-loop μ-loop
 live-rows-requires c κs =
-    let y = c .before .before .before in
+    let y = c .before .before .before .before in
     let a = y .before .before .before .before .loop in
-    reached _ (a .i) _ (a .inv .1) _ (live y) (omega arith)
+    reached _ (a .i) _ (a .inv .1) _ (met-live _ _ (y .before .before .slot-at .ensures) (y .before .is-live .ensures) (y .if1 .taken)) (omega arith) (a .inv .3 .keyed)
 
 enum-known-f : tie.Need-enum-known-f Inv-loop μ-loop
 enum-known-f c = search needs
@@ -59,12 +57,28 @@ unused-requires-2 c κs = search needs
 returns : tie.Need-returns Inv-loop μ-loop
 returns c =
     let f = c .before .before in
-    let y = f .before .before .before .before .before .before in
-    let a = y .before .before .before .before .loop in
-    pass-stops _ _ (a .i) (a .inv .2) _ (omega arith) refl (ap replyOf (sym (f .f .given .1)) ∙ f .before .before .live-rows .ensures) (c .unused2 .ensures)
+    let a = f .before .before .before .before .before .before .before .before .before .before .before .loop in
+    pass-stops _ _ (a .i) (a .inv .2) _ (omega arith) refl (ap replyOf (sym (f .f .given .1)) ∙ f .before .before .live-rows .ensures) (c .unused2 .ensures) refl
 
 enum-told : tie.Need-enum-told Inv-loop μ-loop
 enum-told c = search needs
+
+name-of-requires : tie.Need-name-of-requires Inv-loop μ-loop
+name-of-requires c κs = search needs
+
+key-of-requires : tie.Need-key-of-requires Inv-loop μ-loop
+key-of-requires c κs = search needs
+
+mul-keys : tie.Need-mul-keys Inv-loop μ-loop
+mul-keys c = search needs
+
+array-write-keys : tie.Need-array-write-keys Inv-loop μ-loop
+array-write-keys c = search needs
+
+add-files : tie.Need-add-files Inv-loop μ-loop
+add-files c =
+    let a = c .before .before .before .before .before .before .before .before .before .before .before .before .before .loop in
+    omega (arith, noted-few _ _ _ _ (a .inv .3))
 
 map-of-requires : tie.Need-map-of-requires Inv-loop μ-loop
 map-of-requires c κs = search needs
@@ -74,22 +88,24 @@ count-of-requires c κs = search needs
 
 joined-requires : tie.Need-joined-requires Inv-loop μ-loop
 joined-requires c κs =
-    let t = c .before .before in
-    let y = t .before .before .before .before .before .before in
+    let t = c .before .before .before .before in
+    let y = t .before .before .before .before .before .before .before in
     let a = y .before .before .before .before .loop in
-    apart _ (a .i) _ (a .inv .1) _ (live y) (c .before .map-of .ensures) (c .count-of .ensures .0) (sound t)
+    apart _ (a .i) _ (a .inv .1) _ (met-live _ _ (y .before .before .slot-at .ensures) (y .before .is-live .ensures) (y .if1 .taken)) (c .before .map-of .ensures) (c .count-of .ensures .0) (sym (ap replyOf (sym (t .enum-told .given .1)) ∙ t .before .before .live-rows .ensures))
 
 loop-less : tie.Need-loop-less Inv-loop μ-loop
 loop-less c = search needs
 
 loop-again : tie.Need-loop-again Inv-loop μ-loop
 loop-again c =
-    let t = c .before .before .before in
-    let y = t .before .before .before .before .before .before in
-    let a = y .before .before .before .before .loop in (
+    let t = c .before .before .before .before .before in
+    let y = t .before .before .before .before .before .before .before in
+    let a = y .before .before .before .before .loop in
+    let e = met-live _ _ (y .before .before .slot-at .ensures) (y .before .is-live .ensures) (y .if1 .taken) in (
       omega arith,
-      used-more _ (a .i) _ (a .inv .1) _ (live y) (c .before .before .map-of .ensures) _ (c .joined .ensures),
-      a .inv .2 ∙ sweep-skip slots (a .i) _ (omega arith) (sound t),
+      used-more _ (a .i) _ (a .inv .1) _ e (c .before .before .map-of .ensures) _ (c .joined .ensures),
+      a .inv .2 ∙ sweep-skip slots (a .i) _ (omega arith) (sym (ap replyOf (sym (t .enum-told .given .1)) ∙ t .before .before .live-rows .ensures)),
+      noted-live _ _ _ _ (a .inv .3) (omega arith) _ e (c .before .before .before .before .name-of .ensures) (c .before .before .before .key-of .ensures),
     )
 
 loop-less-2 : tie.Need-loop-less-2 Inv-loop μ-loop
@@ -100,10 +116,10 @@ loop-again-2 c =
     let s = c .before .before in
     let a = s .before .before .loop in
     let e = met-dead _ _ (s .slot-at .ensures) (c .before .is-live .ensures) (c .if1 .left) in
-    (omega arith, used-dead _ (a .i) _ (a .inv .1) e, a .inv .2 ∙ sweep-skip slots (a .i) _ (omega arith) (survey-dead 0 _ (a .i) e))
+    (omega arith, used-dead _ (a .i) _ (a .inv .1) e, a .inv .2 ∙ sweep-skip slots (a .i) _ (omega arith) (survey-dead 0 _ (a .i) e), noted-dead _ _ _ _ (a .inv .3) (omega arith) e)
 
 returns-2 : tie.Need-returns-2 Inv-loop μ-loop
-returns-2 c = let a = c .before .loop in pass-ends _ _ (a .i) (a .inv .2) (c .loop-test .left) (a .inv .0) refl (a .inv .1)
+returns-2 c = let a = c .before .loop in pass-ends _ _ (a .i) (a .inv .2) (c .loop-test .left) (a .inv .0) refl (a .inv .1) (a .inv .3 .live)
 
 pub survey-slots-spec : {M : Type 1} → statement M
 survey-slots-spec =
@@ -116,11 +132,17 @@ survey-slots-spec =
     slot-at-requires
     add-i
     is-live-requires
+    slice-aggregate-live-rows
     live-rows-requires
     enum-known-f
     unused-requires-2
     returns
     enum-told
+    name-of-requires
+    key-of-requires
+    mul-keys
+    array-write-keys
+    add-files
     map-of-requires
     count-of-requires
     joined-requires

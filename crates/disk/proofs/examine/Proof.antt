@@ -1,6 +1,7 @@
 -- `disk::examine` meets its contract: each way out has the tests that led there.
 use mathlib.Core.Path.{sym, ap, _∙_}
 use Rattle.refusals.specs.Answers.{replyOf}
+use Rattle.directory.proofs.Pass.{surveyed-sound}
 use Rattle.disk.proofs.Examined.{examined-length, examined-survey, examined-chains, examined-sound}
 use borrow.Author.Needs.{needs}
 use Rattle.disk.proofs.examine.Statement.{statement}
@@ -22,7 +23,7 @@ enum-told-2 : tie.Need-enum-told-2
 enum-told-2 c = search needs
 
 all-chains-requires : tie.Need-all-chains-requires
-all-chains-requires c κs = search needs
+all-chains-requires c κs = surveyed-sound _ _ (c .before .before .survey-slots .ensures) (c .enum-told2 .given .1) .2
 
 enum-known-r : tie.Need-enum-known-r
 enum-known-r c = search needs

@@ -1,5 +1,5 @@
 -- `files::list` meets its contract: a refused check is the answer, and of an accepted disk the listing is.
-use Rattle.files.proofs.Listed.{listing-unsound, sound-accepted}
+use Rattle.files.proofs.Listed.{listing-unsound, sound-accepted, sound-files}
 use borrow.Author.Needs.{needs}
 use Rattle.files.proofs.list.Statement.{statement}
 use Rattle.files.proofs.list.Tie as tie
@@ -16,7 +16,8 @@ enum-told c = search needs
 list-accepted-requires : tie.Need-list-accepted-requires
 list-accepted-requires c κs =
     let t = c .before .before in
-    sound-accepted _ _ (t .before .before .examine .ensures) (t .enum-told .given .1)
+    let w = t .before .before .examine .ensures in
+    (sound-accepted _ _ w (t .enum-told .given .1), sound-files _ _ w (t .enum-told .given .1))
 
 returns : tie.Need-returns
 returns c = listing-unsound _ _ _ _ (c .before .before .before .examine .ensures) (c .before .verdict .given .1)

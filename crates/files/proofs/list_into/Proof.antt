@@ -3,19 +3,25 @@ use Prim.Native.Nat.{_-_, _*_, _≤_}
 use native.Mathlib.Omega.{arith}
 use Rattle.directory.specs.Places.{slots}
 use Rattle.directory.proofs.Live.{met-live, met-dead}
-use Rattle.files.proofs.Listed.{Listed, listed-none, listed-more, listed-same, listed-long, listed-all}
+use Rattle.files.proofs.Listed.{Listed, listed-none, listed-more, listed-same, listed-long, listed-end, listed-all}
 use borrow.Author.Needs.{needs}
 use Rattle.files.proofs.list_into.Statement.{statement}
 use Rattle.files.proofs.list_into.Tie as tie
 
 abbrev Inv-loop : tie.InvT-loop
-Inv-loop dir buf₀ at₀ i₀ buf at i = (i ≤ slots) × (at ≤ 258 * i) × Listed dir buf₀ i at buf
+Inv-loop dir end buf₀ at₀ i₀ buf at i = (i ≤ slots) × (at ≤ 258 * i) × Listed dir buf₀ i at buf
 
 abbrev μ-loop : tie.MeasureT-loop
-μ-loop dir buf₀ at₀ i₀ buf at i = slots - i
+μ-loop dir end buf₀ at₀ i₀ buf at i = slots - i
 
 loop-holds : tie.Need-loop-holds Inv-loop μ-loop
 loop-holds c = (omega arith, omega arith, listed-none _ _)
+
+same-length : tie.Need-same-length Inv-loop μ-loop
+same-length c = listed-long _ _ _ _ _ (c .before .before .loop .inv .2)
+
+returns : tie.Need-returns Inv-loop μ-loop
+returns c = let a = c .before .before .loop in listed-end _ _ (a .i) _ _ (a .inv .2) (a .inv .0) (c .before .before .before .before .before .pre .0) _ (c .before .before .before .before .before .pre .1) (c .if1 .taken)
 
 slot-at-requires : tie.Need-slot-at-requires Inv-loop μ-loop
 slot-at-requires c κs = search needs
@@ -40,8 +46,8 @@ loop-again c =
     let p = c .before .before in
     let y = p .before .before in
     let s = y .before .before in
-    let a = s .before .before .loop in
-    let e = met-live _ _ (s .slot-at .ensures) (y .before .is-live .ensures) (y .if1 .taken) in
+    let a = s .before .before .before .loop in
+    let e = met-live _ _ (s .slot-at .ensures) (y .before .is-live .ensures) (y .if2 .taken) in
     (omega arith, omega arith, listed-more _ _ (a .i) _ _ (a .inv .2) _ e (omega arith) (omega arith) _ (p .put-entry .ensures))
 
 loop-less-2 : tie.Need-loop-less-2 Inv-loop μ-loop
@@ -50,15 +56,15 @@ loop-less-2 c = search needs
 loop-again-2 : tie.Need-loop-again-2 Inv-loop μ-loop
 loop-again-2 c =
     let s = c .before .before in
-    let a = s .before .before .loop in
-    let e = met-dead _ _ (s .slot-at .ensures) (c .before .is-live .ensures) (c .if1 .left) in
+    let a = s .before .before .before .loop in
+    let e = met-dead _ _ (s .slot-at .ensures) (c .before .is-live .ensures) (c .if2 .left) in
     (omega arith, omega arith, listed-same _ _ (a .i) _ _ (a .inv .2) e)
 
-same-length : tie.Need-same-length Inv-loop μ-loop
-same-length c = listed-long _ _ _ _ _ (c .before .loop .inv .2)
+same-length-2 : tie.Need-same-length-2 Inv-loop μ-loop
+same-length-2 c = listed-long _ _ _ _ _ (c .before .loop .inv .2)
 
-returns : tie.Need-returns Inv-loop μ-loop
-returns c = listed-all _ _ _ _ _ (c .before .loop .inv .2) (omega arith)
+returns-2 : tie.Need-returns-2 Inv-loop μ-loop
+returns-2 c = listed-all _ _ _ _ _ (c .before .loop .inv .2) (omega arith)
 
 pub list-into-spec : {M : Type 1} → statement M
 list-into-spec =
@@ -67,6 +73,8 @@ list-into-spec =
     Inv-loop
     μ-loop
     loop-holds
+    same-length
+    returns
     slot-at-requires
     add-i
     is-live-requires
@@ -76,5 +84,5 @@ list-into-spec =
     loop-again
     loop-less-2
     loop-again-2
-    same-length
-    returns)
+    same-length-2
+    returns-2)

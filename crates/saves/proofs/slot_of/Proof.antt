@@ -1,5 +1,5 @@
 -- `saves::slot_of` meets its contract: the pieces are put from the front to the back.
-use Rattle.saves.proofs.Picked.{put-one}
+use Rattle.buffers.proofs.Lists.{put-one}
 use Rattle.saves.proofs.Slot.{slot-whole}
 use borrow.Author.Needs.{needs}
 use Rattle.saves.proofs.slot_of.Statement.{statement}
