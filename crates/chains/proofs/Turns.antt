@@ -1,13 +1,14 @@
 -- The chain as the code follows it, from place to place; and what rows 10 and 11 then answer.
 use Prim.Native.Nat.{ℕ, suc, _-_, _≤_, _<_}
-use mathlib.Core.Path.{_≡_, refl, sym, ap, _∙_}
+use mathlib.Core.Path.{_≡_, refl, sym, ap, ap₂, _∙_}
 use mathlib.Core.Bool.{Bool, true, false, not, cond, _&&_, and-false}
 use mathlib.Core.List.{List}
 use mathlib.Core.Option.{none, some}
 use native.Mathlib.Omega.{arith}
+use lib.ListN.{getD}
 use Rattle.buffers.specs.Bytes.{part}
 use Rattle.buffers.proofs.Lists.{length-part}
-use Rattle.geometry.specs.Disk.{placeOrEnd}
+use Rattle.geometry.specs.Disk.{bitOf, placeOrEnd}
 use Rattle.geometry.proofs.Laws.{place-or-end}
 use Rattle.maps.specs.Bits.{has}
 use Rattle.refusals.specs.Order.{refuse}
@@ -57,20 +58,26 @@ module _ (d s : List ℕ) where
       let k : left - 1 ≡ 0 = omega arith in
       w .rest ∙ ap (λ (m : ℕ). roams (mapOf s) (sectorsOf d s) m (w .bit)) k ∙ ap (λ (x : List ℕ). not (isLast x)) (here h left a w e)
 
--- a turn: the link of the sector h leads to bit c
-module _ (d s h : List ℕ) (left a c : ℕ) (w : Walked d s left a) (more : 1 < left) (reads : h ≡ part a 512 d) (leads : c ≡ nextOf h) where
+-- a turn: the link of the sector h is t, u, which is bit c
+module _
+    (d s h : List ℕ) (left a t u c : ℕ) (w : Walked d s left a) (more : 1 < left) (reads : h ≡ part a 512 d)
+    (track : t ≡ getD h 510 0) (sector : u ≡ getD h 511 0) (leads : c ≡ bitOf t u) where
+  next : c ≡ nextOf h
+  unfolding nextOf
+  next = leads ∙ ap₂ bitOf track sector
+
   turn : broken (facts s) (sectorsOf d s) ≡ cond (has (mapOf s) c) (roams (mapOf s) (sectorsOf d s) (left - 1 - 1) c) true
   unfolding roams
   turn =
       let k : left - 1 ≡ suc (left - 1 - 1) = omega arith in
-      let next : nextOf (sectorsOf d s (w .bit)) ≡ c = ap nextOf (here d s h left a w reads) ∙ sym leads in
+      let q : nextOf (sectorsOf d s (w .bit)) ≡ c = ap nextOf (here d s h left a w reads) ∙ sym next in
       w .rest ∙ ap (λ (m : ℕ). roams (mapOf s) (sectorsOf d s) m (w .bit)) k
-      ∙ ap (λ (x : ℕ). cond (has (mapOf s) x) (roams (mapOf s) (sectorsOf d s) (left - 1 - 1) x) true) next
+      ∙ ap (λ (x : ℕ). cond (has (mapOf s) x) (roams (mapOf s) (sectorsOf d s) (left - 1 - 1) x) true) q
 
   pub strays-off : has (mapOf s) c ≡ false → true ≡ broken (facts s) (sectorsOf d s)
   strays-off i = sym (turn ∙ rw i)
 
-  pub walked : (e : ℕ) → has (mapOf s) c ≡ true → e ≡ placeOrEnd (nextOf h) → Walked d s (left - 1) e
+  pub walked : (e : ℕ) → has (mapOf s) c ≡ true → e ≡ placeOrEnd (bitOf t u) → Walked d s (left - 1) e
   walked e i f = record { bit = c; own = i; place = f ∙ ap placeOrEnd (sym leads); rest = turn ∙ rw i }
 
 -- ---- the rows

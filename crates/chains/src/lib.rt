@@ -36,15 +36,8 @@ pub fn is_last(sector: &[u8]) -> bool
     }
 }
 
-// The place of the sector that a sector's link leads to: the image's size where it names no data sector.
-fn next_place(sector: &[u8]) -> usize
-    ensures { λ r. ⌜ r ≡ placeOrEnd (nextOf (now (sector .entry))) ⌝ }
-{
-    geometry::data_place(buffers::num_at(sector, 510), buffers::num_at(sector, 511))
-}
-
 // Row 10: whether the chain is broken. A sector that comes twice is on a ring, and no sector of a ring has the link 0, 0:
-// so the sectors passed need not be kept.
+// so the sectors passed need not be kept. The next sector's place comes from the link itself, not from its bit.
 fn chain_broken(image: &[u8], s: &[u8]) -> bool
     ensures { λ r. ⌜ r ≡ broken (facts (now (s .entry))) (sectorsOf (now (image .entry)) (now (s .entry))) ⌝ }
 {
@@ -57,10 +50,12 @@ fn chain_broken(image: &[u8], s: &[u8]) -> bool
     let mut at = geometry::bit_place(first);
     while 1 < left {
         let sector = buffers::part_at(image, at, 512);
-        if !maps::has_bit(map, next_of(sector)) {
+        let track = buffers::num_at(sector, 510);
+        let number = buffers::num_at(sector, 511);
+        if !maps::has_bit(map, geometry::bit_or_end(track, number)) {
             return true;
         }
-        at = next_place(sector);
+        at = geometry::data_place(track, number);
         left -= 1;
     }
     !is_last(buffers::part_at(image, at, 512))

@@ -43,8 +43,14 @@ loop-holds c =
 part-at-requires : tie.Need-part-at-requires Inv-loop μ-loop
 part-at-requires c κs = search needs
 
-next-of-requires : tie.Need-next-of-requires Inv-loop μ-loop
-next-of-requires c κs = search needs
+num-at-requires : tie.Need-num-at-requires Inv-loop μ-loop
+num-at-requires c κs = search needs
+
+num-at-requires-2 : tie.Need-num-at-requires-2 Inv-loop μ-loop
+num-at-requires-2 c κs = search needs
+
+bit-or-end-requires : tie.Need-bit-or-end-requires Inv-loop μ-loop
+bit-or-end-requires c κs = search needs
 
 has-bit-requires-2 : tie.Need-has-bit-requires-2 Inv-loop μ-loop
 has-bit-requires-2 c κs = search needs
@@ -52,13 +58,15 @@ has-bit-requires-2 c κs = search needs
 returns-2 : tie.Need-returns-2 Inv-loop μ-loop
 returns-2 c =
     let n = c .before .before in
-    let i = n .before .before in
+    let k = n .before in
+    let h = k .before .before in
+    let i = h .before in
     let l = i .before in
-    strays-off _ _ _ _ _ _ (l .loop .inv) (i .loop-test .taken) (n .before .part-at .ensures) (n .next-of .ensures .0)
+    strays-off _ _ _ _ _ _ _ _ (l .loop .inv) (i .loop-test .taken) (h .part-at .ensures) (k .before .num-at .ensures .0) (k .num-at2 .ensures .0) (n .bit-or-end .ensures .0)
     (in-map _ _ _ (l .before .before .before .before .before .before .map-of .ensures) (c .before .has-bit2 .ensures) (not-true _ (c .if2 .taken)))
 
-next-place-requires : tie.Need-next-place-requires Inv-loop μ-loop
-next-place-requires c κs = search needs
+data-place-requires : tie.Need-data-place-requires Inv-loop μ-loop
+data-place-requires c κs = search needs
 
 sub-left : tie.Need-sub-left Inv-loop μ-loop
 sub-left c = search needs
@@ -70,11 +78,13 @@ loop-again : tie.Need-loop-again Inv-loop μ-loop
 loop-again c =
     let e = c .before in
     let n = e .before .before in
-    let i = n .before .before in
+    let k = n .before in
+    let h = k .before .before in
+    let i = h .before in
     let l = i .before in
-    walked _ _ _ _ _ _ (l .loop .inv) (i .loop-test .taken) (n .before .part-at .ensures) (n .next-of .ensures .0) _
+    walked _ _ _ _ _ _ _ _ (l .loop .inv) (i .loop-test .taken) (h .part-at .ensures) (k .before .num-at .ensures .0) (k .num-at2 .ensures .0) (n .bit-or-end .ensures .0) _
     (in-map _ _ _ (l .before .before .before .before .before .before .map-of .ensures) (e .before .has-bit2 .ensures) (not-false _ (e .if2 .left)))
-    (c .next-place .ensures)
+    (c .data-place .ensures)
 
 part-at-requires-2 : tie.Need-part-at-requires-2 Inv-loop μ-loop
 part-at-requires-2 c κs = search needs
@@ -101,10 +111,12 @@ chain-broken-spec =
     bit-place-requires
     loop-holds
     part-at-requires
-    next-of-requires
+    num-at-requires
+    num-at-requires-2
+    bit-or-end-requires
     has-bit-requires-2
     returns-2
-    next-place-requires
+    data-place-requires
     sub-left
     loop-less
     loop-again
