@@ -1,5 +1,5 @@
 -- The chain as the code follows it, from place to place; and what rows 10 and 11 then answer.
-use Prim.Native.Nat.{ℕ, suc, _-_, _≤_, _<_}
+use Prim.Native.Nat.{ℕ, suc, _+_, _-_, _≤_, _<_}
 use mathlib.Core.Path.{_≡_, refl, sym, ap, ap₂, _∙_}
 use mathlib.Core.Bool.{Bool, true, false, not, cond, _&&_, and-false}
 use mathlib.Core.List.{List}
@@ -7,9 +7,9 @@ use mathlib.Core.Option.{none, some}
 use native.Mathlib.Omega.{arith}
 use lib.ListN.{getD}
 use Rattle.buffers.specs.Bytes.{part}
-use Rattle.buffers.proofs.Lists.{length-part}
-use Rattle.geometry.specs.Disk.{bitOf, placeOrEnd}
-use Rattle.geometry.proofs.Laws.{place-or-end}
+use Rattle.buffers.proofs.Lists.{length-part, part-at}
+use Rattle.geometry.specs.Disk.{imageSize, bitOf, placeOrEnd}
+use Rattle.geometry.proofs.Laws.{place-or-end, place-inside}
 use Rattle.maps.specs.Bits.{has}
 use Rattle.refusals.specs.Order.{refuse}
 use Rattle.slots.specs.Slot.{facts, kindOf, carried, firstOf, countOf, mapOf}
@@ -24,6 +24,12 @@ pub record Walked (d s : List ℕ) (left at : ℕ) : Type 0 where
   pub own : has (mapOf s) bit ≡ true
   pub place : at ≡ placeOrEnd bit
   pub rest : broken (facts s) (sectorsOf d s) ≡ roams (mapOf s) (sectorsOf d s) (left - 1) bit
+
+-- the place lies in the image
+pub walked-inside : (d s : List ℕ) (left at : ℕ) → Walked d s left at → at < imageSize
+walked-inside d s left at w =
+    let h = map-small s (w .bit) (w .own) in
+    omega (arith, w .place, place-or-end (w .bit) h, place-inside (w .bit) h)
 
 -- what a test of the map that the code holds says of the slot's
 pub in-map : (m s : List ℕ) (c : ℕ) {t v : Bool} → m ≡ mapOf s → t ≡ has m c → t ≡ v → has (mapOf s) c ≡ v
@@ -58,19 +64,19 @@ module _ (d s : List ℕ) where
       let k : left - 1 ≡ 0 = omega arith in
       w .rest ∙ ap (λ (m : ℕ). roams (mapOf s) (sectorsOf d s) m (w .bit)) k ∙ ap (λ (x : List ℕ). not (isLast x)) (here h left a w e)
 
--- a turn: the link of the sector h is t, u, which is bit c
+-- a turn: the link of the sector is t, u, which is bit c
 module _
-    (d s h : List ℕ) (left a t u c : ℕ) (w : Walked d s left a) (more : 1 < left) (reads : h ≡ part a 512 d)
-    (track : t ≡ getD h 510 0) (sector : u ≡ getD h 511 0) (leads : c ≡ bitOf t u) where
-  next : c ≡ nextOf h
+    (d s : List ℕ) (left a t u c : ℕ) (w : Walked d s left a) (more : 1 < left)
+    (track : t ≡ getD d (a + 510) 0) (sector : u ≡ getD d (a + 511) 0) (leads : c ≡ bitOf t u) where
+  next : c ≡ nextOf (part a 512 d)
   unfolding nextOf
-  next = leads ∙ ap₂ bitOf track sector
+  next = leads ∙ ap₂ bitOf (track ∙ sym (part-at a 512 d 510 (omega arith))) (sector ∙ sym (part-at a 512 d 511 (omega arith)))
 
   turn : broken (facts s) (sectorsOf d s) ≡ cond (has (mapOf s) c) (roams (mapOf s) (sectorsOf d s) (left - 1 - 1) c) true
   unfolding roams
   turn =
       let k : left - 1 ≡ suc (left - 1 - 1) = omega arith in
-      let q : nextOf (sectorsOf d s (w .bit)) ≡ c = ap nextOf (here d s h left a w reads) ∙ sym next in
+      let q : nextOf (sectorsOf d s (w .bit)) ≡ c = ap nextOf (here d s (part a 512 d) left a w refl) ∙ sym next in
       w .rest ∙ ap (λ (m : ℕ). roams (mapOf s) (sectorsOf d s) m (w .bit)) k
       ∙ ap (λ (x : ℕ). cond (has (mapOf s) x) (roams (mapOf s) (sectorsOf d s) (left - 1 - 1) x) true) q
 

@@ -49,9 +49,8 @@ fn chain_broken(image: &[u8], s: &[u8]) -> bool
     let mut left = slots::count_of(s);
     let mut at = geometry::bit_place(first);
     while 1 < left {
-        let sector = buffers::part_at(image, at, 512);
-        let track = buffers::num_at(sector, 510);
-        let number = buffers::num_at(sector, 511);
+        let track = buffers::num_at(image, at + 510);
+        let number = buffers::num_at(image, at + 511);
         if !maps::has_bit(map, geometry::bit_or_end(track, number)) {
             return true;
         }

@@ -1,8 +1,9 @@
 -- `chains::chain_broken` meets its contract: before each turn the chain is broken exactly where what is left of it strays.
 use mathlib.Core.Path.{sym, ap, _∙_}
 use mathlib.Core.Bool.{not}
+use native.Mathlib.Omega.{arith}
 use borrow.Author.Tests.{not-true, not-false}
-use Rattle.chains.proofs.Turns.{Walked, in-map, outside, start, strays-off, walked, end}
+use Rattle.chains.proofs.Turns.{Walked, walked-inside, in-map, outside, start, strays-off, walked, end}
 use borrow.Author.Needs.{needs}
 use Rattle.chains.proofs.chain_broken.Statement.{statement}
 use Rattle.chains.proofs.chain_broken.Tie as tie
@@ -40,11 +41,14 @@ loop-holds c =
     let f = e .before .before in
     start _ _ _ _ _ (f .first-of .ensures .0) (n .count-of .ensures .0) (c .bit-place .ensures) (in-map _ _ _ (f .before .map-of .ensures) (e .before .has-bit .ensures) (not-false _ (e .if1 .left)))
 
-part-at-requires : tie.Need-part-at-requires Inv-loop μ-loop
-part-at-requires c κs = search needs
+add-num-at : tie.Need-add-num-at Inv-loop μ-loop
+add-num-at c = omega (arith, walked-inside _ _ _ _ (c .before .loop .inv))
 
 num-at-requires : tie.Need-num-at-requires Inv-loop μ-loop
 num-at-requires c κs = search needs
+
+add-num-at-2 : tie.Need-add-num-at-2 Inv-loop μ-loop
+add-num-at-2 c = omega (arith, walked-inside _ _ _ _ (c .before .before .loop .inv))
 
 num-at-requires-2 : tie.Need-num-at-requires-2 Inv-loop μ-loop
 num-at-requires-2 c κs = search needs
@@ -59,10 +63,9 @@ returns-2 : tie.Need-returns-2 Inv-loop μ-loop
 returns-2 c =
     let n = c .before .before in
     let k = n .before in
-    let h = k .before .before in
-    let i = h .before in
+    let i = k .before .before in
     let l = i .before in
-    strays-off _ _ _ _ _ _ _ _ (l .loop .inv) (i .loop-test .taken) (h .part-at .ensures) (k .before .num-at .ensures .0) (k .num-at2 .ensures .0) (n .bit-or-end .ensures .0)
+    strays-off _ _ _ _ _ _ _ (l .loop .inv) (i .loop-test .taken) (k .before .num-at .ensures .0) (k .num-at2 .ensures .0) (n .bit-or-end .ensures .0)
     (in-map _ _ _ (l .before .before .before .before .before .before .map-of .ensures) (c .before .has-bit2 .ensures) (not-true _ (c .if2 .taken)))
 
 data-place-requires : tie.Need-data-place-requires Inv-loop μ-loop
@@ -79,15 +82,14 @@ loop-again c =
     let e = c .before in
     let n = e .before .before in
     let k = n .before in
-    let h = k .before .before in
-    let i = h .before in
+    let i = k .before .before in
     let l = i .before in
-    walked _ _ _ _ _ _ _ _ (l .loop .inv) (i .loop-test .taken) (h .part-at .ensures) (k .before .num-at .ensures .0) (k .num-at2 .ensures .0) (n .bit-or-end .ensures .0) _
+    walked _ _ _ _ _ _ _ (l .loop .inv) (i .loop-test .taken) (k .before .num-at .ensures .0) (k .num-at2 .ensures .0) (n .bit-or-end .ensures .0) _
     (in-map _ _ _ (l .before .before .before .before .before .before .map-of .ensures) (e .before .has-bit2 .ensures) (not-false _ (e .if2 .left)))
     (c .data-place .ensures)
 
-part-at-requires-2 : tie.Need-part-at-requires-2 Inv-loop μ-loop
-part-at-requires-2 c κs = search needs
+part-at-requires : tie.Need-part-at-requires Inv-loop μ-loop
+part-at-requires c κs = search needs
 
 is-last-requires : tie.Need-is-last-requires Inv-loop μ-loop
 is-last-requires c κs = search needs
@@ -95,7 +97,7 @@ is-last-requires c κs = search needs
 returns-3 : tie.Need-returns-3 Inv-loop μ-loop
 returns-3 c =
     let a = c .before .before in
-    ap not (c .is-last .ensures) ∙ sym (end _ _ _ _ _ (a .before .loop .inv) (a .loop-test .left) (c .before .part-at2 .ensures))
+    ap not (c .is-last .ensures) ∙ sym (end _ _ _ _ _ (a .before .loop .inv) (a .loop-test .left) (c .before .part-at .ensures))
 
 pub chain-broken-spec : {M : Type 1} → statement M
 chain-broken-spec =
@@ -110,8 +112,9 @@ chain-broken-spec =
     count-of-requires
     bit-place-requires
     loop-holds
-    part-at-requires
+    add-num-at
     num-at-requires
+    add-num-at-2
     num-at-requires-2
     bit-or-end-requires
     has-bit-requires-2
@@ -120,6 +123,6 @@ chain-broken-spec =
     sub-left
     loop-less
     loop-again
-    part-at-requires-2
+    part-at-requires
     is-last-requires
     returns-3)
