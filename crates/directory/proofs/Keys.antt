@@ -1,7 +1,7 @@
 -- A name before a slot, by its key; and what the pass keeps beside the used map: the keys of the names so far, and how many slots are live.
 use Prim.Native.Nat.{ℕ, _+_, _≤_, _<_}
-use mathlib.Core.Path.{_≡_, refl, sym, ap, ap₂, _∙_}
-use mathlib.Core.Bool.{Bool, true, false}
+use mathlib.Core.Path.{_≡_, refl, sym, ap, _∙_}
+use mathlib.Core.Bool.{Bool, true, false, cond}
 use mathlib.Core.List.{List}
 use mathlib.Core.Logic.{⊎-elim}
 use mathlib.Core.Option.{Option, none, some, Option·some-ne-none, Option·some-injective}
@@ -11,11 +11,12 @@ use lib.Seq.{getD-set-same, getD-set-other}
 use Rattle.buffers.proofs.Counts.{any-more, any-some}
 use Rattle.buffers.proofs.Lists.{below-or-not}
 use Rattle.slots.specs.Slot.{nameOf}
-use Rattle.slots.specs.Name.{sameName, keyOf}
+use Rattle.slots.specs.Name.{sameName, padded, keyOf}
 use Rattle.slots.proofs.Names.{keys-differ}
 use Rattle.directory.specs.Places.{slots}
 use Rattle.directory.specs.Directory.{held, directory, liveAmong}
 use Rattle.directory.specs.Survey.{earlier}
+use Rattle.directory.specs.Find.{hit}
 use Rattle.directory.specs.Steps.{Keyed}
 use Rattle.directory.proofs.Live.{among-dead, among-live, among-few, among-none, met-name}
 
@@ -29,6 +30,15 @@ module _ (d n : List ℕ) (j : ℕ) where
 
   pub named-dead : directory d j ≡ none → false ≡ named d n j
   named-dead e = sym (ap (held false (λ t. sameName (nameOf t) n)) e)
+
+  -- a hit of a search, by the same test
+  pub hit-named : (m : List ℕ) → n ≡ padded m → {t : Bool} → named d n j ≡ t → hit (directory d) m j ≡ cond t (some j) none
+  hit-named m e {t} q = by (directory d j) (ap (λ (x : List ℕ). named d x j) (sym e) ∙ q)
+    where
+      by : (o : Option (List ℕ)) → held false (λ s. sameName (nameOf s) (padded m)) o ≡ t
+          → held none (λ s. cond (sameName (nameOf s) (padded m)) (some j) none) o ≡ cond t (some j) none
+      by none p = rw (← p)
+      by (some s) p = rw p
 
   pub not-named : named d n j ≡ false → earlier (directory d) j (λ t. sameName (nameOf t) n) ≡ false → earlier (directory d) (j + 1) (λ t. sameName (nameOf t) n) ≡ false
   unfolding earlier

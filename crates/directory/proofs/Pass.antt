@@ -10,7 +10,7 @@ use native.Mathlib.Omega.{arith}
 use borrow.Author.Tests.{not-false, leb-true, eqb-true, le-leb, eq-eqb}
 use lib.Dec.{eqb, leb, ltb}
 use lib.ListN.{length, getD}
-use Rattle.buffers.proofs.Counts.{any-more, any-none, none-any, any-some}
+use Rattle.buffers.proofs.Counts.{any-none, none-any}
 use Rattle.buffers.specs.Bytes.{any}
 use Rattle.maps.specs.Bits.{has, bitsOf, share, clear, join}
 use Rattle.refusals.specs.Order.{refuse, _else_, Row, rows, sweepFrom}
@@ -38,18 +38,6 @@ tried v t j = held false t (v j)
 pub earlier-start : (v : Directory) (t : List ℕ → Bool) → earlier v 0 t ≡ false
 unfolding earlier any
 earlier-start v t = refl
-
-pub earlier-dead : (v : Directory) (t : List ℕ → Bool) (j : ℕ) → v j ≡ none → earlier v j t ≡ false → earlier v (j + 1) t ≡ false
-unfolding earlier
-earlier-dead v t j p e = any-more j (tried v t) ∙ rw (e, p)
-
-pub earlier-other : (v : Directory) (t : List ℕ → Bool) (j : ℕ) (s : List ℕ) → v j ≡ some s → t s ≡ false → earlier v j t ≡ false → earlier v (j + 1) t ≡ false
-unfolding earlier
-earlier-other v t j s p q e = any-more j (tried v t) ∙ rw (e, p) q
-
-pub earlier-hit : (v : Directory) (t : List ℕ → Bool) (i j : ℕ) (s : List ℕ) → j < i → v j ≡ some s → t s ≡ true → earlier v i t ≡ true
-unfolding earlier
-earlier-hit v t i j s h p q = any-some i (tried v t) j h (ap (held false t) p ∙ q)
 
 -- there is none: the test applies to no live slot before
 pub earlier-none : (v : Directory) (t : List ℕ → Bool) (i : ℕ) → earlier v i t ≡ false → (j : ℕ) (s : List ℕ) → j < i → v j ≡ some s → t s ≡ false

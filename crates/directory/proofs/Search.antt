@@ -26,14 +26,8 @@ pub record FoundBy (v : Directory) (n : List ℕ) (i : ℕ) : Type 0 where
 
 -- ---- at a slot
 
-pub hit-dead : (v : Directory) (n : List ℕ) (i : ℕ) → v i ≡ none → hit v n i ≡ none
-hit-dead v n i e = rw e
-
-pub hit-live : (v : Directory) (n : List ℕ) (i : ℕ) (s : List ℕ) → v i ≡ some s → sameName (nameOf s) (padded n) ≡ true → hit v n i ≡ some i
+hit-live : (v : Directory) (n : List ℕ) (i : ℕ) (s : List ℕ) → v i ≡ some s → sameName (nameOf s) (padded n) ≡ true → hit v n i ≡ some i
 hit-live v n i s e q = rw (e, q)
-
-pub hit-other : (v : Directory) (n : List ℕ) (i : ℕ) (s : List ℕ) → v i ≡ some s → sameName (nameOf s) (padded n) ≡ false → hit v n i ≡ none
-hit-other v n i s e q = rw (e, q)
 
 -- ---- what an answer says
 

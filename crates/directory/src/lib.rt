@@ -171,13 +171,10 @@ pub fn find(dir: &[u8], name: &[u8]) -> Found
     let filled = slots::padded_name(name);
     let mut i: usize = 0;
     while i < 80 {
-        let entry = slot_at(dir, i);
         let k = i;
         i += 1;
-        if slots::is_live(entry) {
-            if slots::same_name(slots::name_of(entry), &filled) {
-                return Found::At(k);
-            }
+        if is_named(dir, k, &filled) {
+            return Found::At(k);
         }
     }
     Found::Nothing

@@ -1,18 +1,18 @@
 -- A change with a list of bytes is the change with a list of numbers: no change names more than 1,561 sectors, so that many numbers are always room enough.
-use Prim.Native.Nat.{ℕ, suc, _+_, _-_, _*_, _/_, _^_, _≤_, _<_, min}
+use Prim.Native.Nat.{ℕ, suc, _+_, _-_, _/_, _^_, _≤_, _<_, min}
 use mathlib.Core.Path.{_≡_, refl, sym, ap, _∙_, subst}
 use mathlib.Core.Bool.{Bool, true, false, cond, not, _&&_}
 use mathlib.Core.List.{List, [], _∷_, _++_}
 use mathlib.Core.Logic.{_⊎_, inl, inr}
 use mathlib.Core.Option.{Option, none, some}
 use native.Mathlib.Omega.{arith}
-use borrow.Author.Tests.{lt-ltb, le-ltb, ltb-true, ltb-false}
+use borrow.Author.Tests.{lt-ltb, le-ltb, ltb-false}
 use lib.Dec.{leb, ltb}
 use lib.ListN.{length, getD, take, drop, length-take, length-append, length-drop}
 use lib.Seq.{take-append-le}
 use Rattle.buffers.specs.Bytes.{part, put}
 use Rattle.buffers.proofs.Lists.{below-or-not, length-put, put-none, part-put}
-use Rattle.refusals.specs.Order.{Refusal, refuse, Reply, _else_, row}
+use Rattle.refusals.specs.Order.{refuse, Reply, _else_, row}
 use Rattle.refusals.specs.Answers.{Outcome, done, refused}
 use Rattle.slots.specs.Slot.{carried, protected}
 use Rattle.slots.specs.Rows.{dataCount}
@@ -33,9 +33,8 @@ use Rattle.plans.specs.Plan.{touch, saveSteps, Plan, no, go, orNo, byName, name
 use Rattle.plans.proofs.Free.{taken-long}
 use Rattle.plans.proofs.Refused.{save-long}
 use Rattle.plans.proofs.Demand3.{run-room}
-use Rattle.varnucht.specs.Packed.{packed, valueIn, Within, Fits, Told}
+use Rattle.varnucht.specs.Packed.{packed, valueIn}
 use Rattle.varnucht.specs.Lists.{inBytes, changingBy, changing, Returns, Tellable}
-use Rattle.varnucht.proofs.Parts.{within-fits, told}
 use Rattle.varnucht.proofs.Bounds.{Small, small-else, small-row, check-small, within-refused}
 
 -- how many sectors a change names at most

@@ -7,7 +7,7 @@ use lib.ListN.{length, take, drop, take-append-drop}
 use Rattle.buffers.specs.Bytes.{part, put}
 use Rattle.buffers.proofs.Lists.{part-put}
 use Rattle.refusals.specs.Order.{Refusal}
-use Rattle.refusals.specs.Answers.{Outcome, done, refused}
+use Rattle.refusals.specs.Answers.{done, refused}
 use Rattle.plans.specs.Change.{Change}
 use Rattle.plans.specs.Plan.{Result, stopped, made, run, finds}
 use Rattle.plans.specs.Safe.{Safe}

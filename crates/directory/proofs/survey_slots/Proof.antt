@@ -1,9 +1,7 @@
 -- `directory::survey_slots` meets its contract: the reply is that of the slots from `i` on, and the used map that of those before.
 use Prim.Native.Nat.{_-_, _≤_}
 use mathlib.Core.Path.{_≡_, refl, sym, ap, _∙_}
-use mathlib.Core.Option.{none, some}
 use native.Mathlib.Omega.{arith}
-use denote.Ref.{now}
 use Rattle.refusals.specs.Order.{sweepFrom}
 use Rattle.refusals.specs.Answers.{replyOf}
 use Rattle.refusals.proofs.First.{sweep-skip}
