@@ -17,8 +17,10 @@
  * first.
  *
  * You own every buffer before, during and after a call. The library allocates nothing, keeps no pointer and has no state:
- * a call depends on its arguments alone. So calls on different buffers may run at once on different threads, and calls that
- * only read may share an image. Nobody may read or write a buffer while a call that may change it is running.
+ * what a call does depends on its arguments alone. So calls on different buffers may run at once on different threads, and
+ * calls that only read may share an image. Nobody may read or write a buffer while a call that may change it is running.
+ * Nothing outside is called but memcpy, memset and their like. A save needs less than 8 KiB of stack, every other call less
+ * than 2 KiB.
  *
  * Every call answers one number with four parts, which the functions below take apart:
  *
@@ -59,7 +61,7 @@ enum varnucht_size {
     VARNUCHT_EXEC_BYTES = 3,            /* execution bytes of a save */
     VARNUCHT_ENTRY_BYTES = 258,         /* one file of a listing */
     VARNUCHT_LISTING_BYTES = 20640,     /* `out` of varnucht_list: 80 * 258 */
-    VARNUCHT_BODY_BYTES = 795591,       /* `out` of varnucht_read; the longest body that an empty disk takes: 510 * 1,560 - 9 */
+    VARNUCHT_BODY_BYTES = 795591,       /* `out` of varnucht_read; the longest body on an empty disk: 510 * 1,560 - 9 */
     VARNUCHT_SAVE_LIST_BYTES = 3122,    /* `list` of varnucht_save: 2 * 1,561 */
     VARNUCHT_CHANGE_LIST_BYTES = 2      /* `list` of every other change */
 };
@@ -132,8 +134,8 @@ static inline const char *varnucht_words(unsigned refusal) {
     }
 }
 
-/* 4. THE CALLS THAT READ. They change nothing but `out`. `image` is the disk; anything but 819,200 bytes is refused 1. A name
- * has 1 to 10 bytes (section 7). What a call does not fill of `out` stays as it was. */
+/* 4. THE CALLS THAT READ. They change nothing but `out`. `image` is the disk; anything but 819,200 bytes is refused 1. A
+ * name has 1 to 10 bytes (section 7). What a call does not fill of `out` stays as it was. */
 
 /* Whether the disk is good. Its directory, sector maps and chains agree exactly when this accepts. Value: 0.
  * Refusals: 1 to 11. */
@@ -153,20 +155,22 @@ uint64_t varnucht_read(const uint8_t *image, size_t image_len, const uint8_t *na
  * Refusals: 1 to 11, 12, 13, 14, 15. */
 uint64_t varnucht_start(const uint8_t *image, size_t image_len, const uint8_t *name, size_t name_len);
 
-/* A raw sector of one of two disks, whatever they hold: no directory is looked at. `one` and `two` are the images of drives 1
- * and 2, and both must have 819,200 bytes, whichever is chosen; they may be the same bytes. drive: 1 or 2. track: 0 to 79 on
- * the first side, 128 to 207 on the second. sector: 1 to 10. Any other number is refused 21.
- * Value: where the sector's 512 bytes begin in the image of that drive, a multiple of 512. Nothing is copied.
- * Refusals: 1, 21; their slot is 0. */
-uint64_t varnucht_sector(const uint8_t *one, size_t one_len, const uint8_t *two, size_t two_len, uint32_t drive, uint32_t track,
-                         uint32_t sector);
+/* A raw sector of one of two disks, whatever they hold: no directory is looked at.
+ *   one, two   the images of drives 1 and 2. Both must have 819,200 bytes, whichever is chosen; they may be the same bytes
+ *   drive      1 or 2
+ *   track      0 to 79 on the first side, 128 to 207 on the second
+ *   sector     1 to 10
+ * Any other drive, track or sector is refused 21. Value: where the sector's 512 bytes begin in the image of that drive, a
+ * multiple of 512. Nothing is copied. Refusals: 1, 21. */
+uint64_t varnucht_sector(const uint8_t *one, size_t one_len, const uint8_t *two, size_t two_len, uint32_t drive,
+                         uint32_t track, uint32_t sector);
 
 /* 5. THE CALLS THAT CHANGE, AND HOW TO WRITE WHAT THEY CHANGED
  *
  * A change is made whole in `image`, in memory. It fills `list` from the front with the numbers of the sectors it wrote, two
  * bytes to a number, low byte first (varnucht_listed reads them), and the rest of `list` stays. Value: how many numbers. No
- * number occurs twice, and a sector that is not named is unchanged. A list of L bytes has room for L / 2 numbers, an odd last
- * byte holds none; where that is too few the call is refused 20 and changes nothing.
+ * number occurs twice, and a sector that is not named is unchanged. A list of L bytes has room for L / 2 numbers, and an odd
+ * last byte holds none; where that is too few the call is refused 20 and changes nothing.
  *
  * Where the image is also kept in a file, write the named sectors there IN THE ORDER OF THE LIST, EACH WHOLE, and no other:
  *
@@ -213,9 +217,9 @@ uint64_t varnucht_erase(uint8_t *image, size_t image_len, const uint8_t *name, s
 uint64_t varnucht_rename(uint8_t *image, size_t image_len, const uint8_t *name, size_t name_len, const uint8_t *new_name,
                          size_t new_name_len, uint8_t *list, size_t list_len);
 
-/* Mark a file: hide sets the mark that show clears, protect the one that release clears. Nothing else changes. Where the mark
- * is so already the call is accepted and names its sector all the same. A hidden file is listed and found like any other.
- * A protected one cannot be erased or renamed. Value: 1. Refusals: 1 to 11, 12, 15, 20. */
+/* Mark a file: hide sets the mark that show clears, protect the one that release clears. Nothing else changes. Where the
+ * mark is so already the call is accepted and names its sector all the same. A hidden file is listed and found like any
+ * other. A protected one cannot be erased or renamed. Value: 1. Refusals: 1 to 11, 12, 15, 20. */
 uint64_t varnucht_hide(uint8_t *image, size_t image_len, const uint8_t *name, size_t name_len, uint8_t *list,
                        size_t list_len);
 uint64_t varnucht_show(uint8_t *image, size_t image_len, const uint8_t *name, size_t name_len, uint8_t *list,
@@ -295,25 +299,28 @@ static inline const uint8_t *varnucht_entry_exec(const uint8_t *entry) { return 
 
 /* 7. NAMES AND KINDS
  *
- * A name is given as 1 to 10 bytes and no 0 at the end, so "TUNES" has length 5. A shorter name is filled with spaces (32) to
- * ten bytes, and then names compare byte for byte: "TUNES" and "TUNES " are one name, "TUNES" and "tunes" are two. A name
- * asked for may hold any bytes, but the first is not 0. A new name (save, rename) has bytes 32 to 126 alone, and the first is
- * not 32. Anything else is refused 12. */
-enum varnucht_kind {                    /* the carried kinds: those with a body and a start address */
+ * A name is given as 1 to 10 bytes with no 0 behind them, so "TUNES" has length 5. A shorter name is filled with spaces (32)
+ * to ten bytes, and then names compare byte for byte: "TUNES" and "TUNES " are one name, "TUNES" and "tunes" are two. A name
+ * asked for may hold any bytes, but the first is not 0. A new name (save, rename) has bytes 32 to 126 alone, and the first
+ * is not 32. Anything else is refused 12.
+ *
+ * A kind is a number. 1 to 12 and 16 to 23 are known, and their files are listed, erased, renamed and marked. Only the
+ * carried kinds, 16 to 20, have a body and a start address for these calls, and only they can be saved. */
+enum varnucht_kind {                    /* the carried kinds */
     VARNUCHT_KIND_BASIC = 16,
     VARNUCHT_KIND_NUMBERS = 17,         /* a numeric array */
     VARNUCHT_KIND_STRINGS = 18,         /* a string array */
-    VARNUCHT_KIND_CODE = 19,
+    VARNUCHT_KIND_CODE = 19,            /* machine code, or any bytes */
     VARNUCHT_KIND_SCREEN = 20
 };
 
 /* 8. WHAT IS PROVED AND WHERE IT RUNS
  *
- * The library is written in Rattle. For every call and every input it is proved that the call ends, that its answer and every
- * lent buffer at return are those that the rules give, and that a stop between two writes leaves what section 5 says. The
- * proof is about the library's source. It takes for granted that the compiler keeps its meaning, and that the caller keeps
- * the rules on slices of section 1 and writes as section 5 says. The small functions of this header are plain C: they are
- * tested and not proved. libvarnucht.a is compiled for x86-64 alone as of now; the header names no processor. */
+ * The library is written in Rattle. For every call and every input it is proved that the call ends, that its answer and
+ * every lent buffer at return are those that the rules give, and that a stop between two writes leaves what section 5 says.
+ * The proof is about the library's source. It takes for granted that the compiler keeps its meaning, and that the caller
+ * keeps the rules on slices of section 1 and writes as section 5 says. The small functions of this header are plain C: they
+ * are tested and not proved. libvarnucht.a is compiled for x86-64 alone as of now; the header names no processor. */
 
 #ifdef __cplusplus
 }

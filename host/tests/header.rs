@@ -1,5 +1,7 @@
 //! The C header and its example: both compile without a warning as C99 and as C++, the header says what document 01 and
 //! `raw.rs` say, every call links and takes empty slices, and the example does its work on a disk.
+#[path = "header/archive.rs"]
+mod archive;
 #[path = "header/compilers.rs"]
 mod compilers;
 #[path = "header/declarations.rs"]
@@ -7,8 +9,7 @@ mod declarations;
 #[path = "header/example.rs"]
 mod example;
 
-use compilers::{BOTH, Folder, Language, archive, build, compile, link, part, root, try_compile};
-use std::collections::BTreeSet;
+use compilers::{BOTH, Folder, Language, build, compile, link, part, root, try_compile};
 use std::fs;
 use std::process::Command;
 
@@ -38,7 +39,15 @@ const WORDS: [&str; 21] = [
 ];
 
 /// The parts of the program that checks the header from inside.
-const CHECKS: [&str; 6] = ["main.c", "constants.c", "answers.c", "prototypes.c", "entries.c", "empty.c"];
+const CHECKS: [&str; 7] = [
+    "main.c",
+    "constants.c",
+    "answers.c",
+    "prototypes.c",
+    "entries.c",
+    "empty.c",
+    "sizes.c",
+];
 
 fn header_text() -> String {
     fs::read_to_string(root().join("include/varnucht.h")).expect("the header")
@@ -183,23 +192,4 @@ fn the_header_declares_what_raw_declares() {
             assert_eq!(next, &(format!("{name}_len"), "usize".to_string()), "{}", call.name);
         }
     }
-}
-
-/// Every call of the archive is declared, and every one declared is there.
-#[test]
-fn the_archive_has_what_the_header_declares() {
-    let output = Command::new("nm")
-        .args(["-g", "--defined-only"])
-        .arg(archive())
-        .output()
-        .expect("nm is needed for this test");
-    let text = String::from_utf8_lossy(&output.stdout);
-    let there: BTreeSet<&str> = text
-        .lines()
-        .filter_map(|line| line.split_once(" T varnucht_"))
-        .map(|(_, name)| name)
-        .collect();
-    let header = declarations::of_header(&header_text());
-    let declared: BTreeSet<&str> = header.iter().map(|call| call.name.as_str()).collect();
-    assert_eq!(there, declared);
 }

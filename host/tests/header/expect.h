@@ -15,5 +15,6 @@ void check_answers(void);
 void check_prototypes(void);
 void check_entries(void);
 void check_empty_slices(void);
+void check_size_limits(void);
 
 #endif

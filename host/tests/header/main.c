@@ -41,6 +41,7 @@ int main(int argc, char **argv) {
     run("prototypes", check_prototypes);
     run("entries", check_entries);
     run("empty slices", check_empty_slices);
+    run("sizes", check_size_limits);
     printf("held %lu, failed %lu\n", held, failed);
     return failed != 0;
 }

@@ -19,7 +19,8 @@ static start_call *const volatile start = varnucht_start;
 static sector_call *const volatile sector = varnucht_sector;
 static save_call *const volatile save = varnucht_save;
 static rename_call *const volatile renaming = varnucht_rename;
-static change_call *const volatile changes[] = {varnucht_erase, varnucht_hide, varnucht_show, varnucht_protect, varnucht_release};
+static change_call *const volatile changes[] = {varnucht_erase, varnucht_hide, varnucht_show, varnucht_protect,
+                                                varnucht_release};
 
 /* With nothing lent every call is there and answers 1, slot 0, and nothing else. */
 void check_prototypes(void) {
