@@ -1,0 +1,68 @@
+//! `help`: what the tool does, and what each command does.
+use super::commands::{self, COMMANDS, Choice, Command};
+use super::failure::{Failure, Outcome};
+use super::output;
+use std::ffi::OsString;
+
+/// Prints the help on a command, or on all.
+pub fn run(words: Vec<OsString>) -> Outcome {
+    match words.as_slice() {
+        [] => output::print(all()),
+        [word] if word == "help" => output::print(all()),
+        [word] => match word.to_str().and_then(commands::find) {
+            Some(command) => print(command),
+            None => Err(Failure::usage(format!("there is no command `{}`", output::shown(word)), None)),
+        },
+        _ => Err(Failure::usage("`help` takes one command", None)),
+    }
+}
+
+/// Prints the help on a command.
+pub fn print(command: &Command) -> Outcome {
+    output::print(one(command))
+}
+
+/// What stands above and below the commands.
+const HEAD: &str = "varnucht: disks of the SAM Coupé in image files of 819,200 bytes\n\n";
+const FOOT: &str = "
+Exit status:
+  0  done
+  1  refused: the disk or the request is against the rules; the number and the words of the refusal are printed
+  2  the command line was not understood
+  3  something could not be read or written
+";
+
+/// The help on all commands.
+fn all() -> String {
+    let lines = COMMANDS
+        .iter()
+        .map(|command| format!("  {:<26}  {}\n", called(command), command.brief));
+    let more = [("help [COMMAND]", "this, or more on a command"), ("--version", "the version")];
+    let more = more.map(|(called, brief)| format!("  {called:<26}  {brief}\n"));
+    [HEAD.to_string()]
+        .into_iter()
+        .chain(lines)
+        .chain(more)
+        .chain([FOOT.to_string()])
+        .collect()
+}
+
+/// The help on one command.
+fn one(command: &Command) -> String {
+    let options = if command.options.is_empty() { "" } else { " [OPTION]..." };
+    let head = format!("varnucht {}{options}: {}\n\n", called(command), command.brief);
+    let choices: String = command.options.iter().map(|choice| described(choice)).collect();
+    let gap = if choices.is_empty() { "" } else { "\n" };
+    format!("{head}{choices}{gap}{}\n{FOOT}", command.more)
+}
+
+/// A command's name and what it takes.
+fn called(command: &Command) -> String {
+    format!("{} {}", command.name, command.places.join(" "))
+}
+
+/// An option, what it takes and what it does.
+fn described(choice: &Choice) -> String {
+    let value = choice.value.map_or(String::new(), |value| format!(" {value}"));
+    format!("  {:<20}  {}\n", format!("{}{value}", choice.names.join(", ")), choice.says)
+}
