@@ -25,7 +25,8 @@ const WORDS: [&str; 21] = [
     "the map shares a bit with an earlier live slot",
     "the ten name bytes equal an earlier live slot's",
     "the chain is broken",
-    "carried kind, and the header's first byte (whole), remainder (mod 16,384) or pages differ from the slot's kind, remainder, pages",
+    "carried kind, and the header's first byte (whole), remainder (mod 16,384) or pages differ from the slot's kind, \
+     remainder, pages",
     "the name is not usable",
     "the kind asked for (save) or found (read, start address) is not carried",
     "start page above 31, or offset outside 32,768 to 49,151 (save, start address)",

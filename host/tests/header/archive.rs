@@ -64,7 +64,8 @@ fn the_calls_need_little_stack() {
             panic!("{line}")
         };
         let bytes: usize = bytes.parse().expect("a number");
-        assert!(bytes > 0 && bytes < if call == "save" { 8192 } else { 2048 }, "{line}");
+        let most = if call == "save" { 8192 } else { 2048 };
+        assert!(bytes > 0 && bytes < most, "{line}");
         calls.insert(call);
     }
     assert_eq!(calls.len(), 12);

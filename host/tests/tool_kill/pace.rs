@@ -7,6 +7,8 @@ use std::time::Duration;
 pub struct Pace {
     /// Seconds from the start of the process to its end, where it writes one sector.
     short: f64,
+    /// Seconds from the start of the process to its first write.
+    quiet: f64,
     /// Seconds for each sector written.
     each: f64,
     /// Where in the writing the last moment was to fall: 0 at its beginning, 1 at its end.
@@ -19,6 +21,7 @@ impl Pace {
         let each = long.saturating_sub(short).as_secs_f64() / sectors as f64;
         Pace {
             short: short.as_secs_f64(),
+            quiet: short.as_secs_f64(),
             each: each.max(1e-6),
             aim: 0.0,
         }
@@ -26,14 +29,14 @@ impl Pace {
 
     /// The most sectors to save: so many that a save takes some 30 milliseconds, where a disk has room for them.
     pub fn most_sectors(&self) -> usize {
-        (0.03 / self.each).clamp(40.0, 1000.0) as usize
+        (0.03 / self.each).clamp(24.0, 1000.0) as usize
     }
 
     /// A moment to kill a save of so many sectors: one in ten before its first write, some after its last, most between.
     pub fn moment(&mut self, draw: &mut Draw, sectors: usize) -> Moment {
         self.aim = draw.part() * 1.3 - 0.13;
         if self.aim < 0.0 {
-            return Moment::AfterStart(Duration::from_secs_f64(self.short * draw.part()));
+            return Moment::AfterStart(Duration::from_secs_f64(self.quiet * draw.part()));
         }
         Moment::AfterFirstWrite(Duration::from_secs_f64(self.aim * self.each * sectors as f64))
     }
@@ -46,6 +49,7 @@ impl Pace {
     /// What the last moment came to: `written` of `sectors`.
     pub fn learn(&mut self, end: &End, written: usize, sectors: usize) {
         if self.aim < 0.0 {
+            self.quiet *= if written > 0 { 0.8 } else { 1.05 };
             return;
         }
         if written > 0 && written < sectors {
@@ -58,8 +62,8 @@ impl Pace {
 
     pub fn words(&self) -> String {
         format!(
-            "a short run takes {:.2} ms, each sector {:.3} ms",
-            1e3 * self.short,
+            "{:.2} ms to the first write, {:.3} ms for each sector",
+            1e3 * self.quiet,
             1e3 * self.each
         )
     }

@@ -44,8 +44,8 @@ impl fmt::Display for Tally {
         let kills = self.kills();
         write!(
             f,
-            "{rounds} rounds, {kills} kills: {before} before the first write, {middle} in the middle, {after} after the last; "
+            "{rounds} rounds, {kills} kills: {before} before the first write, {middle} in the middle, "
         )?;
-        write!(f, "{done} done before the kill")
+        write!(f, "{after} after the last; {done} done before the kill")
     }
 }
