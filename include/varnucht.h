@@ -32,8 +32,12 @@
  *     free      the free sectors of a disk, from varnucht_list alone; else 0
  *
  * An image is the whole disk in memory, 819,200 bytes. Its sectors have 512 bytes and are numbered 0 to 1,599; sector s is
- * the bytes from 512 * s. The directory has 80 slots of 256 bytes. A slot is live when it holds a file. 1,560 sectors are
- * data sectors; a file of a carried kind (section 7) has 9 bytes of header and then its body in them, 510 bytes to a sector.
+ * the bytes from 512 * s. 40 of them are the directory: 80 slots of 256 bytes. A slot is live when it holds a file, and free
+ * when its byte 0 is zero. It says the file's kind and name, how many sectors the file has (its count), which they are (its
+ * map, a bit for each data sector) and which is the first. The other 1,560 are the data sectors. Each holds 510 bytes of a
+ * file and the address of the file's next sector; that is its chain. A file of a carried kind (section 7) begins with a
+ * header of 9 bytes, and its body follows. Every call but varnucht_sector checks the whole disk first: you need not call
+ * varnucht_check before it.
  */
 #ifndef VARNUCHT_H
 #define VARNUCHT_H
@@ -71,7 +75,7 @@ enum varnucht_size {
  * 12 to 20. So 12 to 20 say that the disk itself is good. varnucht_sector tests 1 and then 21, and looks at no directory.
  *
  * The slot comes with 2 to 11; with 13 and 14 of varnucht_read and varnucht_start, where it is the file's; with 16, where it
- * is that of the file which has the new name; and with 17. With all others it is 0. */
+ * is that of the file which has the new name; and with 17. With all others, 13 and 14 of varnucht_save too, it is 0. */
 enum varnucht_reason {
     VARNUCHT_ACCEPTED = 0,
     /* The disk is not good. Every call but varnucht_sector can give these; varnucht_sector can give 1. */
@@ -199,8 +203,10 @@ static inline unsigned varnucht_listed(const uint8_t *list, size_t i) { return l
  *   name     a new name (section 7)
  *   page     start page, 0 to 31
  *   offset   32,768 to 49,151; varnucht_start will give page * 16,384 + offset - 16,384
- *   exec     execution bytes: the first three are kept; fewer are filled with 0, so an empty slice is three zeros
- *   info     kind information: the first eleven bytes are kept; fewer are filled with 0
+ *   exec     execution bytes: where the SAM starts the file after loading; 255 in the first of three means nowhere. Three
+ *            are kept and any beyond are ignored; fewer are filled with 0, so an empty slice is three zeros and not "nowhere"
+ *   info     what the SAM keeps of the kind, such as the mode of a screen. Eleven bytes are kept and any beyond are ignored;
+ *            fewer are filled with 0
  *   body     the file's bytes, none allowed, at most 795,591 on an empty disk
  * The save takes the least n sectors with 510 * n at least 9 + body_len, and names those n and last the directory's.
  * Value: n + 1, 2 to 1,561. `list`: 2 * (n + 1) bytes. Refusals: 1 to 11, 12, 13, 14, 16, 18, 19, 20. */
