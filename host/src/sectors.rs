@@ -28,6 +28,29 @@ pub(crate) const LIST_LENGTH: usize = 2 * (DATA_SECTORS + 1);
 /// assert_eq!(&copy, disk.image());
 /// # Ok::<(), varnucht::Refused>(())
 /// ```
+///
+/// It is hard to forget. The compiler warns where the sectors are dropped unseen (here it is told to stop):
+///
+/// ```compile_fail
+/// #![deny(unused_must_use)]
+/// # use varnucht::{Disk, Image, Name, Refused};
+/// fn forget(disk: &mut Disk, name: &Name) -> Result<(), Refused> {
+///     disk.hide(name)?;
+///     Ok(())
+/// }
+/// ```
+///
+/// And no other change can be made before they are done with:
+///
+/// ```compile_fail,E0499
+/// # use varnucht::{Disk, Image, Name, Refused};
+/// fn overtake(disk: &mut Disk, name: &Name) -> Result<(), Refused> {
+///     let hidden = disk.hide(name)?;
+///     let protected = disk.protect(name)?;
+///     println!("{} {}", hidden.numbers().len(), protected.numbers().len());
+///     Ok(())
+/// }
+/// ```
 #[derive(Debug)]
 #[must_use = "the change is in memory alone until its sectors are written"]
 pub struct Sectors<'d> {

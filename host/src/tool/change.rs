@@ -1,16 +1,18 @@
 //! The changes: made on a copy for `--dry-run`, else in the file.
 use super::failure::{Failure, Outcome};
-use super::output;
+use super::output::{self, counted};
 use super::progress::Progress;
 use super::source;
-use super::values;
+use super::values::AskedName;
 use super::words::Given;
 use varnucht::{Change, Name, NewName, Refused, SectorNumber};
 
 /// Makes the change that `change` gives, or prints what it would write. The disk is opened before the change is asked for,
 /// so that refusals come in the order of document 01: the disk's first.
-pub fn perform<'a>(given: &Given, done: &str, change: impl FnOnce() -> Result<Change<'a>, Refused>) -> Outcome {
-    let refused = |refused| Failure::refused(given.word(0), refused);
+///
+/// `done` and `what` say what was done and to what.
+pub fn perform<'a>(given: &Given, done: &str, what: &str, change: impl FnOnce() -> Result<Change<'a>, Refused>) -> Outcome {
+    let refused = |refused| Failure::refused(given.word(0), what, refused);
     if given.has("--dry-run") {
         let disk = source::disk(given)?;
         let numbers = change().and_then(|change| disk.try_change(&change)).map_err(refused)?;
@@ -23,7 +25,10 @@ pub fn perform<'a>(given: &Given, done: &str, change: impl FnOnce() -> Result<Ch
     let written = sectors.write_to(&mut file, |written, of| progress.step(written, of));
     drop(progress);
     written.map_err(|error| Failure::Write(output::shown(given.word(0)), error))?;
-    output::confirm(&format!("{done}, {} written", counted(sectors.numbers().len())));
+    output::confirm(&format!(
+        "{done} {what}: {} written",
+        counted(sectors.numbers().len(), "sector")
+    ));
     Ok(())
 }
 
@@ -31,25 +36,14 @@ pub fn perform<'a>(given: &Given, done: &str, change: impl FnOnce() -> Result<Ch
 fn planned(numbers: &[SectorNumber]) -> String {
     let row = |number: &SectorNumber| format!("{number:>6}  {:>5}  {:>6}\n", number.track(), number.sector());
     let rows: String = numbers.iter().map(row).collect();
-    format!(
-        "number  track  sector\n{rows}{} would be written, in this order; nothing is written\n",
-        counted(numbers.len())
-    )
-}
-
-/// So many sectors.
-fn counted(many: usize) -> String {
-    if many == 1 {
-        "1 sector".to_string()
-    } else {
-        format!("{many} sectors")
-    }
+    let many = counted(numbers.len(), "sector");
+    format!("number  track  sector\n{rows}{many} would be written, in this order; nothing is written\n")
 }
 
 /// Makes a change that takes a name alone.
 fn on_name(given: &Given, done: &str, change: fn(Name) -> Change<'static>) -> Outcome {
-    let name = values::name(given, 1)?;
-    perform(given, done, || Name::new(name).map(change))
+    let name = AskedName::at(given, 1)?;
+    perform(given, done, &name.to_string(), || Name::new(name.bytes()).map(change))
 }
 
 /// Erases a file.
@@ -59,18 +53,19 @@ pub fn erase(given: &Given) -> Outcome {
 
 /// Gives a file another name.
 pub fn rename(given: &Given) -> Outcome {
-    let (name, new) = (values::name(given, 1)?, values::name(given, 2)?);
-    perform(given, "renamed", || Ok(Change::Rename(Name::new(name)?, NewName::new(new)?)))
+    let (name, new) = (AskedName::at(given, 1)?, AskedName::at(given, 2)?);
+    let change = || Ok(Change::Rename(Name::new(name.bytes())?, NewName::new(new.bytes())?));
+    perform(given, "renamed", &format!("{name} to {new}"), change)
 }
 
 /// Hides a file.
 pub fn hide(given: &Given) -> Outcome {
-    on_name(given, "hidden", Change::Hide)
+    on_name(given, "hid", Change::Hide)
 }
 
 /// Shows a hidden file.
 pub fn show(given: &Given) -> Outcome {
-    on_name(given, "shown", Change::Show)
+    on_name(given, "showed", Change::Show)
 }
 
 /// Protects a file.

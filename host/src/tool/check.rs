@@ -8,6 +8,6 @@ use super::words::Given;
 pub fn run(given: &Given) -> Outcome {
     source::image(given)?
         .check()
-        .map_err(|refused| Failure::refused(given.word(0), refused))?;
+        .map_err(|refused| Failure::unsound(given.word(0), refused))?;
     output::print("accepted\n")
 }

@@ -11,7 +11,9 @@ pub fn run(given: &Given) -> Outcome {
     let track = values::number(given, given.word(1))?;
     let sector = values::number(given, given.word(2))?;
     let image = source::image(given)?;
-    output::print(dump(&image, track, sector).map_err(|refused| Failure::refused(given.word(0), refused))?)
+    let text = dump(&image, track, sector);
+    let what = format!("track {track}, sector {sector}");
+    output::print(text.map_err(|refused| Failure::refused(given.word(0), &what, refused))?)
 }
 
 /// Where the sector is, and its bytes, sixteen to a line.

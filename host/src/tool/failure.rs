@@ -23,9 +23,14 @@ pub enum Failure {
 }
 
 impl Failure {
-    /// The library refused something of this file.
-    pub fn refused(path: &OsStr, refused: impl Into<Refused>) -> Failure {
+    /// The library refused the disk in this file.
+    pub fn unsound(path: &OsStr, refused: impl Into<Refused>) -> Failure {
         Failure::Refused(shown(path), refused.into())
+    }
+
+    /// The library refused a request on the disk in this file; `what` says on which of its files.
+    pub fn refused(path: &OsStr, what: &str, refused: Refused) -> Failure {
+        Failure::Refused(format!("{}: {what}", shown(path)), refused)
     }
 
     /// The command line was not understood.

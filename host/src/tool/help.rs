@@ -27,33 +27,27 @@ const HEAD: &str = "varnucht: disks of the SAM Coupé in image files of 819,200 
 const FOOT: &str = "
 Exit status:
   0  done
-  1  refused: the disk or the request is against the rules; the number and the words of the refusal are printed
+  1  refused: the disk or the request is against the rules; the number and the
+     words of the refusal are printed, with the slot that it was found at
   2  the command line was not understood
   3  something could not be read or written
 ";
 
 /// The help on all commands.
 fn all() -> String {
-    let lines = COMMANDS
-        .iter()
-        .map(|command| format!("  {:<26}  {}\n", called(command), command.brief));
-    let more = [("help [COMMAND]", "this, or more on a command"), ("--version", "the version")];
-    let more = more.map(|(called, brief)| format!("  {called:<26}  {brief}\n"));
-    [HEAD.to_string()]
-        .into_iter()
-        .chain(lines)
-        .chain(more)
-        .chain([FOOT.to_string()])
-        .collect()
+    let line = |called: &str, brief: &str| format!("  {called:<26} {brief}\n");
+    let lines: String = COMMANDS.iter().map(|command| line(&called(command), command.brief)).collect();
+    let more = line("help [COMMAND]", "this, or more on a command") + &line("--version", "the version");
+    format!("{HEAD}{lines}{more}{FOOT}")
 }
 
 /// The help on one command.
 fn one(command: &Command) -> String {
     let options = if command.options.is_empty() { "" } else { " [OPTION]..." };
-    let head = format!("varnucht {}{options}: {}\n\n", called(command), command.brief);
+    let head = format!("varnucht {}{options}\n\n{}\n\n", called(command), sentence(command.brief));
     let choices: String = command.options.iter().map(|choice| described(choice)).collect();
     let gap = if choices.is_empty() { "" } else { "\n" };
-    format!("{head}{choices}{gap}{}\n{FOOT}", command.more)
+    format!("{head}{choices}{gap}{}\n{FOOT}", command.more.join("\n"))
 }
 
 /// A command's name and what it takes.
@@ -61,8 +55,25 @@ fn called(command: &Command) -> String {
     format!("{} {}", command.name, command.places.join(" "))
 }
 
+/// Words with a capital and a full stop.
+fn sentence(words: &str) -> String {
+    let mut letters = words.chars();
+    letters
+        .next()
+        .into_iter()
+        .flat_map(char::to_uppercase)
+        .chain(letters)
+        .chain(['.'])
+        .collect()
+}
+
 /// An option, what it takes and what it does.
 fn described(choice: &Choice) -> String {
     let value = choice.value.map_or(String::new(), |value| format!(" {value}"));
-    format!("  {:<20}  {}\n", format!("{}{value}", choice.names.join(", ")), choice.says)
+    let indent = format!("\n{:21}", "");
+    format!(
+        "  {:<17}  {}\n",
+        format!("{}{value}", choice.names.join(", ")),
+        choice.says.replace('\n', &indent)
+    )
 }

@@ -1,6 +1,6 @@
 //! `list`: a table of the files.
 use super::failure::Outcome;
-use super::output;
+use super::output::{self, counted};
 use super::source;
 use super::words::Given;
 use varnucht::{Entry, Listing};
@@ -58,19 +58,12 @@ fn line(row: &[String; 7], widths: &[usize; 7]) -> String {
 
 /// How many files there are, and what is free.
 fn summary(listing: &Listing) -> String {
-    let files = listing.entries().len();
-    let room = listing.room().map_or("no room for a file".to_string(), |room| {
-        format!("room for a file of {room} bytes")
-    });
-    let files = if files == 1 {
-        "1 file".to_string()
-    } else {
-        format!("{files} files")
-    };
-    let sectors = if listing.free() == 1 {
-        "1 sector".to_string()
-    } else {
-        format!("{} sectors", listing.free())
-    };
-    format!("{files}, {sectors} free: {room}\n")
+    let (files, free) = (
+        counted(listing.entries().len(), "file"),
+        counted(listing.free().into(), "sector"),
+    );
+    match listing.room() {
+        Some(room) => format!("{files}, {free} free: room for a file of {room} bytes\n"),
+        None => format!("{files}, no sector free\n"),
+    }
 }

@@ -4,7 +4,7 @@ use super::failure::Outcome;
 use super::output;
 use super::source;
 use super::words::Given;
-use varnucht::{Entry, Listing, SECTORS, SectorNumber};
+use varnucht::{DATA_SECTORS, Entry, Listing, SECTORS, SectorNumber};
 
 /// Prints the picture.
 pub fn run(given: &Given) -> Outcome {
@@ -76,17 +76,9 @@ fn scale(first_track: usize) -> String {
 /// What the signs mean: the slot and the name of each file, in columns.
 fn legend(text: &mut Painted, listing: &Listing) {
     text.add(DIRECTORY.1, "#");
-    text.add(Paint::Plain, " directory  ");
+    text.add(Paint::Plain, &format!(" directory ({})  ", SECTORS - DATA_SECTORS));
     text.add(FREE.1, ".");
-    text.add(Paint::Plain, &format!(" free ({})", listing.free()));
-    text.add(
-        Paint::Plain,
-        if listing.entries().is_empty() {
-            "\n"
-        } else {
-            "  and by slot and name:\n"
-        },
-    );
+    text.add(Paint::Plain, &format!(" free ({})\n", listing.free()));
     let words: Vec<String> = listing.entries().iter().map(meaning).collect();
     let width = words.iter().map(String::len).max().unwrap_or(0);
     // A cell is the sign, a space, the words and two spaces; a line has 80.

@@ -11,6 +11,7 @@ mod dump;
 mod failure;
 mod help;
 mod list;
+mod make;
 mod map;
 mod output;
 mod progress;

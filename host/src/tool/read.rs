@@ -1,8 +1,9 @@
 //! `read`: a file's body, to standard output or to a file.
 use super::failure::{Failure, Outcome};
+use super::make::make;
 use super::output;
 use super::source;
-use super::values;
+use super::values::AskedName;
 use super::words::Given;
 use std::ffi::OsStr;
 use std::fs;
@@ -10,21 +11,19 @@ use varnucht::Name;
 
 /// Gives the body of the file named.
 pub fn run(given: &Given) -> Outcome {
-    let name = values::name(given, 1)?;
-    let force = given.has("--force");
-    let output = given.value("-o");
-    if force && output.is_none() {
+    let name = AskedName::at(given, 1)?;
+    let file = given.value("-o").filter(|file| *file != "-");
+    if given.has("--force") && file.is_none() {
         return Err(given.usage("`--force` goes with `-o FILE`"));
     }
-    if output.is_some_and(|output| same(output, given.word(0))) {
+    if file.is_some_and(|file| same(file, given.word(0))) {
         return Err(given.usage("FILE is IMAGE itself, which would be lost"));
     }
     let disk = source::disk(given)?;
-    let body = Name::new(name)
-        .and_then(|name| disk.read(&name))
-        .map_err(|refused| Failure::refused(given.word(0), refused))?;
-    match output {
-        Some(output) => output::make(output, &body, force),
+    let body = Name::new(name.bytes()).and_then(|name| disk.read(&name));
+    let body = body.map_err(|refused| Failure::refused(given.word(0), &name.to_string(), refused))?;
+    match file {
+        Some(file) => make(file, &body, given.has("--force")),
         None => output::print(body),
     }
 }

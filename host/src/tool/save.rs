@@ -2,7 +2,7 @@
 use super::change::perform;
 use super::failure::{Failure, Outcome};
 use super::source;
-use super::values;
+use super::values::{self, AskedName};
 use super::words::Given;
 use std::ffi::OsStr;
 use std::fs::File;
@@ -11,7 +11,7 @@ use varnucht::{CarriedKind, Change, LONGEST_BODY, NO_EXECUTION, NewFile, NewName
 
 /// Saves the body under the name.
 pub fn run(given: &Given) -> Outcome {
-    let name = values::name(given, 1)?;
+    let name = AskedName::at(given, 1)?;
     let kind = given
         .value("--kind")
         .map_or(Ok(CarriedKind::Code.number().into()), |word| values::kind(given, word))?;
@@ -23,9 +23,9 @@ pub fn run(given: &Given) -> Outcome {
     let information = values::bytes_or(given, "--info", [0; 11])?;
     // The body comes first, since standard input can take its time; the image is not locked meanwhile.
     let body = body(given.word(2))?;
-    perform(given, "saved", || {
+    perform(given, "saved", &name.to_string(), || {
         // In the order of their refusals: 12, 13, 14.
-        let (name, kind) = (NewName::new(name)?, CarriedKind::from_number(kind)?);
+        let (name, kind) = (NewName::new(name.bytes())?, CarriedKind::from_number(kind)?);
         let file = NewFile::new(kind, name, Start::new(page, offset)?, &body);
         Ok(Change::Save(NewFile {
             execution,

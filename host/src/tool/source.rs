@@ -22,20 +22,25 @@ pub fn image(given: &Given) -> Result<Image, Failure> {
 
 /// The disk in the file at the first place.
 pub fn disk(given: &Given) -> Result<Disk, Failure> {
-    Disk::open(image(given)?).map_err(|unsound| Failure::refused(given.word(0), unsound))
+    Disk::open(image(given)?).map_err(|unsound| Failure::unsound(given.word(0), unsound))
 }
 
 /// The disk in the file at the first place, to be changed. The file is locked for this process alone as long as it is open.
 pub fn changing(given: &Given) -> Result<(File, Disk), Failure> {
     let path = given.word(0);
-    let mut file = File::options()
-        .read(true)
-        .write(true)
-        .open(path)
-        .map_err(|error| Failure::io(path, error))?;
+    let mut file = open_to_change(path).map_err(|error| Failure::io(path, error))?;
     lock(&file, given, true)?;
-    let disk = Disk::open(read(&mut file, path)?).map_err(|unsound| Failure::refused(path, unsound))?;
+    let disk = Disk::open(read(&mut file, path)?).map_err(|unsound| Failure::unsound(path, unsound))?;
     Ok((file, disk))
+}
+
+/// Opens a file for reading and writing. A pipe or a terminal holds no disk, and reading it could wait for ever.
+fn open_to_change(path: &OsStr) -> io::Result<File> {
+    let file = File::options().read(true).write(true).open(path)?;
+    match file.metadata()?.is_file() {
+        true => Ok(file),
+        false => Err(io::Error::other("it is not a file, so it cannot be changed")),
+    }
 }
 
 /// Locks a file, alone or shared. Where another program holds it this waits, and says so, unless it shall not.
@@ -64,7 +69,7 @@ fn lock(file: &File, given: &Given, alone: bool) -> Result<(), Failure> {
 /// The image that a file holds. Of a longer file no more is read than shows that it is too long.
 fn read(file: &mut File, path: &OsStr) -> Result<Image, Failure> {
     let bytes = front(file, IMAGE_LENGTH).map_err(|error| Failure::io(path, error))?;
-    Image::from_bytes(bytes).map_err(|wrong| Failure::refused(path, wrong))
+    Image::from_bytes(bytes).map_err(|wrong| Failure::unsound(path, wrong))
 }
 
 /// All bytes that a source gives, where they are no more than `most`; else one more than `most` of them.

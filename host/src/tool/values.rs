@@ -3,13 +3,34 @@ use super::failure::Failure;
 use super::output::shown;
 use super::words::Given;
 use std::ffi::OsStr;
+use std::fmt;
 use varnucht::CarriedKind;
-use varnucht::escape::unescape;
+use varnucht::escape::{escape, unescape};
 
-/// The bytes of a name, with its escapes undone. Whether it is a usable name is not asked here.
-pub fn name(given: &Given, place: usize) -> Result<Vec<u8>, Failure> {
-    let word = given.word(place);
-    unescape(word.as_encoded_bytes()).map_err(|bad| given.usage(format!("`{}`: {bad}", shown(word))))
+/// The bytes of a name of the command line, with its escapes undone. Whether it is usable as a name is not asked here.
+pub struct AskedName(Vec<u8>);
+
+impl AskedName {
+    /// The name at a place of the command line.
+    pub fn at(given: &Given, place: usize) -> Result<AskedName, Failure> {
+        let word = given.word(place);
+        let bytes = unescape(word.as_encoded_bytes());
+        bytes
+            .map(AskedName)
+            .map_err(|bad| given.usage(format!("`{}`: {bad}", shown(word))))
+    }
+
+    /// Its bytes.
+    pub fn bytes(&self) -> &[u8] {
+        &self.0
+    }
+}
+
+impl fmt::Display for AskedName {
+    /// With escapes, as `list` prints names.
+    fn fmt(&self, f: &mut fmt::Formatter<'_>) -> fmt::Result {
+        f.write_str(&escape(&self.0))
+    }
 }
 
 /// A number, decimal or after `0x` hexadecimal. One too large for 32 bits counts as the largest: it is out of every range
