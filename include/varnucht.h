@@ -204,7 +204,7 @@ static inline unsigned varnucht_listed(const uint8_t *list, size_t i) { return l
  *   page     start page, 0 to 31
  *   offset   32,768 to 49,151; varnucht_start will give page * 16,384 + offset - 16,384
  *   exec     execution bytes: where the SAM starts the file after loading; 255 in the first of three means nowhere. Three
- *            are kept and any beyond are ignored; fewer are filled with 0, so an empty slice is three zeros and not "nowhere"
+ *            are kept and any beyond are ignored; fewer are filled with 0, so an empty slice is three zeros and not 255
  *   info     what the SAM keeps of the kind, such as the mode of a screen. Eleven bytes are kept and any beyond are ignored;
  *            fewer are filled with 0
  *   body     the file's bytes, none allowed, at most 795,591 on an empty disk
