@@ -1,34 +1,43 @@
-/* Varnucht: SAM Coupé disk images. The C layer of the reading half.
+/* Varnucht: disk images of the SAM Coupé. Check a disk, list it, read a file's body, give its start address, find a raw
+ * sector; save, erase, rename, hide, show, protect and release files. C99 and C++. Link libvarnucht.a.
  *
- * Every call answers one number:
+ * Contents: 1 what a call takes and answers, 2 sizes, 3 refusals, 4 the calls that read, 5 the calls that change, and how
+ * to write what they changed, 6 reading a listing, 7 names and kinds, 8 what is proved and where it runs. A whole program
+ * stands in examples/tunes.c.
+ *
+ *
+ * 1. WHAT A CALL TAKES AND ANSWERS
+ *
+ * A slice is a pointer and then its length in bytes. It may have any length and any content: every call on every input ends
+ * and answers. NULL with length 0 is an empty slice.
+ *
+ * A slice with a `const` pointer is only read. A slice without one (`out`, `list`, the `image` of a change) may be changed,
+ * and must not overlap any other slice of the same call. Slices that are only read may overlap each other. The likely
+ * mistake is a name that points into the image that the call changes, or into the buffer that it fills: copy the name out
+ * first.
+ *
+ * You own every buffer before, during and after a call. The library allocates nothing, keeps no pointer and has no state:
+ * what a call does depends on its arguments alone. So calls on different buffers may run at once on different threads, and
+ * calls that only read may share an image. Nobody may read or write a buffer while a call that may change it is running.
+ * Nothing outside is called but memcpy, memset and their like. A save needs less than 8 KiB of stack, every other call less
+ * than 2 KiB.
+ *
+ * Every call answers one number with four parts, which the functions below take apart:
  *
  *     answer = refusal + 256 * slot + 2^24 * value + 2^48 * free
  *
- * refusal 0: accepted; slot is then 0.  Refused: value and free are 0, and nothing that was lent has changed.
- * The slot (1 to 80) is the one that a refusal was found at: given with 2 to 11, and with 13 and 14 of a file that was
- * found; else 0.
+ *     refusal   0: accepted. Else a number of section 3; then value and free are 0, and no byte of any buffer has changed.
+ *     slot      the slot of the directory, 1 to 80, that a refusal was found at (section 3 says with which numbers), else 0
+ *     value     what the call says below
+ *     free      the free sectors of a disk, from varnucht_list alone; else 0
  *
- * A slice is a pointer and a number of bytes, of any number. A pointer must not be null, also for no bytes, and an output
- * buffer must overlap no other slice of the call. An image of any length and any content gets an answer.
- *
- * Refusals of these calls:
- *      1  the image is not 819,200 bytes
- *      2  the kind is not known
- *      3  the first name byte is 0
- *      4  the count is not 1 to 1,560
- *      5  the map's set bits are not as many as the count
- *      6  the first address is not a data sector, or its bit is clear
- *      7  the sectors are too few for the length
- *      8  the map shares a bit with an earlier file's
- *      9  the name is an earlier file's
- *     10  the chain is broken
- *     11  the header differs from the slot
- *     12  the name is not usable: it has no byte or more than ten, or begins with byte 0
- *     13  the file's kind is not carried (16 to 20)
- *     14  the offset is outside 32,768 to 49,151
- *     15  no file has the name
- *     20  the output buffer is too short
- *     21  no such drive, track or sector
+ * An image is the whole disk in memory, 819,200 bytes. Its sectors have 512 bytes and are numbered 0 to 1,599; sector s is
+ * the bytes from 512 * s. 40 of them are the directory: 80 slots of 256 bytes. A slot is live when it holds a file, and free
+ * when its byte 0 is zero. It says the file's kind and name, how many sectors the file has (its count), which they are (its
+ * map, a bit for each data sector) and which is the first. The other 1,560 are the data sectors. Each holds 510 bytes of a
+ * file and the address of the file's next sector; that is its chain. A file of a carried kind (section 7) begins with a
+ * header of 9 bytes, and its body follows. Every call but varnucht_sector checks the whole disk first: you need not call
+ * varnucht_check before it.
  */
 #ifndef VARNUCHT_H
 #define VARNUCHT_H
@@ -40,30 +49,284 @@
 extern "C" {
 #endif
 
-#define VARNUCHT_REFUSAL(answer) ((unsigned)((answer) & 0xff))
-#define VARNUCHT_SLOT(answer) ((unsigned)((answer) >> 8 & 0xffff))
-#define VARNUCHT_VALUE(answer) ((uint32_t)((answer) >> 24 & 0xffffff))
-#define VARNUCHT_FREE(answer) ((unsigned)((answer) >> 48))
+static inline unsigned varnucht_refusal(uint64_t answer) { return (unsigned)(answer & 0xff); }
+static inline unsigned varnucht_slot(uint64_t answer) { return (unsigned)(answer >> 8 & 0xffff); }
+static inline uint32_t varnucht_value(uint64_t answer) { return (uint32_t)(answer >> 24 & 0xffffff); }
+static inline unsigned varnucht_free(uint64_t answer) { return (unsigned)(answer >> 48); }
 
-/* Whether a disk is accepted: 0, or the first refusal of 1 to 11. */
+/* 2. SIZES. A buffer of the size given here is always long enough. */
+enum varnucht_size {
+    VARNUCHT_IMAGE_BYTES = 819200,      /* an image has exactly so many */
+    VARNUCHT_SECTOR_BYTES = 512,
+    VARNUCHT_DATA_SECTORS = 1560,       /* free on an empty disk */
+    VARNUCHT_SLOTS = 80,
+    VARNUCHT_NAME_BYTES = 10,
+    VARNUCHT_INFO_BYTES = 11,           /* kind information of a save */
+    VARNUCHT_EXEC_BYTES = 3,            /* execution bytes of a save */
+    VARNUCHT_ENTRY_BYTES = 258,         /* one file of a listing */
+    VARNUCHT_LISTING_BYTES = 20640,     /* `out` of varnucht_list: 80 * 258 */
+    VARNUCHT_BODY_BYTES = 795591,       /* `out` of varnucht_read; the longest body on an empty disk: 510 * 1,560 - 9 */
+    VARNUCHT_SAVE_LIST_BYTES = 3122,    /* `list` of varnucht_save: 2 * 1,561 */
+    VARNUCHT_CHANGE_LIST_BYTES = 2      /* `list` of every other change */
+};
+
+/* 3. REFUSALS, in the words of the rules (document 01), in the order in which they are tested: 1 first; then 2 to 9 at every
+ * live slot, the lowest slot first and at a slot the lowest number; then 10 and 11 likewise; then the lowest that applies of
+ * 12 to 20. So 12 to 20 say that the disk itself is good. varnucht_sector tests 1 and then 21, and looks at no directory.
+ *
+ * The slot comes with 2 to 11; with 13 and 14 of varnucht_read and varnucht_start, where it is the file's; with 16, where it
+ * is that of the file which has the new name; and with 17. With all others, 13 and 14 of varnucht_save too, it is 0. */
+enum varnucht_reason {
+    VARNUCHT_ACCEPTED = 0,
+    /* The disk is not good. Every call but varnucht_sector can give these; varnucht_sector can give 1. */
+    VARNUCHT_NOT_AN_IMAGE = 1,          /* the image is not 819,200 bytes */
+    VARNUCHT_KIND_UNKNOWN = 2,          /* the kind is not known (1 to 12 and 16 to 23 are) */
+    VARNUCHT_NAME_MISSING = 3,          /* the first name byte is 0 */
+    VARNUCHT_COUNT_OUT_OF_RANGE = 4,    /* the count is not 1 to 1,560 */
+    VARNUCHT_BITS_DIFFER = 5,           /* the map's set bits are not as many as the count */
+    VARNUCHT_FIRST_NOT_OWN = 6,         /* the first address is not a data sector, or its bit is clear */
+    VARNUCHT_LENGTH_TOO_GREAT = 7,      /* carried kind, and 510 * count is below 9 + length */
+    VARNUCHT_SECTOR_SHARED = 8,         /* the map shares a bit with an earlier live slot */
+    VARNUCHT_NAME_TWICE = 9,            /* the ten name bytes equal an earlier live slot's */
+    VARNUCHT_CHAIN_BROKEN = 10,         /* the chain of sectors is broken: a link that leads out of the file's own sectors or
+                                           back to one already passed, or a last link that is not 0, 0 */
+    VARNUCHT_HEADER_DIFFERS = 11,       /* carried kind, and the header's first byte, remainder or pages differ from the
+                                           slot's kind, remainder, pages */
+    /* The request is not good, or cannot be met. Each call says which of these it can give. */
+    VARNUCHT_NAME_NOT_USABLE = 12,      /* the name is not usable: section 7 */
+    VARNUCHT_KIND_NOT_CARRIED = 13,     /* the kind asked for (save) or found (read, start) is not 16 to 20 */
+    VARNUCHT_START_OUT_OF_RANGE = 14,   /* start page above 31, or offset outside 32,768 to 49,151 (save, start) */
+    VARNUCHT_NAME_NOT_FOUND = 15,       /* no live slot has the name */
+    VARNUCHT_NAME_TAKEN = 16,           /* a live slot has the new name */
+    VARNUCHT_FILE_PROTECTED = 17,       /* protected (erase, rename) */
+    VARNUCHT_NO_FREE_SLOT = 18,         /* no slot has byte 0 zero: 80 files are there (save) */
+    VARNUCHT_TOO_FEW_SECTORS = 19,      /* fewer free sectors than the save takes */
+    VARNUCHT_BUFFER_TOO_SHORT = 20,     /* a lent output buffer is too short; tested last, and the buffer is unchanged */
+    VARNUCHT_NO_SUCH_SECTOR = 21        /* no such drive, track or sector (varnucht_sector alone) */
+};
+
+/* A refusal in the words of the rules, for a message; UTF-8. A string that lasts, never NULL, for any number. */
+static inline const char *varnucht_words(unsigned refusal) {
+    switch (refusal) {
+    case VARNUCHT_ACCEPTED: return "accepted";
+    case VARNUCHT_NOT_AN_IMAGE: return "the image is not 819,200 bytes";
+    case VARNUCHT_KIND_UNKNOWN: return "the kind is not known";
+    case VARNUCHT_NAME_MISSING: return "the first name byte is 0";
+    case VARNUCHT_COUNT_OUT_OF_RANGE: return "the count is not 1 to 1,560";
+    case VARNUCHT_BITS_DIFFER: return "the map's set bits are not as many as the count";
+    case VARNUCHT_FIRST_NOT_OWN: return "the first address is not a data sector, or its bit is clear";
+    case VARNUCHT_LENGTH_TOO_GREAT: /* with a multiplication sign */
+        return "carried kind, and 510 \xc3\x97 count is below 9 + length";
+    case VARNUCHT_SECTOR_SHARED: return "the map shares a bit with an earlier live slot";
+    case VARNUCHT_NAME_TWICE: return "the ten name bytes equal an earlier live slot's";
+    case VARNUCHT_CHAIN_BROKEN: return "the chain is broken";
+    case VARNUCHT_HEADER_DIFFERS:
+        return "carried kind, and the header's first byte (whole), remainder (mod 16,384) or pages differ from the slot's "
+               "kind, remainder, pages";
+    case VARNUCHT_NAME_NOT_USABLE: return "the name is not usable";
+    case VARNUCHT_KIND_NOT_CARRIED: return "the kind asked for (save) or found (read, start address) is not carried";
+    case VARNUCHT_START_OUT_OF_RANGE:
+        return "start page above 31, or offset outside 32,768 to 49,151 (save, start address)";
+    case VARNUCHT_NAME_NOT_FOUND: return "no live slot has the name";
+    case VARNUCHT_NAME_TAKEN: return "a live slot has the new name";
+    case VARNUCHT_FILE_PROTECTED: return "protected (erase, rename)";
+    case VARNUCHT_NO_FREE_SLOT: return "no slot has byte 0 zero (save)";
+    case VARNUCHT_TOO_FEW_SECTORS: return "fewer free sectors than the save takes";
+    case VARNUCHT_BUFFER_TOO_SHORT: return "a lent output buffer is too short";
+    case VARNUCHT_NO_SUCH_SECTOR: return "no such drive, track or sector";
+    default: return "not a number of refusal";
+    }
+}
+
+/* 4. THE CALLS THAT READ. They change nothing but `out`. `image` is the disk; anything but 819,200 bytes is refused 1. A
+ * name has 1 to 10 bytes (section 7). What a call does not fill of `out` stays as it was. */
+
+/* Whether the disk is good. Its directory, sector maps and chains agree exactly when this accepts. Value: 0.
+ * Refusals: 1 to 11. */
 uint64_t varnucht_check(const uint8_t *image, size_t image_len);
 
-/* The listing: 258 bytes for each file, hidden ones too, by rising slot: the slot's number, low byte first, and its 256
- * bytes. The rest of the buffer stays. Value: how many files; free: the free sectors. 20,640 bytes are always enough. */
+/* Every file, hidden ones too, by rising slot, at 258 bytes each from the front of `out`; section 6 says how to read them.
+ * Value: how many files, 0 to 80. Free: the free sectors, 0 to 1,560. `out`: 258 bytes for each file, and
+ * VARNUCHT_LISTING_BYTES always suffice. Refusals: 1 to 11, 20. */
 uint64_t varnucht_list(const uint8_t *image, size_t image_len, uint8_t *out, size_t out_len);
 
-/* A file's body, to the front of the buffer; the rest stays. Value: its length. 795,591 bytes are always enough. A name of
- * fewer than ten bytes is filled with spaces; names are compared byte for byte. */
+/* A file's body, to the front of `out`. Value: its length in bytes, 0 to 795,591. `out`: as long as the body
+ * (varnucht_entry_length tells), and VARNUCHT_BODY_BYTES always suffice. Refusals: 1 to 11, 12, 13, 15, 20. */
 uint64_t varnucht_read(const uint8_t *image, size_t image_len, const uint8_t *name, size_t name_len, uint8_t *out,
                        size_t out_len);
 
-/* A file's start address. Value: page * 16,384 + offset - 16,384. */
+/* The address that a file is loaded to. Value: page * 16,384 + offset - 16,384, which is 16,384 to 540,671.
+ * Refusals: 1 to 11, 12, 13, 14, 15. */
 uint64_t varnucht_start(const uint8_t *image, size_t image_len, const uint8_t *name, size_t name_len);
 
-/* A raw sector of the image of drive 1 or 2, whose directories are not looked at: refusals 1 (either image) and 21.
- * Value: the place of its 512 bytes in that image. Tracks are 0 to 79 and 128 to 207, sectors 1 to 10. */
+/* A raw sector of one of two disks, whatever they hold: no directory is looked at.
+ *   one, two   the images of drives 1 and 2. Both must have 819,200 bytes, whichever is chosen; they may be the same bytes
+ *   drive      1 or 2
+ *   track      0 to 79 on the first side, 128 to 207 on the second
+ *   sector     1 to 10
+ * Any other drive, track or sector is refused 21. Value: where the sector's 512 bytes begin in the image of that drive, a
+ * multiple of 512. Nothing is copied. Refusals: 1, 21. */
 uint64_t varnucht_sector(const uint8_t *one, size_t one_len, const uint8_t *two, size_t two_len, uint32_t drive,
                          uint32_t track, uint32_t sector);
+
+/* 5. THE CALLS THAT CHANGE, AND HOW TO WRITE WHAT THEY CHANGED
+ *
+ * A change is made whole in `image`, in memory. It fills `list` from the front with the numbers of the sectors it wrote, two
+ * bytes to a number, low byte first (varnucht_listed reads them), and the rest of `list` stays. Value: how many numbers. No
+ * number occurs twice, and a sector that is not named is unchanged. A list of L bytes has room for L / 2 numbers, and an odd
+ * last byte holds none; where that is too few the call is refused 20 and changes nothing.
+ *
+ * Where the image is also kept in a file, write the named sectors there IN THE ORDER OF THE LIST, EACH WHOLE, and no other:
+ *
+ *     for (i = 0; i < varnucht_value(answer); i++) {
+ *         size_t at = (size_t)VARNUCHT_SECTOR_BYTES * varnucht_listed(list, i);
+ *         write the 512 bytes from image + at to the place `at` of the file, in one piece;
+ *         flush them to the storage (fsync or its like);
+ *     }
+ *
+ * Then, if that is stopped after any number of sectors, because the app is killed or the power fails, the file holds a disk
+ * that varnucht_check accepts, and
+ *   - if any sector is missing, varnucht_list, varnucht_read and varnucht_start answer exactly as before the change, free
+ *     sectors included: it has not happened, nothing is lost or used up, and it can be asked for again;
+ *   - if none is missing, it is the changed disk, byte for byte;
+ *   - in either case every file that the change did not ask for by name keeps its slot and its sectors, byte for byte.
+ * You may rely on that only if no sector reaches the storage before one that stands earlier in the list, and none reaches it
+ * in part. Where a write fails, the image in memory is ahead of the file: read it again from there before the next change.
+ *
+ * `list`: VARNUCHT_SAVE_LIST_BYTES for a save and VARNUCHT_CHANGE_LIST_BYTES for any other change always suffice. */
+
+/* The sector number at place i of a list, i below the value answered. */
+static inline unsigned varnucht_listed(const uint8_t *list, size_t i) { return list[2 * i] + 256u * list[2 * i + 1]; }
+
+/* Saves a new file into the lowest free slot and the lowest free sectors, neither hidden nor protected.
+ *   kind     16 to 20
+ *   name     a new name (section 7)
+ *   page     start page, 0 to 31
+ *   offset   32,768 to 49,151; varnucht_start will give page * 16,384 + offset - 16,384
+ *   exec     execution bytes: where the SAM starts the file after loading; 255 in the first of three means nowhere. Three
+ *            are kept and any beyond are ignored; fewer are filled with 0, so an empty slice is three zeros and not 255
+ *   info     what the SAM keeps of the kind, such as the mode of a screen. Eleven bytes are kept and any beyond are ignored;
+ *            fewer are filled with 0
+ *   body     the file's bytes, none allowed, at most 795,591 on an empty disk
+ * The save takes the least n sectors with 510 * n at least 9 + body_len, and names those n and last the directory's.
+ * Value: n + 1, 2 to 1,561. `list`: 2 * (n + 1) bytes. Refusals: 1 to 11, 12, 13, 14, 16, 18, 19, 20. */
+uint64_t varnucht_save(uint8_t *image, size_t image_len, uint32_t kind, const uint8_t *name, size_t name_len, uint32_t page,
+                       uint32_t offset, const uint8_t *exec, size_t exec_len, const uint8_t *info, size_t info_len,
+                       const uint8_t *body, size_t body_len, uint8_t *list, size_t list_len);
+
+/* Erases a file: its slot and its sectors are free from then on. Value: 1. Refusals: 1 to 11, 12, 15, 17, 20. */
+uint64_t varnucht_erase(uint8_t *image, size_t image_len, const uint8_t *name, size_t name_len, uint8_t *list,
+                        size_t list_len);
+
+/* Gives a file a new name (section 7); a name that any file has is refused 16, the file's own too. Value: 1.
+ * Refusals: 1 to 11, 12 (either name), 15, 16, 17, 20. */
+uint64_t varnucht_rename(uint8_t *image, size_t image_len, const uint8_t *name, size_t name_len, const uint8_t *new_name,
+                         size_t new_name_len, uint8_t *list, size_t list_len);
+
+/* Mark a file: hide sets the mark that show clears, protect the one that release clears. Nothing else changes. Where the
+ * mark is so already the call is accepted and names its sector all the same. A hidden file is listed and found like any
+ * other. A protected one cannot be erased or renamed. Value: 1. Refusals: 1 to 11, 12, 15, 20. */
+uint64_t varnucht_hide(uint8_t *image, size_t image_len, const uint8_t *name, size_t name_len, uint8_t *list,
+                       size_t list_len);
+uint64_t varnucht_show(uint8_t *image, size_t image_len, const uint8_t *name, size_t name_len, uint8_t *list,
+                       size_t list_len);
+uint64_t varnucht_protect(uint8_t *image, size_t image_len, const uint8_t *name, size_t name_len, uint8_t *list,
+                          size_t list_len);
+uint64_t varnucht_release(uint8_t *image, size_t image_len, const uint8_t *name, size_t name_len, uint8_t *list,
+                          size_t list_len);
+
+/* 6. READING A LISTING. An entry is the slot's number, 2 bytes, low byte first, and then the slot's 256 bytes. These are the
+ * places of its fields in the entry; the functions below read them. */
+enum varnucht_entry_field {
+    VARNUCHT_ENTRY_SLOT = 0,            /* 2 bytes, low byte first */
+    VARNUCHT_ENTRY_STATUS = 2,          /* bit 7 hidden, bit 6 protected, bits 0 to 5 the kind */
+    VARNUCHT_ENTRY_NAME = 3,            /* 10 bytes, filled with spaces */
+    VARNUCHT_ENTRY_SECTORS = 13,        /* 2 bytes, high byte first */
+    VARNUCHT_ENTRY_FIRST_TRACK = 15,    /* where the file's first sector is */
+    VARNUCHT_ENTRY_FIRST_SECTOR = 16,
+    VARNUCHT_ENTRY_MAP = 17,            /* 195 bytes: bit b mod 8 of byte b / 8 says whether data sector b is the file's */
+    VARNUCHT_ENTRY_INFO = 223,          /* 11 bytes */
+    VARNUCHT_ENTRY_PAGE = 238,          /* bits 0 to 4 */
+    VARNUCHT_ENTRY_OFFSET = 239,        /* 2 bytes, low byte first */
+    VARNUCHT_ENTRY_PAGES = 241,         /* whole pages of 16,384 bytes in the length */
+    VARNUCHT_ENTRY_REMAINDER = 242,     /* 2 bytes, low byte first, bits 0 to 13: the rest of the length */
+    VARNUCHT_ENTRY_EXEC = 244           /* 3 bytes */
+};
+
+/* Entry i of a listing, i below the value that varnucht_list answered. */
+static inline const uint8_t *varnucht_entry(const uint8_t *listing, size_t i) { return listing + VARNUCHT_ENTRY_BYTES * i; }
+
+/* The slot's number, 1 to 80. */
+static inline unsigned varnucht_entry_slot(const uint8_t *entry) {
+    return entry[VARNUCHT_ENTRY_SLOT] + 256u * entry[VARNUCHT_ENTRY_SLOT + 1];
+}
+
+/* Whether the file is hidden; whether it is protected; its kind. */
+static inline int varnucht_entry_hidden(const uint8_t *entry) { return entry[VARNUCHT_ENTRY_STATUS] >> 7; }
+static inline int varnucht_entry_protected(const uint8_t *entry) { return entry[VARNUCHT_ENTRY_STATUS] >> 6 & 1; }
+static inline unsigned varnucht_entry_kind(const uint8_t *entry) { return entry[VARNUCHT_ENTRY_STATUS] & 63u; }
+
+/* Whether the kind is carried, 16 to 20: then the file can be read and has a length and a start. */
+static inline int varnucht_entry_carried(const uint8_t *entry) {
+    return varnucht_entry_kind(entry) >= 16 && varnucht_entry_kind(entry) <= 20;
+}
+
+/* The name's ten bytes, with no 0 behind them; and how many are left without the spaces at the end. Given to a call, both
+ * lengths ask for the same file. On a disk from elsewhere a name may hold any bytes, not text alone. */
+static inline const uint8_t *varnucht_entry_name(const uint8_t *entry) { return entry + VARNUCHT_ENTRY_NAME; }
+static inline size_t varnucht_entry_name_len(const uint8_t *entry) {
+    size_t len = VARNUCHT_NAME_BYTES;
+    while (len > 1 && entry[VARNUCHT_ENTRY_NAME + len - 1] == 32) {
+        len--;
+    }
+    return len;
+}
+
+/* How many sectors the file takes, 1 to 1,560. */
+static inline unsigned varnucht_entry_sectors(const uint8_t *entry) {
+    return 256u * entry[VARNUCHT_ENTRY_SECTORS] + entry[VARNUCHT_ENTRY_SECTORS + 1];
+}
+
+/* The length of the body in bytes, 0 to 795,591; of a kind that is not carried 0. */
+static inline uint32_t varnucht_entry_length(const uint8_t *entry) {
+    uint32_t low = entry[VARNUCHT_ENTRY_REMAINDER], high = entry[VARNUCHT_ENTRY_REMAINDER + 1] & 63u;
+    return varnucht_entry_carried(entry) ? entry[VARNUCHT_ENTRY_PAGES] * UINT32_C(16384) + 256 * high + low : 0;
+}
+
+/* Start page, 0 to 31, and offset of a carried kind. varnucht_start joins them, or refuses an offset out of range. */
+static inline unsigned varnucht_entry_page(const uint8_t *entry) { return entry[VARNUCHT_ENTRY_PAGE] & 31u; }
+static inline unsigned varnucht_entry_offset(const uint8_t *entry) {
+    return entry[VARNUCHT_ENTRY_OFFSET] + 256u * entry[VARNUCHT_ENTRY_OFFSET + 1];
+}
+
+/* The eleven bytes of kind information; the three execution bytes. */
+static inline const uint8_t *varnucht_entry_info(const uint8_t *entry) { return entry + VARNUCHT_ENTRY_INFO; }
+static inline const uint8_t *varnucht_entry_exec(const uint8_t *entry) { return entry + VARNUCHT_ENTRY_EXEC; }
+
+/* 7. NAMES AND KINDS
+ *
+ * A name is given as 1 to 10 bytes with no 0 behind them, so "TUNES" has length 5. A shorter name is filled with spaces (32)
+ * to ten bytes, and then names compare byte for byte: "TUNES" and "TUNES " are one name, "TUNES" and "tunes" are two. A name
+ * asked for may hold any bytes, but the first is not 0. A new name (save, rename) has bytes 32 to 126 alone, and the first
+ * is not 32. Anything else is refused 12.
+ *
+ * A kind is a number. 1 to 12 and 16 to 23 are known, and their files are listed, erased, renamed and marked. Only the
+ * carried kinds, 16 to 20, have a body and a start address for these calls, and only they can be saved. */
+enum varnucht_kind {                    /* the carried kinds */
+    VARNUCHT_KIND_BASIC = 16,
+    VARNUCHT_KIND_NUMBERS = 17,         /* a numeric array */
+    VARNUCHT_KIND_STRINGS = 18,         /* a string array */
+    VARNUCHT_KIND_CODE = 19,            /* machine code, or any bytes */
+    VARNUCHT_KIND_SCREEN = 20
+};
+
+/* 8. WHAT IS PROVED AND WHERE IT RUNS
+ *
+ * The library is written in Rattle. For every call and every input it is proved that the call ends, that its answer and
+ * every lent buffer at return are those that the rules give, and that a stop between two writes leaves what section 5 says.
+ * The proof is about the library's source. It takes for granted that the compiler keeps its meaning, and that the caller
+ * keeps the rules on slices of section 1 and writes as section 5 says. The small functions of this header are plain C: they
+ * are tested and not proved. libvarnucht.a is compiled for x86-64 alone as of now; the header names no processor. */
 
 #ifdef __cplusplus
 }

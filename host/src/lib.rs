@@ -1,1 +1,106 @@
+//! Disk images of the SAM Coupé: check, list, read, save, erase, rename, hide, show, protect and release.
+//!
+//! The work is done by a library that is proved correct, for every image and every request. This crate puts types over it:
+//!
+//! | type | what its values have already passed |
+//! |---|---|
+//! | [`Image`] | it is 819,200 bytes: refusal 1 is ruled out |
+//! | [`Disk`] | the library has accepted it: refusals 1 to 11 are ruled out |
+//! | [`Name`], [`NewName`] | usable as a name asked for, as a new name: refusal 12 is ruled out |
+//! | [`CarriedKind`], [`Start`] | a save takes them: refusals 13 and 14 of a save are ruled out |
+//! | [`Drive`], [`Track`], [`Sector`] | they are there: refusal 21 is ruled out |
+//!
+//! Buffers are made as long as they must be, so refusal 20 is ruled out too. What is left is what only the disk itself can
+//! tell: is there a file of that name (15), is the new name free (16), is the file protected (17), is there a slot (18), are
+//! there sectors (19), does the file have a body (13) and a start address (14).
+//!
+//! The types are a convenience. Every request still goes to the library, and every decision is its answer.
+//!
+//! # A disk in memory
+//!
+//! ```
+//! use varnucht::{CarriedKind, Disk, Image, Name, NewFile, NewName, Start};
+//!
+//! let mut disk = Disk::open(Image::blank())?;
+//! let file = NewFile::new(CarriedKind::Code, NewName::new("TUNES")?, Start::new(1, 32_768)?, b"la la la");
+//! let sectors = disk.save(&file)?;
+//! assert_eq!(sectors.numbers().len(), 2); // one of data, and then the directory's
+//!
+//! let name = Name::new("TUNES")?;
+//! assert_eq!(disk.read(&name)?, b"la la la");
+//! assert_eq!(disk.start(&name)?, 32_768);
+//! assert_eq!(disk.listing().free(), 1_559);
+//!
+//! let refused = disk.save(&file).unwrap_err();
+//! assert_eq!(refused.to_string(), "refusal 16 at slot 1: a live slot has the new name");
+//! # Ok::<(), Box<dyn std::error::Error>>(())
+//! ```
+//!
+//! # A disk in a file
+//!
+//! A change answers with the [`Sectors`] that it altered, in the order in which they are to be written. Wherever that
+//! writing is cut short, the file holds the old disk until the last sector is written, and the new one from then on:
+//! [`Sectors::write_to`] does it, and waits for each sector to reach the disk before it goes on to the next.
+//!
+//! ```
+//! use std::fs::File;
+//! use std::io::{Read, Write};
+//! use varnucht::{Disk, Image, Name};
+//!
+//! # let path = std::env::temp_dir().join(format!("varnucht-doc-{}.mgt", std::process::id()));
+//! # let mut made = Disk::open(Image::blank())?;
+//! # let new = varnucht::NewName::new("TUNES")?;
+//! # let start = varnucht::Start::new(1, 32_768)?;
+//! # let _ = made.save(&varnucht::NewFile::new(varnucht::CarriedKind::Code, new, start, b"la"))?;
+//! # File::create(&path)?.write_all(made.image().as_bytes())?;
+//! let mut file = File::options().read(true).write(true).open(&path)?;
+//! file.lock()?;
+//! let mut bytes = Vec::new();
+//! file.read_to_end(&mut bytes)?;
+//!
+//! let mut disk = Disk::open(Image::from_bytes(bytes)?)?;
+//! disk.hide(&Name::new("TUNES")?)?.write_to(&mut file, |written, of| println!("{written} of {of}"))?;
+//! # assert_eq!(&std::fs::read(&path)?[..], &disk.image().as_bytes()[..]);
+//! # std::fs::remove_file(&path)?;
+//! # Ok::<(), Box<dyn std::error::Error>>(())
+//! ```
+//!
+//! # Words
+//!
+//! "Document 01" and "the paper" are the rules that the library is proved against. A refusal prints their words. Below the
+//! types stand [`calls`], the twelve calls on byte slices, and [`raw`], the C layer itself.
+#![warn(missing_docs)]
+
+mod answer;
+pub mod calls;
+mod change;
+mod disk;
+mod drives;
+mod entry;
+pub mod escape;
+mod image;
+mod kind;
+mod listing;
+mod name;
+mod place;
+#[allow(missing_docs)]
 pub mod raw;
+mod refusal;
+mod sectors;
+mod start;
+mod store;
+
+pub use answer::{Accepted, Answer};
+pub use change::{Change, NO_EXECUTION, NewFile};
+pub use disk::{Disk, Unsound};
+pub use drives::Drives;
+pub use entry::Entry;
+pub use image::{IMAGE_LENGTH, Image, WrongLength};
+pub use kind::{CarriedKind, Kind};
+pub use listing::Listing;
+pub use name::{NAME_LENGTH, Name, NewName};
+pub use place::{DATA_SECTORS, Drive, SECTOR_LENGTH, SECTORS, Sector, SectorNumber, Track};
+pub use refusal::{Refusal, Refused, Slot};
+pub use sectors::{LONGEST_BODY, Sectors};
+pub use start::Start;
+pub use store::{Store, WriteError};

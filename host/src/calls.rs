@@ -1,0 +1,153 @@
+//! The twelve calls on byte slices: safe, and total on every input, but without types that rule anything out.
+//!
+//! Each function hands its slices to the C layer and gives back the [`Answer`]. Nothing is decided here. A refused call
+//! changes no byte of anything lent. In the changes, `list` takes the numbers of the sectors to write, two bytes to a number,
+//! low byte first; 3,122 bytes are enough for every change.
+//!
+//! All unsafe code of the crate stands in this file.
+use crate::answer::Answer;
+use crate::raw;
+
+/// Whether the image is an accepted disk. Value: 0.
+pub fn check(image: &[u8]) -> Answer {
+    // SAFETY: the pointer and the length are those of a slice that is only read.
+    Answer::from_number(unsafe { raw::varnucht_check(image.as_ptr(), image.len()) })
+}
+
+/// The listing: 258 bytes for each live slot, its number and its 256 bytes. Value: how many; free: the free sectors.
+pub fn list(image: &[u8], out: &mut [u8]) -> Answer {
+    // SAFETY: pointers and lengths are those of slices, and `out` is borrowed alone.
+    Answer::from_number(unsafe { raw::varnucht_list(image.as_ptr(), image.len(), out.as_mut_ptr(), out.len()) })
+}
+
+/// A file's body, copied to the front of `out`. Value: its length.
+pub fn read(image: &[u8], name: &[u8], out: &mut [u8]) -> Answer {
+    // SAFETY: pointers and lengths are those of slices, and `out` is borrowed alone.
+    Answer::from_number(unsafe {
+        raw::varnucht_read(
+            image.as_ptr(),
+            image.len(),
+            name.as_ptr(),
+            name.len(),
+            out.as_mut_ptr(),
+            out.len(),
+        )
+    })
+}
+
+/// A file's start address. Value: the address.
+pub fn start(image: &[u8], name: &[u8]) -> Answer {
+    // SAFETY: pointers and lengths are those of slices that are only read.
+    Answer::from_number(unsafe { raw::varnucht_start(image.as_ptr(), image.len(), name.as_ptr(), name.len()) })
+}
+
+/// A raw sector of the image of drive 1 or 2; no directory is checked. Value: the place of its 512 bytes in that image.
+pub fn sector(one: &[u8], two: &[u8], drive: u32, track: u32, sector: u32) -> Answer {
+    // SAFETY: pointers and lengths are those of slices that are only read.
+    Answer::from_number(unsafe {
+        raw::varnucht_sector(one.as_ptr(), one.len(), two.as_ptr(), two.len(), drive, track, sector)
+    })
+}
+
+/// What a save is asked for.
+#[derive(Clone, Copy, Debug)]
+pub struct Wish<'a> {
+    /// The kind; a save takes 16 to 20.
+    pub kind: u32,
+    /// The new name.
+    pub name: &'a [u8],
+    /// The start page, 0 to 31.
+    pub page: u32,
+    /// The offset in the page, 32,768 to 49,151.
+    pub offset: u32,
+    /// The execution bytes: three; fewer are filled with 0, any beyond are ignored.
+    pub execution: &'a [u8],
+    /// The kind information: eleven bytes; fewer are filled with 0, any beyond are ignored.
+    pub information: &'a [u8],
+    /// The body.
+    pub body: &'a [u8],
+}
+
+/// Saves a file. Value: how many sectors are to be written.
+pub fn save(image: &mut [u8], wish: &Wish, list: &mut [u8]) -> Answer {
+    // SAFETY: pointers and lengths are those of slices; `image` and `list` are borrowed alone.
+    Answer::from_number(unsafe {
+        raw::varnucht_save(
+            image.as_mut_ptr(),
+            image.len(),
+            wish.kind,
+            wish.name.as_ptr(),
+            wish.name.len(),
+            wish.page,
+            wish.offset,
+            wish.execution.as_ptr(),
+            wish.execution.len(),
+            wish.information.as_ptr(),
+            wish.information.len(),
+            wish.body.as_ptr(),
+            wish.body.len(),
+            list.as_mut_ptr(),
+            list.len(),
+        )
+    })
+}
+
+/// Gives a file a new name. Value: how many sectors are to be written.
+pub fn rename(image: &mut [u8], name: &[u8], new: &[u8], list: &mut [u8]) -> Answer {
+    // SAFETY: pointers and lengths are those of slices; `image` and `list` are borrowed alone.
+    Answer::from_number(unsafe {
+        raw::varnucht_rename(
+            image.as_mut_ptr(),
+            image.len(),
+            name.as_ptr(),
+            name.len(),
+            new.as_ptr(),
+            new.len(),
+            list.as_mut_ptr(),
+            list.len(),
+        )
+    })
+}
+
+/// A call of the C layer that takes an image to change, a name and a list.
+type OnName = unsafe extern "C" fn(*mut u8, usize, *const u8, usize, *mut u8, usize) -> u64;
+
+/// Hands the slices to a call that takes a name alone.
+fn on_name(call: OnName, image: &mut [u8], name: &[u8], list: &mut [u8]) -> Answer {
+    // SAFETY: pointers and lengths are those of slices; `image` and `list` are borrowed alone.
+    Answer::from_number(unsafe {
+        call(
+            image.as_mut_ptr(),
+            image.len(),
+            name.as_ptr(),
+            name.len(),
+            list.as_mut_ptr(),
+            list.len(),
+        )
+    })
+}
+
+/// Erases a file. Value: how many sectors are to be written.
+pub fn erase(image: &mut [u8], name: &[u8], list: &mut [u8]) -> Answer {
+    on_name(raw::varnucht_erase, image, name, list)
+}
+
+/// Marks a file as hidden. Value: how many sectors are to be written.
+pub fn hide(image: &mut [u8], name: &[u8], list: &mut [u8]) -> Answer {
+    on_name(raw::varnucht_hide, image, name, list)
+}
+
+/// Takes a file's hidden mark away. Value: how many sectors are to be written.
+pub fn show(image: &mut [u8], name: &[u8], list: &mut [u8]) -> Answer {
+    on_name(raw::varnucht_show, image, name, list)
+}
+
+/// Marks a file as protected. Value: how many sectors are to be written.
+pub fn protect(image: &mut [u8], name: &[u8], list: &mut [u8]) -> Answer {
+    on_name(raw::varnucht_protect, image, name, list)
+}
+
+/// Takes a file's protected mark away. Value: how many sectors are to be written.
+pub fn release(image: &mut [u8], name: &[u8], list: &mut [u8]) -> Answer {
+    on_name(raw::varnucht_release, image, name, list)
+}

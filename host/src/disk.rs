@@ -1,0 +1,164 @@
+//! Accepted disks.
+use crate::calls;
+use crate::change::{Change, NewFile};
+use crate::image::Image;
+use crate::listing::Listing;
+use crate::name::{Name, NewName};
+use crate::place::SectorNumber;
+use crate::refusal::Refused;
+use crate::sectors::{LIST_LENGTH, Sectors};
+use std::error::Error;
+use std::fmt;
+
+/// A disk that the library has accepted, with its listing.
+///
+/// Every change of an accepted disk leaves an accepted disk, which is proved. So no call here is refused 1 to 11.
+///
+/// A clone copies the image: 819,200 bytes.
+#[derive(Clone, Debug, PartialEq, Eq)]
+pub struct Disk {
+    image: Image,
+    listing: Listing,
+}
+
+impl Disk {
+    /// Opens a disk: checks the image and lists it. Refused 2 to 11 with the slot; the error hands the image back.
+    ///
+    /// ```
+    /// use varnucht::{Disk, Image};
+    ///
+    /// let mut image = Image::blank();
+    /// image.as_bytes_mut()[0] = 19; // a file of code without a name in slot 1
+    /// let unsound = Disk::open(image).unwrap_err();
+    /// assert_eq!(unsound.to_string(), "refusal 3 at slot 1: the first name byte is 0");
+    /// let image = unsound.image; // nothing is lost
+    /// # let _ = image;
+    /// ```
+    pub fn open(image: Image) -> Result<Disk, Unsound> {
+        match Listing::of(&image) {
+            Ok(listing) => Ok(Disk { image, listing }),
+            Err(refused) => Err(Unsound { image, refused }),
+        }
+    }
+
+    /// The image as it is now.
+    pub fn image(&self) -> &Image {
+        &self.image
+    }
+
+    /// The image, given up as a disk.
+    pub fn into_image(self) -> Image {
+        self.image
+    }
+
+    /// The files and the free sectors. It is kept with the disk and costs nothing.
+    pub fn listing(&self) -> &Listing {
+        &self.listing
+    }
+
+    /// A file's body. Refused 15 where there is no such file, 13 with the slot where its kind is not carried.
+    ///
+    /// The whole disk is looked at, and the body is copied into a new vector of its length.
+    pub fn read(&self, name: &Name) -> Result<Vec<u8>, Refused> {
+        // The listing gives the room that is needed. Where it gives none the library refuses for another reason.
+        let room = self.listing.find(name).and_then(|entry| entry.length()).unwrap_or(0);
+        let mut body = vec![0; room as usize];
+        let done = calls::read(self.image.as_bytes(), name.as_bytes(), &mut body).decode()?;
+        body.truncate(done.value as usize);
+        Ok(body)
+    }
+
+    /// A file's start address. Refused 15 where there is no such file; with the slot 13 where its kind is not carried, and
+    /// 14 where its offset is out of range.
+    pub fn start(&self, name: &Name) -> Result<u32, Refused> {
+        calls::start(self.image.as_bytes(), name.as_bytes())
+            .decode()
+            .map(|done| done.value)
+    }
+
+    /// Makes a change in memory and gives the sectors that are to be written. Refused as the [`Change`] says; then nothing
+    /// has changed.
+    ///
+    /// The disk is looked at twice: once to make the change, once to list it anew.
+    pub fn change(&mut self, change: &Change) -> Result<Sectors<'_>, Refused> {
+        let mut list = [0; LIST_LENGTH];
+        let done = change.make(&mut self.image, &mut list).decode()?;
+        // An accepted change leaves an accepted disk, so this is not refused. If it were, nothing would be written anywhere,
+        // and every later call would be refused by the library.
+        self.listing = Listing::of(&self.image)?;
+        Ok(Sectors::new(&self.image, &list, done.value))
+    }
+
+    /// Makes a change on a copy, and tells which sectors it would write. This disk stays as it is. Refused as the
+    /// [`Change`] says. The image is copied.
+    ///
+    /// ```
+    /// use varnucht::{Change, Disk, Image, Name};
+    ///
+    /// let disk = Disk::open(Image::blank())?;
+    /// let refused = disk.try_change(&Change::Erase(Name::new("TUNES")?)).unwrap_err();
+    /// assert_eq!(refused.refusal.number(), 15);
+    /// # Ok::<(), Box<dyn std::error::Error>>(())
+    /// ```
+    pub fn try_change(&self, change: &Change) -> Result<Vec<SectorNumber>, Refused> {
+        Ok(self.clone().change(change)?.into_numbers())
+    }
+
+    /// Saves a file: [`Change::Save`]. Refused 16 with the slot that has the name, 18 and 19.
+    pub fn save(&mut self, file: &NewFile) -> Result<Sectors<'_>, Refused> {
+        self.change(&Change::Save(*file))
+    }
+
+    /// Erases a file: [`Change::Erase`]. Refused 15, and 17 with the slot.
+    pub fn erase(&mut self, name: &Name) -> Result<Sectors<'_>, Refused> {
+        self.change(&Change::Erase(*name))
+    }
+
+    /// Gives a file another name: [`Change::Rename`]. Refused 15, and 16 and 17 with the slot.
+    pub fn rename(&mut self, name: &Name, new: &NewName) -> Result<Sectors<'_>, Refused> {
+        self.change(&Change::Rename(*name, *new))
+    }
+
+    /// Hides a file: [`Change::Hide`]. Refused 15.
+    pub fn hide(&mut self, name: &Name) -> Result<Sectors<'_>, Refused> {
+        self.change(&Change::Hide(*name))
+    }
+
+    /// Shows a hidden file: [`Change::Show`]. Refused 15.
+    pub fn show(&mut self, name: &Name) -> Result<Sectors<'_>, Refused> {
+        self.change(&Change::Show(*name))
+    }
+
+    /// Protects a file: [`Change::Protect`]. Refused 15.
+    pub fn protect(&mut self, name: &Name) -> Result<Sectors<'_>, Refused> {
+        self.change(&Change::Protect(*name))
+    }
+
+    /// Takes a file's protection away: [`Change::Release`]. Refused 15.
+    pub fn release(&mut self, name: &Name) -> Result<Sectors<'_>, Refused> {
+        self.change(&Change::Release(*name))
+    }
+}
+
+/// An image that is no accepted disk, and why.
+#[derive(Clone, Debug, PartialEq, Eq)]
+pub struct Unsound {
+    /// The image, as it was.
+    pub image: Image,
+    /// The first refusal of the check, and its slot.
+    pub refused: Refused,
+}
+
+impl From<Unsound> for Refused {
+    fn from(unsound: Unsound) -> Refused {
+        unsound.refused
+    }
+}
+
+impl fmt::Display for Unsound {
+    fn fmt(&self, f: &mut fmt::Formatter<'_>) -> fmt::Result {
+        self.refused.fmt(f)
+    }
+}
+
+impl Error for Unsound {}

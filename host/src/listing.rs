@@ -1,0 +1,51 @@
+//! The listing of an accepted disk.
+use crate::calls;
+use crate::entry::Entry;
+use crate::image::Image;
+use crate::name::Name;
+use crate::refusal::Refused;
+
+/// A directory has at most 80 files.
+const SLOTS: usize = 80;
+
+/// The files of a disk, hidden ones too, by rising slot, and how many sectors are free.
+#[derive(Clone, Debug, PartialEq, Eq)]
+pub struct Listing {
+    entries: Vec<Entry>,
+    free: u16,
+}
+
+impl Listing {
+    /// The library's listing of an image. Refused 2 to 11 where the image is no accepted disk.
+    pub(crate) fn of(image: &Image) -> Result<Listing, Refused> {
+        let mut out = [0; SLOTS * Entry::LISTED];
+        let done = calls::list(image.as_bytes(), &mut out).decode()?;
+        let many = usize::try_from(done.value).unwrap_or(usize::MAX);
+        let entries = out.as_chunks().0.iter().take(many).filter_map(Entry::listed).collect();
+        Ok(Listing {
+            entries,
+            free: done.free,
+        })
+    }
+
+    /// The files, by rising slot.
+    pub fn entries(&self) -> &[Entry] {
+        &self.entries
+    }
+
+    /// The file of this name, if there is one.
+    pub fn find(&self, name: &Name) -> Option<&Entry> {
+        self.entries.iter().find(|entry| entry.name() == *name)
+    }
+
+    /// How many of the 1,560 data sectors are free.
+    pub fn free(&self) -> u16 {
+        self.free
+    }
+
+    /// The length of the longest body that the free sectors can take, with its nine header bytes; none where no sector is
+    /// free.
+    pub fn room(&self) -> Option<u32> {
+        (510 * u32::from(self.free)).checked_sub(9)
+    }
+}

@@ -1,0 +1,79 @@
+//! The changes: made on a copy for `--dry-run`, else in the file.
+use super::failure::{Failure, Outcome};
+use super::output::{self, counted};
+use super::progress::Progress;
+use super::source;
+use super::values::AskedName;
+use super::words::Given;
+use varnucht::{Change, Name, NewName, Refused, SectorNumber};
+
+/// Makes the change that `change` gives, or prints what it would write. The disk is opened before the change is asked for,
+/// so that refusals come in the order of document 01: the disk's first.
+///
+/// `done` and `what` say what was done and to what.
+pub fn perform<'a>(given: &Given, done: &str, what: &str, change: impl FnOnce() -> Result<Change<'a>, Refused>) -> Outcome {
+    let refused = |refused| Failure::refused(given.word(0), what, refused);
+    if given.has("--dry-run") {
+        let disk = source::disk(given)?;
+        let numbers = change().and_then(|change| disk.try_change(&change)).map_err(refused)?;
+        return output::print(planned(&numbers));
+    }
+    let (mut file, mut disk) = source::changing(given)?;
+    let change = change().map_err(refused)?;
+    let sectors = disk.change(&change).map_err(refused)?;
+    let mut progress = Progress::new();
+    let written = sectors.write_to(&mut file, |written, of| progress.step(written, of));
+    drop(progress);
+    written.map_err(|error| Failure::Write(output::shown(given.word(0)), error))?;
+    output::confirm(&format!(
+        "{done} {what}: {} written",
+        counted(sectors.numbers().len(), "sector")
+    ));
+    Ok(())
+}
+
+/// The sectors that would be written, in their order.
+fn planned(numbers: &[SectorNumber]) -> String {
+    let row = |number: &SectorNumber| format!("{number:>6}  {:>5}  {:>6}\n", number.track(), number.sector());
+    let rows: String = numbers.iter().map(row).collect();
+    let many = counted(numbers.len(), "sector");
+    format!("number  track  sector\n{rows}{many} would be written, in this order; nothing is written\n")
+}
+
+/// Makes a change that takes a name alone.
+fn on_name(given: &Given, done: &str, change: fn(Name) -> Change<'static>) -> Outcome {
+    let name = AskedName::at(given, 1)?;
+    perform(given, done, &name.to_string(), || Name::new(name.bytes()).map(change))
+}
+
+/// Erases a file.
+pub fn erase(given: &Given) -> Outcome {
+    on_name(given, "erased", Change::Erase)
+}
+
+/// Gives a file another name.
+pub fn rename(given: &Given) -> Outcome {
+    let (name, new) = (AskedName::at(given, 1)?, AskedName::at(given, 2)?);
+    let change = || Ok(Change::Rename(Name::new(name.bytes())?, NewName::new(new.bytes())?));
+    perform(given, "renamed", &format!("{name} to {new}"), change)
+}
+
+/// Hides a file.
+pub fn hide(given: &Given) -> Outcome {
+    on_name(given, "hid", Change::Hide)
+}
+
+/// Shows a hidden file.
+pub fn show(given: &Given) -> Outcome {
+    on_name(given, "showed", Change::Show)
+}
+
+/// Protects a file.
+pub fn protect(given: &Given) -> Outcome {
+    on_name(given, "protected", Change::Protect)
+}
+
+/// Takes a file's protection away.
+pub fn release(given: &Given) -> Outcome {
+    on_name(given, "released", Change::Release)
+}

@@ -1,0 +1,196 @@
+//! The table of commands.
+use super::failure::Outcome;
+use super::words::Given;
+use super::{blank, change, check, dump, list, map, read, save};
+
+/// A command of the tool.
+pub struct Command {
+    /// What it is called by.
+    pub name: &'static str,
+    /// What it takes, in order.
+    pub places: &'static [&'static str],
+    /// Its options.
+    pub options: &'static [&'static Choice],
+    /// What it does, in a line.
+    pub brief: &'static str,
+    /// What else is to be known of it, by paragraphs.
+    pub more: &'static [&'static str],
+    /// Does it.
+    pub run: fn(&Given) -> Outcome,
+}
+
+/// An option of a command.
+pub struct Choice {
+    /// What it is called by; the first is its name in the code.
+    pub names: &'static [&'static str],
+    /// What value it takes, if it takes one.
+    pub value: Option<&'static str>,
+    /// What it does.
+    pub says: &'static str,
+}
+
+/// A choice that takes a value.
+const fn valued(names: &'static [&'static str], value: &'static str, says: &'static str) -> Choice {
+    Choice {
+        names,
+        value: Some(value),
+        says,
+    }
+}
+
+/// A choice that is there or not.
+const fn flag(names: &'static [&'static str], says: &'static str) -> Choice {
+    Choice {
+        names,
+        value: None,
+        says,
+    }
+}
+
+// Where a choice has a usual value, it stands in brackets. No line of the help is longer than 80 letters.
+const NO_WAIT: Choice = flag(
+    &["--no-wait"],
+    "where another program has locked IMAGE, give up
+(status 3) and do not wait",
+);
+const DRY_RUN: Choice = flag(
+    &["--dry-run"],
+    "print the sectors that would be written, in their
+order, and write nothing",
+);
+const COLOR: Choice = valued(
+    &["--color"],
+    "WHEN",
+    "always, never or auto: on a terminal, where NO_COLOR
+is not set (auto)",
+);
+const OUTPUT: Choice = valued(
+    &["-o", "--output"],
+    "FILE",
+    "write the body to FILE and not to standard output",
+);
+const FORCE: Choice = flag(&["--force"], "let FILE take the place of an older one");
+const KIND: Choice = valued(
+    &["--kind"],
+    "KIND",
+    "basic, numeric-array, string-array, code or screen,
+or its number, 16 to 20 (code)",
+);
+const PAGE: Choice = valued(&["--page"], "N", "the start page, 0 to 31 (1)");
+const OFFSET: Choice = valued(&["--offset"], "N", "the offset in the page, 32768 to 49151 (32768)");
+const EXEC: Choice = valued(
+    &["--exec"],
+    "HEX",
+    "up to 3 execution bytes (ffffff: it does not run when
+it is loaded)",
+);
+const INFO: Choice = valued(&["--info"], "HEX", "up to 11 bytes of kind information (all zero)");
+
+/// What is said of names wherever a command takes one.
+const NAMES: &str = r"A name has 1 to 10 bytes. `\xHH` stands for the byte with that hexadecimal
+number and `\\` for a backslash, as `list` prints them. Before a name that
+begins with `-` write `--`.";
+
+/// What is said of every change.
+const SAFE: &str = "The sectors are written in the order that keeps the disk sound, each flushed
+to the disk before the next: cut short anywhere, IMAGE holds the old disk
+until the last one is written. IMAGE is locked meanwhile.";
+
+/// What is said of a save.
+const START: &str = "The usual start, page 1 and offset 32768, is address 32768.";
+
+/// What is said of numbers.
+const NUMBERS: &str = "A number may be written as 0x and hexadecimal digits.";
+
+/// A command that changes the file of one name.
+const fn on_name(name: &'static str, brief: &'static str, run: fn(&Given) -> Outcome) -> Command {
+    Command {
+        name,
+        places: &["IMAGE", "NAME"],
+        options: &[&DRY_RUN, &NO_WAIT],
+        brief,
+        more: &[SAFE, NAMES],
+        run,
+    }
+}
+
+/// All commands but `help`.
+pub const COMMANDS: &[Command] = &[
+    Command {
+        name: "check",
+        places: &["IMAGE"],
+        options: &[&NO_WAIT],
+        brief: "tell whether a disk is sound",
+        more: &["Prints `accepted`, or says which slot is wrong and why."],
+        run: check::run,
+    },
+    Command {
+        name: "list",
+        places: &["IMAGE"],
+        options: &[&NO_WAIT],
+        brief: "list the files, hidden ones too",
+        more: &["Marks: `h` hidden, `p` protected. Length and start address are given for the
+kinds that have them, 16 to 20."],
+        run: list::run,
+    },
+    Command {
+        name: "map",
+        places: &["IMAGE"],
+        options: &[&COLOR, &NO_WAIT],
+        brief: "draw the 1,600 sectors and whose they are",
+        more: &["A column is a track and a row a sector, 1 to 10; the first side is above the
+second. Each file has a sign, and the signs are named below."],
+        run: map::run,
+    },
+    Command {
+        name: "read",
+        places: &["IMAGE", "NAME"],
+        options: &[&OUTPUT, &FORCE, &NO_WAIT],
+        brief: "give a file's body",
+        more: &[NAMES],
+        run: read::run,
+    },
+    Command {
+        name: "save",
+        places: &["IMAGE", "NAME", "FILE"],
+        options: &[&KIND, &PAGE, &OFFSET, &EXEC, &INFO, &DRY_RUN, &NO_WAIT],
+        brief: "save FILE (`-`: standard input) under a new name",
+        more: &[START, NUMBERS, SAFE, NAMES],
+        run: save::run,
+    },
+    on_name("erase", "erase a file", change::erase),
+    Command {
+        name: "rename",
+        places: &["IMAGE", "NAME", "NEW"],
+        options: &[&DRY_RUN, &NO_WAIT],
+        brief: "give a file another name",
+        more: &[SAFE, NAMES],
+        run: change::rename,
+    },
+    on_name("hide", "hide a file", change::hide),
+    on_name("show", "show a hidden file", change::show),
+    on_name("protect", "protect a file from erasing and renaming", change::protect),
+    on_name("release", "take a file's protection away", change::release),
+    Command {
+        name: "sector",
+        places: &["IMAGE", "TRACK", "SECTOR"],
+        options: &[&NO_WAIT],
+        brief: "dump one raw sector; no directory is checked",
+        more: &["Tracks are 0 to 79 and 128 to 207, sectors 1 to 10.", NUMBERS],
+        run: dump::run,
+    },
+    Command {
+        name: "blank",
+        places: &["IMAGE"],
+        options: &[],
+        brief: "make a new image, a disk without a file",
+        more: &["IMAGE is 819,200 zero bytes. One that is there already stays as it is
+(status 3)."],
+        run: blank::run,
+    },
+];
+
+/// The command of this name.
+pub fn find(name: &str) -> Option<&'static Command> {
+    COMMANDS.iter().find(|command| command.name == name)
+}

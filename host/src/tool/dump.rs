@@ -1,0 +1,43 @@
+//! `sector`: one raw sector in hexadecimal.
+use super::failure::{Failure, Outcome};
+use super::output;
+use super::source;
+use super::values;
+use super::words::Given;
+use varnucht::{Image, Refused, Sector, SectorNumber, Track};
+
+/// Prints the sector.
+pub fn run(given: &Given) -> Outcome {
+    let track = values::number(given, given.word(1))?;
+    let sector = values::number(given, given.word(2))?;
+    let image = source::image(given)?;
+    let text = dump(&image, track, sector);
+    let what = format!("track {track}, sector {sector}");
+    output::print(text.map_err(|refused| Failure::refused(given.word(0), &what, refused))?)
+}
+
+/// Where the sector is, and its bytes, sixteen to a line.
+fn dump(image: &Image, track: u32, sector: u32) -> Result<String, Refused> {
+    let (track, sector) = (Track::new(track)?, Sector::new(sector)?);
+    let bytes = image.sector(track, sector)?;
+    let number = SectorNumber::of(track, sector);
+    let head = format!(
+        "track {track}, sector {sector}: number {number}, byte {} of the image\n",
+        number.place()
+    );
+    let lines = bytes
+        .as_chunks()
+        .0
+        .iter()
+        .zip((0..).step_by(16))
+        .map(|(bytes, place)| line(place, bytes));
+    Ok(head + &lines.collect::<String>())
+}
+
+/// Sixteen bytes: their place in the sector, in hexadecimal, and as letters where they are any.
+fn line(place: usize, bytes: &[u8; 16]) -> String {
+    let hex = |bytes: &[u8]| bytes.iter().map(|byte| format!(" {byte:02x}")).collect::<String>();
+    let letter = |byte: &u8| if (32..=126).contains(byte) { char::from(*byte) } else { '.' };
+    let letters: String = bytes.iter().map(letter).collect();
+    format!("{place:03x} {} {}  |{letters}|\n", hex(&bytes[..8]), hex(&bytes[8..]))
+}

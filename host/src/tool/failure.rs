@@ -1,0 +1,66 @@
+//! What a command could not do: its words and its exit status.
+use super::output::shown;
+use std::ffi::OsStr;
+use std::io;
+use varnucht::{Refused, WriteError};
+
+/// What a command gives back.
+pub type Outcome = Result<(), Failure>;
+
+/// Why a command was not done.
+#[derive(Debug)]
+pub enum Failure {
+    /// The library refused it. Status 1.
+    Refused(String, Refused),
+    /// The command line was not understood. Status 2. The command, if it was found, is named for its help.
+    Usage(String, Option<&'static str>),
+    /// Something could not be read or written. Status 3.
+    Io(String, io::Error),
+    /// The sectors of a change could not all be written. Status 3.
+    Write(String, WriteError),
+    /// Nobody reads standard output any more. Status 3, and nothing is said.
+    Closed,
+}
+
+impl Failure {
+    /// The library refused the disk in this file.
+    pub fn unsound(path: &OsStr, refused: impl Into<Refused>) -> Failure {
+        Failure::Refused(shown(path), refused.into())
+    }
+
+    /// The library refused a request on the disk in this file; `what` says on which of its files.
+    pub fn refused(path: &OsStr, what: &str, refused: Refused) -> Failure {
+        Failure::Refused(format!("{}: {what}", shown(path)), refused)
+    }
+
+    /// The command line was not understood.
+    pub fn usage(words: impl Into<String>, command: Option<&'static str>) -> Failure {
+        Failure::Usage(words.into(), command)
+    }
+
+    /// This file could not be read or written.
+    pub fn io(path: &OsStr, error: io::Error) -> Failure {
+        Failure::Io(shown(path), error)
+    }
+
+    /// The exit status.
+    pub fn status(&self) -> u8 {
+        match self {
+            Failure::Refused(..) => 1,
+            Failure::Usage(..) => 2,
+            Failure::Io(..) | Failure::Write(..) | Failure::Closed => 3,
+        }
+    }
+
+    /// What to say of it, if anything.
+    pub fn words(&self) -> Option<String> {
+        match self {
+            Failure::Refused(what, refused) => Some(format!("{what}: {refused}")),
+            Failure::Usage(words, None) => Some(format!("{words}\nTry `varnucht help`.")),
+            Failure::Usage(words, Some(command)) => Some(format!("{words}\nTry `varnucht help {command}`.")),
+            Failure::Io(what, error) => Some(format!("{what}: {error}")),
+            Failure::Write(what, error) => Some(format!("{what}: {error}.")),
+            Failure::Closed => None,
+        }
+    }
+}

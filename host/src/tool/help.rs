@@ -1,0 +1,79 @@
+//! `help`: what the tool does, and what each command does.
+use super::commands::{self, COMMANDS, Choice, Command};
+use super::failure::{Failure, Outcome};
+use super::output;
+use std::ffi::OsString;
+
+/// Prints the help on a command, or on all.
+pub fn run(words: Vec<OsString>) -> Outcome {
+    match words.as_slice() {
+        [] => output::print(all()),
+        [word] if word == "help" => output::print(all()),
+        [word] => match word.to_str().and_then(commands::find) {
+            Some(command) => print(command),
+            None => Err(Failure::usage(format!("there is no command `{}`", output::shown(word)), None)),
+        },
+        _ => Err(Failure::usage("`help` takes one command", None)),
+    }
+}
+
+/// Prints the help on a command.
+pub fn print(command: &Command) -> Outcome {
+    output::print(one(command))
+}
+
+/// What stands above and below the commands.
+const HEAD: &str = "varnucht: disks of the SAM Coupé in image files of 819,200 bytes\n\n";
+const FOOT: &str = "
+Exit status:
+  0  done
+  1  refused: the disk or the request is against the rules; the number and the
+     words of the refusal are printed, with the slot that it was found at
+  2  the command line was not understood
+  3  something could not be read or written
+";
+
+/// The help on all commands.
+fn all() -> String {
+    let line = |called: &str, brief: &str| format!("  {called:<26} {brief}\n");
+    let lines: String = COMMANDS.iter().map(|command| line(&called(command), command.brief)).collect();
+    let more = line("help [COMMAND]", "this, or more on a command") + &line("--version", "the version");
+    format!("{HEAD}{lines}{more}{FOOT}")
+}
+
+/// The help on one command.
+fn one(command: &Command) -> String {
+    let options = if command.options.is_empty() { "" } else { " [OPTION]..." };
+    let head = format!("varnucht {}{options}\n\n{}\n\n", called(command), sentence(command.brief));
+    let choices: String = command.options.iter().map(|choice| described(choice)).collect();
+    let gap = if choices.is_empty() { "" } else { "\n" };
+    format!("{head}{choices}{gap}{}\n{FOOT}", command.more.join("\n"))
+}
+
+/// A command's name and what it takes.
+fn called(command: &Command) -> String {
+    format!("{} {}", command.name, command.places.join(" "))
+}
+
+/// Words with a capital and a full stop.
+fn sentence(words: &str) -> String {
+    let mut letters = words.chars();
+    letters
+        .next()
+        .into_iter()
+        .flat_map(char::to_uppercase)
+        .chain(letters)
+        .chain(['.'])
+        .collect()
+}
+
+/// An option, what it takes and what it does.
+fn described(choice: &Choice) -> String {
+    let value = choice.value.map_or(String::new(), |value| format!(" {value}"));
+    let indent = format!("\n{:21}", "");
+    format!(
+        "  {:<17}  {}\n",
+        format!("{}{value}", choice.names.join(", ")),
+        choice.says.replace('\n', &indent)
+    )
+}

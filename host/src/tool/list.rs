@@ -1,0 +1,69 @@
+//! `list`: a table of the files.
+use super::failure::Outcome;
+use super::output::{self, counted};
+use super::source;
+use super::words::Given;
+use varnucht::{Entry, Listing};
+
+/// Prints the table.
+pub fn run(given: &Given) -> Outcome {
+    output::print(table(source::disk(given)?.listing()))
+}
+
+/// The columns, and whether each holds numbers.
+const COLUMNS: [(&str, bool); 7] = [
+    ("slot", true),
+    ("marks", false),
+    ("name", false),
+    ("kind", false),
+    ("sectors", true),
+    ("length", true),
+    ("start", true),
+];
+
+/// The table: a header, a line for each file, and what is free.
+fn table(listing: &Listing) -> String {
+    let header = COLUMNS.map(|(name, _)| name.to_string());
+    let rows: Vec<_> = std::iter::once(header).chain(listing.entries().iter().map(row)).collect();
+    let widths: [usize; 7] = std::array::from_fn(|column| rows.iter().map(|row| row[column].len()).max().unwrap_or(0));
+    let mut text: String = rows.iter().map(|row| line(row, &widths)).collect();
+    text.push_str(&summary(listing));
+    text
+}
+
+/// What the table says of a file.
+fn row(entry: &Entry) -> [String; 7] {
+    let or_none = |number: Option<u32>| number.map_or("-".to_string(), |number| number.to_string());
+    let mark = |set: bool, letter: char| if set { letter } else { '-' };
+    [
+        entry.slot().to_string(),
+        String::from_iter([mark(entry.hidden(), 'h'), mark(entry.protected(), 'p')]),
+        entry.name().to_string(),
+        entry.kind().to_string(),
+        entry.sector_count().to_string(),
+        or_none(entry.length()),
+        or_none(entry.start().map(|start| start.address())),
+    ]
+}
+
+/// A line of the table: numbers to the right, words to the left, no spaces at the end.
+fn line(row: &[String; 7], widths: &[usize; 7]) -> String {
+    let cell = |column: usize| match COLUMNS[column].1 {
+        true => format!("{:>1$}", row[column], widths[column]),
+        false => format!("{:<1$}", row[column], widths[column]),
+    };
+    let cells: [String; 7] = std::array::from_fn(cell);
+    format!("{}\n", cells.join("  ").trim_end())
+}
+
+/// How many files there are, and what is free.
+fn summary(listing: &Listing) -> String {
+    let (files, free) = (
+        counted(listing.entries().len(), "file"),
+        counted(listing.free().into(), "sector"),
+    );
+    match listing.room() {
+        Some(room) => format!("{files}, {free} free: room for a file of {room} bytes\n"),
+        None => format!("{files}, no sector free\n"),
+    }
+}

@@ -1,0 +1,102 @@
+//! `map`: a picture of the 1,600 sectors.
+use super::colour::{self, Paint, Painted};
+use super::failure::Outcome;
+use super::output;
+use super::source;
+use super::words::Given;
+use varnucht::{DATA_SECTORS, Entry, Listing, SECTORS, SectorNumber};
+
+/// Prints the picture.
+pub fn run(given: &Given) -> Outcome {
+    let colour = colour::wanted(given)?;
+    let disk = source::disk(given)?;
+    output::print(picture(disk.listing(), colour))
+}
+
+/// A sector's sign and its colour.
+type Sign = (char, Paint);
+
+const FREE: Sign = ('.', Paint::Faint);
+const DIRECTORY: Sign = ('#', Paint::Bold);
+
+/// The signs of files: 80 of them, one for each slot that a disk has.
+const SIGNS: &str = "ABCDEFGHIJKLMNOPQRSTUVWXYZabcdefghijklmnopqrstuvwxyz0123456789!$%&*+-/:;<=>?@^_~";
+
+/// The sign of the file that comes at this place of the listing.
+fn sign(place: usize) -> Sign {
+    (SIGNS.chars().nth(place).unwrap_or('?'), Paint::Hue(place))
+}
+
+/// Whose each sector is, by sector number.
+fn owners(listing: &Listing) -> Vec<Sign> {
+    let directory = |number: &u16| SectorNumber::new(*number).is_some_and(|number| number.track().number() < 4);
+    let mut owners: Vec<Sign> = (0..SECTORS as u16)
+        .map(|number| if directory(&number) { DIRECTORY } else { FREE })
+        .collect();
+    for (place, entry) in listing.entries().iter().enumerate() {
+        for number in entry.sectors() {
+            owners[usize::from(number.number())] = sign(place);
+        }
+    }
+    owners
+}
+
+/// The whole picture: a side above the other, and what the signs mean.
+fn picture(listing: &Listing, colour: bool) -> String {
+    let owners = owners(listing);
+    let mut text = Painted::new(colour);
+    for (side, first_track) in [(0, 0), (1, 128)] {
+        let last = first_track + 79;
+        text.add(
+            Paint::Plain,
+            &format!(
+                "side {}: tracks {first_track} to {last} across, sectors 1 to 10 down\n",
+                side + 1
+            ),
+        );
+        text.add(Paint::Plain, &scale(first_track));
+        for sector in 0..10 {
+            for track in 0..80 {
+                let (sign, paint) = owners[(2 * track + side) * 10 + sector];
+                text.add(paint, &sign.to_string());
+            }
+            text.add(Paint::Plain, "\n");
+        }
+    }
+    legend(&mut text, listing);
+    text.finish()
+}
+
+/// The track numbers over a side: every tenth, at its column.
+fn scale(first_track: usize) -> String {
+    let marks: String = (0..8).map(|ten| format!("{:<10}", first_track + 10 * ten)).collect();
+    format!("{}\n", marks.trim_end())
+}
+
+/// What the signs mean: the slot and the name of each file, in columns.
+fn legend(text: &mut Painted, listing: &Listing) {
+    text.add(DIRECTORY.1, "#");
+    text.add(Paint::Plain, &format!(" directory ({})  ", SECTORS - DATA_SECTORS));
+    text.add(FREE.1, ".");
+    text.add(Paint::Plain, &format!(" free ({})\n", listing.free()));
+    let words: Vec<String> = listing.entries().iter().map(meaning).collect();
+    let width = words.iter().map(String::len).max().unwrap_or(0);
+    // A cell is the sign, a space, the words and two spaces; a line has 80.
+    let across = (82 / (width + 4)).max(1);
+    for (place, words) in words.iter().enumerate() {
+        let (sign, paint) = sign(place);
+        let ends = (place + 1) % across == 0 || place + 1 == listing.entries().len();
+        text.add(paint, &sign.to_string());
+        let after = if ends {
+            format!(" {words}\n")
+        } else {
+            format!(" {words:<width$}  ")
+        };
+        text.add(Paint::Plain, &after);
+    }
+}
+
+/// The slot, the name and the number of sectors of a file.
+fn meaning(entry: &Entry) -> String {
+    format!("{:>2} {} ({})", entry.slot().number(), entry.name(), entry.sector_count())
+}

@@ -1,0 +1,61 @@
+//! The tool: one command for each call of the library, and `map`, `blank` and `help`.
+//!
+//! `commands` is the table of commands; `words` reads the command line by it, and `help` prints it. Each command has a file of
+//! its own. What a command cannot do is a `Failure`, which knows its words and its exit status.
+mod blank;
+mod change;
+mod check;
+mod colour;
+mod commands;
+mod dump;
+mod failure;
+mod help;
+mod list;
+mod make;
+mod map;
+mod output;
+mod progress;
+mod read;
+mod save;
+mod source;
+mod values;
+mod words;
+
+use failure::{Failure, Outcome};
+use std::ffi::OsString;
+use std::io::Write;
+use std::process::ExitCode;
+
+/// Runs the tool with the words of its command line, and says what went wrong.
+pub fn run(words: Vec<OsString>) -> ExitCode {
+    match obey(words) {
+        Ok(()) => ExitCode::SUCCESS,
+        Err(failure) => {
+            if let Some(words) = failure.words() {
+                // Nothing can be done where standard error is closed.
+                let _ = writeln!(std::io::stderr(), "varnucht: {words}");
+            }
+            ExitCode::from(failure.status())
+        }
+    }
+}
+
+/// Finds the command and runs it.
+fn obey(words: Vec<OsString>) -> Outcome {
+    let mut words = words.into_iter();
+    let Some(first) = words.next() else {
+        return Err(Failure::usage("no command is given", None));
+    };
+    match first.to_str() {
+        Some("help" | "--help" | "-h") => help::run(words.collect()),
+        Some("--version" | "-V") => output::print(concat!("varnucht ", env!("CARGO_PKG_VERSION"), "\n")),
+        Some(name) if let Some(command) = commands::find(name) => match words::read(command, words.collect())? {
+            Some(given) => (command.run)(&given),
+            None => help::print(command),
+        },
+        _ => Err(Failure::usage(
+            format!("there is no command `{}`", output::shown(&first)),
+            None,
+        )),
+    }
+}

@@ -1,0 +1,37 @@
+//! What the tool prints on standard output, and how it shows words and names.
+use super::failure::{Failure, Outcome};
+use std::ffi::OsStr;
+use std::io::{self, ErrorKind, Write};
+
+/// A word of the command line as a message shows it: control characters, which could upset a terminal, as escapes.
+pub fn shown(word: &OsStr) -> String {
+    let show = |letter: char| match letter.is_control() {
+        true => format!(r"\x{:02x}", u32::from(letter)),
+        false => letter.to_string(),
+    };
+    word.to_string_lossy().chars().map(show).collect()
+}
+
+/// Prints to standard output. That nobody reads it any more is no error to speak of.
+pub fn print(text: impl AsRef<[u8]>) -> Outcome {
+    let mut out = io::stdout().lock();
+    match out.write_all(text.as_ref()).and_then(|()| out.flush()) {
+        Ok(()) => Ok(()),
+        Err(error) if error.kind() == ErrorKind::BrokenPipe => Err(Failure::Closed),
+        Err(error) => Err(Failure::Io("standard output".into(), error)),
+    }
+}
+
+/// Says that something was done. Where it cannot be said it was done all the same.
+pub fn confirm(words: &str) {
+    let _ = print(format!("{words}\n"));
+}
+
+/// So many of something.
+pub fn counted(many: usize, one: &str) -> String {
+    if many == 1 {
+        format!("1 {one}")
+    } else {
+        format!("{many} {one}s")
+    }
+}

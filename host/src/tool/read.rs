@@ -1,0 +1,37 @@
+//! `read`: a file's body, to standard output or to a file.
+use super::failure::{Failure, Outcome};
+use super::make::make;
+use super::output;
+use super::source;
+use super::values::AskedName;
+use super::words::Given;
+use std::ffi::OsStr;
+use std::fs;
+use varnucht::Name;
+
+/// Gives the body of the file named.
+pub fn run(given: &Given) -> Outcome {
+    let name = AskedName::at(given, 1)?;
+    let file = given.value("-o").filter(|file| *file != "-");
+    if given.has("--force") && file.is_none() {
+        return Err(given.usage("`--force` goes with `-o FILE`"));
+    }
+    if file.is_some_and(|file| same(file, given.word(0))) {
+        return Err(given.usage("FILE is IMAGE itself, which would be lost"));
+    }
+    let disk = source::disk(given)?;
+    let body = Name::new(name.bytes()).and_then(|name| disk.read(&name));
+    let body = body.map_err(|refused| Failure::refused(given.word(0), &name.to_string(), refused))?;
+    match file {
+        Some(file) => make(file, &body, given.has("--force")),
+        None => output::print(body),
+    }
+}
+
+/// Whether two paths lead to one file.
+fn same(one: &OsStr, other: &OsStr) -> bool {
+    match (fs::canonicalize(one), fs::canonicalize(other)) {
+        (Ok(one), Ok(other)) => one == other,
+        _ => false,
+    }
+}

@@ -1,0 +1,48 @@
+//! `save`: a file or standard input, under a new name.
+use super::change::perform;
+use super::failure::{Failure, Outcome};
+use super::source;
+use super::values::{self, AskedName};
+use super::words::Given;
+use std::ffi::OsStr;
+use std::fs::File;
+use std::io;
+use varnucht::{CarriedKind, Change, LONGEST_BODY, NO_EXECUTION, NewFile, NewName, Start};
+
+/// Saves the body under the name.
+pub fn run(given: &Given) -> Outcome {
+    let name = AskedName::at(given, 1)?;
+    let kind = given
+        .value("--kind")
+        .map_or(Ok(CarriedKind::Code.number().into()), |word| values::kind(given, word))?;
+    let (page, offset) = (
+        values::number_or(given, "--page", 1)?,
+        values::number_or(given, "--offset", 32_768)?,
+    );
+    let execution = values::bytes_or(given, "--exec", NO_EXECUTION)?;
+    let information = values::bytes_or(given, "--info", [0; 11])?;
+    // The body comes first, since standard input can take its time; the image is not locked meanwhile.
+    let body = body(given.word(2))?;
+    perform(given, "saved", &name.to_string(), || {
+        // In the order of their refusals: 12, 13, 14.
+        let (name, kind) = (NewName::new(name.bytes())?, CarriedKind::from_number(kind)?);
+        let file = NewFile::new(kind, name, Start::new(page, offset)?, &body);
+        Ok(Change::Save(NewFile {
+            execution,
+            information,
+            ..file
+        }))
+    })
+}
+
+/// The bytes of a file, or of standard input for `-`. No more is read than shows that the body fits on no disk: the library
+/// refuses such a body just as it refuses a longer one.
+fn body(path: &OsStr) -> Result<Vec<u8>, Failure> {
+    if path == "-" {
+        return source::front(&mut io::stdin().lock(), LONGEST_BODY)
+            .map_err(|error| Failure::Io("standard input".into(), error));
+    }
+    File::open(path)
+        .and_then(|mut file| source::front(&mut file, LONGEST_BODY))
+        .map_err(|error| Failure::io(path, error))
+}

@@ -1,0 +1,94 @@
+//! Values of the command line: names, numbers, kinds and hexadecimal bytes.
+use super::failure::Failure;
+use super::output::shown;
+use super::words::Given;
+use std::ffi::OsStr;
+use std::fmt;
+use varnucht::CarriedKind;
+use varnucht::escape::{escape, unescape};
+
+/// The bytes of a name of the command line, with its escapes undone. Whether it is usable as a name is not asked here.
+pub struct AskedName(Vec<u8>);
+
+impl AskedName {
+    /// The name at a place of the command line.
+    pub fn at(given: &Given, place: usize) -> Result<AskedName, Failure> {
+        let word = given.word(place);
+        let bytes = unescape(word.as_encoded_bytes());
+        bytes
+            .map(AskedName)
+            .map_err(|bad| given.usage(format!("`{}`: {bad}", shown(word))))
+    }
+
+    /// Its bytes.
+    pub fn bytes(&self) -> &[u8] {
+        &self.0
+    }
+}
+
+impl fmt::Display for AskedName {
+    /// With escapes, as `list` prints names.
+    fn fmt(&self, f: &mut fmt::Formatter<'_>) -> fmt::Result {
+        f.write_str(&escape(&self.0))
+    }
+}
+
+/// A number, decimal or after `0x` hexadecimal. One too large for 32 bits counts as the largest: it is out of every range
+/// that a number is asked for, just the same.
+pub fn number(given: &Given, word: &OsStr) -> Result<u32, Failure> {
+    let text = word.to_str().unwrap_or_default();
+    let (digits, base) = text.strip_prefix("0x").map_or((text, 10), |hex| (hex, 16));
+    if digits.is_empty() || !digits.chars().all(|digit| digit.is_digit(base)) {
+        return Err(given.usage(format!("`{}` is not a number", shown(word))));
+    }
+    Ok(u32::from_str_radix(digits, base).unwrap_or(u32::MAX))
+}
+
+/// The number of a choice, or its usual value.
+pub fn number_or(given: &Given, choice: &str, usual: u32) -> Result<u32, Failure> {
+    given.value(choice).map_or(Ok(usual), |word| number(given, word))
+}
+
+/// The words for kinds.
+const KINDS: [(&str, CarriedKind); 7] = [
+    ("basic", CarriedKind::Basic),
+    ("numeric-array", CarriedKind::NumericArray),
+    ("numeric", CarriedKind::NumericArray),
+    ("string-array", CarriedKind::StringArray),
+    ("string", CarriedKind::StringArray),
+    ("code", CarriedKind::Code),
+    ("screen", CarriedKind::Screen),
+];
+
+/// The number of a kind, by its word or by a number, whatever that is.
+pub fn kind(given: &Given, word: &OsStr) -> Result<u32, Failure> {
+    let text = word.to_str().unwrap_or_default();
+    match KINDS.iter().find(|(name, _)| name.eq_ignore_ascii_case(text)) {
+        Some((_, kind)) => Ok(kind.number().into()),
+        None => number(given, word).map_err(|_| given.usage(format!("`{}` is not a kind", shown(word)))),
+    }
+}
+
+/// The hexadecimal bytes of a choice put over the front of the usual ones, if they are given: then the rest is 0.
+pub fn bytes_or<const N: usize>(given: &Given, choice: &str, usual: [u8; N]) -> Result<[u8; N], Failure> {
+    let Some(word) = given.value(choice) else {
+        return Ok(usual);
+    };
+    let wrong = || {
+        given.usage(format!(
+            "`{}` is not up to {N} bytes, each two hexadecimal digits",
+            shown(word)
+        ))
+    };
+    let text = word
+        .to_str()
+        .filter(|text| text.is_ascii() && text.len() % 2 == 0 && text.len() <= 2 * N)
+        .ok_or_else(wrong)?;
+    let mut bytes = [0; N];
+    for (byte, digits) in bytes.iter_mut().zip(text.as_bytes().chunks(2)) {
+        let value = |digit: u8| char::from(digit).to_digit(16);
+        let (high, low) = (value(digits[0]).ok_or_else(wrong)?, value(digits[1]).ok_or_else(wrong)?);
+        *byte = (high * 16 + low) as u8;
+    }
+    Ok(bytes)
+}

@@ -1,0 +1,196 @@
+//! The C header and its example: both compile without a warning as C99 and as C++, the header says what document 01 and
+//! `raw.rs` say, every call links and takes empty slices, and the example does its work on a disk.
+#[path = "header/archive.rs"]
+mod archive;
+#[path = "header/compilers.rs"]
+mod compilers;
+#[path = "header/declarations.rs"]
+mod declarations;
+#[path = "header/example.rs"]
+mod example;
+
+use compilers::{BOTH, Folder, Language, build, compile, link, part, root, try_compile};
+use std::fs;
+use std::process::Command;
+
+/// The words of document 01's table, from number 1 on.
+const WORDS: [&str; 21] = [
+    "the image is not 819,200 bytes",
+    "the kind is not known",
+    "the first name byte is 0",
+    "the count is not 1 to 1,560",
+    "the map's set bits are not as many as the count",
+    "the first address is not a data sector, or its bit is clear",
+    "carried kind, and 510 × count is below 9 + length",
+    "the map shares a bit with an earlier live slot",
+    "the ten name bytes equal an earlier live slot's",
+    "the chain is broken",
+    "carried kind, and the header's first byte (whole), remainder (mod 16,384) or pages differ from the slot's kind, \
+     remainder, pages",
+    "the name is not usable",
+    "the kind asked for (save) or found (read, start address) is not carried",
+    "start page above 31, or offset outside 32,768 to 49,151 (save, start address)",
+    "no live slot has the name",
+    "a live slot has the new name",
+    "protected (erase, rename)",
+    "no slot has byte 0 zero (save)",
+    "fewer free sectors than the save takes",
+    "a lent output buffer is too short",
+    "no such drive, track or sector",
+];
+
+/// The parts of the program that checks the header from inside.
+const CHECKS: [&str; 7] = [
+    "main.c",
+    "constants.c",
+    "answers.c",
+    "prototypes.c",
+    "entries.c",
+    "empty.c",
+    "sizes.c",
+];
+
+fn header_text() -> String {
+    fs::read_to_string(root().join("include/varnucht.h")).expect("the header")
+}
+
+#[test]
+fn the_header_compiles_alone() {
+    let folder = Folder::new("alone");
+    let source = folder.write("alone.c", "#include \"varnucht.h\"\n#include \"varnucht.h\"\n");
+    let standards = [
+        (Language::C, "c99"),
+        (Language::C, "c11"),
+        (Language::Cpp, "c++11"),
+        (Language::Cpp, "c++17"),
+    ];
+    for (language, standard) in standards {
+        for flags in [
+            &["-O0"][..],
+            &["-O2"],
+            &["-Wconversion", "-Wsign-conversion", "-Wshadow", "-Wundef", "-Wcast-qual"],
+        ] {
+            compile(language, standard, flags, &source, &folder.file("alone.o"));
+        }
+    }
+}
+
+/// Two units that both include the header, each in C or in C++, and call into each other and into the archive.
+#[test]
+fn two_units_link() {
+    let folder = Folder::new("two");
+    let (calls, main) = (part("unit.c"), part("units.c"));
+    for one in BOTH {
+        for two in BOTH {
+            let objects = [folder.file("one.o"), folder.file("two.o")];
+            compile(one, one.standard(), &[], &calls, &objects[0]);
+            compile(two, two.standard(), &[], &main, &objects[1]);
+            let linker = if one == Language::C && two == Language::C {
+                Language::C
+            } else {
+                Language::Cpp
+            };
+            link(linker, &objects, &[], &folder.file("units"));
+            let status = Command::new(folder.file("units")).status().expect("the program runs");
+            assert!(status.success(), "{one:?} with {two:?}: {status}");
+        }
+    }
+}
+
+#[test]
+fn the_checks_hold() {
+    let folder = Folder::new("checks");
+    let sources: Vec<_> = CHECKS.iter().map(|name| part(name)).collect();
+    for language in BOTH {
+        for optimized in ["-O0", "-O2"] {
+            let program = build(language, &[optimized], &sources, &folder, "checks");
+            let output = Command::new(program).output().expect("the checks run");
+            let text = String::from_utf8_lossy(&output.stdout);
+            println!("{language:?} {optimized}\n{text}");
+            let last = text.lines().last().unwrap_or_default();
+            let held = last.strip_prefix("held ").and_then(|rest| rest.strip_suffix(", failed 0"));
+            assert!(output.status.success(), "{language:?} {optimized}: {}\n{text}", output.status);
+            assert!(
+                held.and_then(|held| held.parse().ok()).is_some_and(|held: u32| held > 60_000),
+                "{text}"
+            );
+        }
+    }
+}
+
+/// The checks of types can fail: with another type in place of a call's own no compiler takes them.
+#[test]
+fn a_wrong_type_is_refused() {
+    let folder = Folder::new("wrong");
+    let text = fs::read_to_string(part("prototypes.c")).expect("the checks of types");
+    let wrong = [
+        (
+            "list_call(const uint8_t *, size_t, uint8_t *",
+            "list_call(const uint8_t *, size_t, const uint8_t *",
+        ),
+        ("image_call(const uint8_t *, size_t)", "image_call(const uint8_t *, uint32_t)"),
+        ("size_t, uint32_t, uint32_t, uint32_t);", "size_t, uint32_t, uint32_t);"),
+    ];
+    for (right, other) in wrong {
+        assert_eq!(text.matches(right).count(), 1, "{right}");
+        let source = folder.write("wrong.c", text.replace(right, other));
+        for language in BOTH {
+            let output = try_compile(
+                language,
+                language.standard(),
+                &compilers::STRICT,
+                &source,
+                &folder.file("wrong.o"),
+            );
+            assert!(!output.status.success(), "{language:?} takes {other}");
+        }
+    }
+}
+
+#[test]
+fn the_words_are_the_papers() {
+    let folder = Folder::new("words");
+    let sources: Vec<_> = CHECKS.iter().map(|name| part(name)).collect();
+    for language in BOTH {
+        let program = build(language, &[], &sources, &folder, "words");
+        let output = Command::new(program).arg("words").output().expect("the words are printed");
+        let text = String::from_utf8(output.stdout).expect("the words are UTF-8");
+        let lines: Vec<&str> = text.lines().collect();
+        assert_eq!(lines.len(), 256);
+        assert_eq!(lines[0], "0 accepted");
+        for (number, words) in (1..).zip(WORDS) {
+            assert_eq!(lines[number], format!("{number} {words}"));
+        }
+        for (number, line) in lines.iter().enumerate().skip(22) {
+            assert_eq!(*line, format!("{number} not a number of refusal"));
+        }
+    }
+}
+
+#[test]
+fn the_header_declares_what_raw_declares() {
+    let header = declarations::of_header(&header_text());
+    let raw_text = fs::read_to_string(root().join("host/src/raw.rs")).expect("raw.rs");
+    let raw = declarations::of_raw(&raw_text);
+    assert_eq!(
+        raw.len(),
+        raw_text.matches("pub fn ").count(),
+        "every function of raw.rs is read"
+    );
+    assert_eq!(header.len(), 12);
+    assert_eq!(header, raw);
+    for call in &header {
+        for (at, (name, kind)) in call
+            .arguments
+            .iter()
+            .enumerate()
+            .filter(|(_, (_, kind))| kind.starts_with('*'))
+        {
+            let next = call
+                .arguments
+                .get(at + 1)
+                .unwrap_or_else(|| panic!("{}: no length behind {name}: {kind}", call.name));
+            assert_eq!(next, &(format!("{name}_len"), "usize".to_string()), "{}", call.name);
+        }
+    }
+}

@@ -1,0 +1,72 @@
+//! What the header says of the archive: which calls it has, that it keeps no state and calls next to nothing, and how much
+//! stack its calls take.
+use crate::compilers::{Folder, Language, archive, build, part};
+use crate::{declarations, header_text};
+use std::collections::BTreeSet;
+use std::process::Command;
+
+/// The archive's symbols, each with the letter that `nm` gives its kind.
+fn symbols() -> Vec<(String, char)> {
+    let output = Command::new("nm")
+        .arg("-P")
+        .arg(archive())
+        .output()
+        .expect("`nm` is needed for this test");
+    assert!(output.status.success(), "{}", String::from_utf8_lossy(&output.stderr));
+    let of_line = |line: &str| {
+        let mut words = line.split_whitespace();
+        Some((words.next()?.to_string(), words.next()?.chars().next()?))
+    };
+    String::from_utf8_lossy(&output.stdout).lines().filter_map(of_line).collect()
+}
+
+/// Every call of the archive is declared, and every one declared is there.
+#[test]
+fn the_archive_has_what_the_header_declares() {
+    let symbols = symbols();
+    let calls = symbols.iter().filter(|(_, letter)| *letter == 'T');
+    let there: BTreeSet<&str> = calls
+        .map(|(name, _)| name.strip_prefix("varnucht_").unwrap_or(name))
+        .collect();
+    let header = declarations::of_header(&header_text());
+    let declared: BTreeSet<&str> = header.iter().map(|call| call.name.as_str()).collect();
+    assert_eq!(there, declared);
+}
+
+/// Of what others define it calls the functions on memory alone; and it has code and constants, but no variable.
+#[test]
+fn the_archive_keeps_no_state() {
+    let outside = ["memcpy", "memmove", "memset", "memcmp", "bcmp"];
+    for (name, letter) in symbols() {
+        match letter {
+            'U' => assert!(outside.contains(&name.as_str()), "{name} is called"),
+            'T' | 't' | 'R' | 'r' => {}
+            _ => panic!("{name} is of kind {letter}: neither code nor a constant"),
+        }
+    }
+}
+
+/// `stack.c` says of each call how many bytes of painted stack it wrote over. A save took less than 4,900 bytes and every
+/// other call less than 1,000 when this was written. The frames in the compiled code have fixed sizes and no call leads back
+/// to itself, so that their sum, about the same, holds for every input.
+#[test]
+fn the_calls_need_little_stack() {
+    let folder = Folder::new("stack");
+    let program = build(Language::C, &[], &[part("stack.c")], &folder, "stack");
+    let output = Command::new(program).output().expect("the program runs");
+    let text = String::from_utf8_lossy(&output.stdout);
+    println!("{text}");
+    assert!(output.status.success());
+    let mut calls = BTreeSet::new();
+    for line in text.lines() {
+        let words: Vec<&str> = line.split(' ').collect();
+        let [call, bytes, "refused", "0"] = words[..] else {
+            panic!("{line}")
+        };
+        let bytes: usize = bytes.parse().expect("a number");
+        let most = if call == "save" { 8192 } else { 2048 };
+        assert!(bytes > 0 && bytes < most, "{line}");
+        calls.insert(call);
+    }
+    assert_eq!(calls.len(), 12);
+}

@@ -1,0 +1,80 @@
+/* Every constant has the number that document 01 gives. */
+#include "expect.h"
+
+static void check_reasons(void) {
+    static const int reasons[] = {
+        VARNUCHT_ACCEPTED,
+        VARNUCHT_NOT_AN_IMAGE,
+        VARNUCHT_KIND_UNKNOWN,
+        VARNUCHT_NAME_MISSING,
+        VARNUCHT_COUNT_OUT_OF_RANGE,
+        VARNUCHT_BITS_DIFFER,
+        VARNUCHT_FIRST_NOT_OWN,
+        VARNUCHT_LENGTH_TOO_GREAT,
+        VARNUCHT_SECTOR_SHARED,
+        VARNUCHT_NAME_TWICE,
+        VARNUCHT_CHAIN_BROKEN,
+        VARNUCHT_HEADER_DIFFERS,
+        VARNUCHT_NAME_NOT_USABLE,
+        VARNUCHT_KIND_NOT_CARRIED,
+        VARNUCHT_START_OUT_OF_RANGE,
+        VARNUCHT_NAME_NOT_FOUND,
+        VARNUCHT_NAME_TAKEN,
+        VARNUCHT_FILE_PROTECTED,
+        VARNUCHT_NO_FREE_SLOT,
+        VARNUCHT_TOO_FEW_SECTORS,
+        VARNUCHT_BUFFER_TOO_SHORT,
+        VARNUCHT_NO_SUCH_SECTOR,
+    };
+    expect(sizeof reasons / sizeof reasons[0] == 22, "how many refusals", 22);
+    for (int number = 0; number < 22; number++) {
+        expect(reasons[number] == number, "the number of a refusal", (unsigned long)number);
+    }
+}
+
+static void check_sizes(void) {
+    expect(VARNUCHT_IMAGE_BYTES == 819200, "bytes of an image", 0);
+    expect(VARNUCHT_SECTOR_BYTES == 512, "bytes of a sector", 0);
+    expect(VARNUCHT_DATA_SECTORS == 1560, "data sectors", 0);
+    expect(VARNUCHT_SLOTS == 80, "slots", 0);
+    expect(VARNUCHT_NAME_BYTES == 10, "bytes of a name", 0);
+    expect(VARNUCHT_INFO_BYTES == 11, "kind information", 0);
+    expect(VARNUCHT_EXEC_BYTES == 3, "execution bytes", 0);
+    expect(VARNUCHT_ENTRY_BYTES == 2 + 256, "bytes of an entry", 0);
+    expect(VARNUCHT_LISTING_BYTES == 80 * 258, "bytes of a listing", 0);
+    expect(VARNUCHT_BODY_BYTES == 510 * 1560 - 9, "bytes of a body", 0);
+    expect(VARNUCHT_SAVE_LIST_BYTES == 2 * (1560 + 1), "bytes of a save's list", 0);
+    expect(VARNUCHT_CHANGE_LIST_BYTES == 2, "bytes of another list", 0);
+}
+
+/* A field's place in an entry is two more than in the slot. */
+static void check_fields(void) {
+    expect(VARNUCHT_ENTRY_SLOT == 0, "slot number", 0);
+    expect(VARNUCHT_ENTRY_STATUS - 2 == 0, "status", 0);
+    expect(VARNUCHT_ENTRY_NAME - 2 == 1, "name", 0);
+    expect(VARNUCHT_ENTRY_SECTORS - 2 == 11, "sector count", 0);
+    expect(VARNUCHT_ENTRY_FIRST_TRACK - 2 == 13, "first track", 0);
+    expect(VARNUCHT_ENTRY_FIRST_SECTOR - 2 == 14, "first sector", 0);
+    expect(VARNUCHT_ENTRY_MAP - 2 == 15, "map", 0);
+    expect(VARNUCHT_ENTRY_INFO - 2 == 221, "kind information", 0);
+    expect(VARNUCHT_ENTRY_PAGE - 2 == 236, "start page", 0);
+    expect(VARNUCHT_ENTRY_OFFSET - 2 == 237, "offset", 0);
+    expect(VARNUCHT_ENTRY_PAGES - 2 == 239, "pages", 0);
+    expect(VARNUCHT_ENTRY_REMAINDER - 2 == 240, "remainder", 0);
+    expect(VARNUCHT_ENTRY_EXEC - 2 == 242, "execution bytes", 0);
+}
+
+static void check_kinds(void) {
+    expect(VARNUCHT_KIND_BASIC == 16, "BASIC", 0);
+    expect(VARNUCHT_KIND_NUMBERS == 17, "numeric array", 0);
+    expect(VARNUCHT_KIND_STRINGS == 18, "string array", 0);
+    expect(VARNUCHT_KIND_CODE == 19, "code", 0);
+    expect(VARNUCHT_KIND_SCREEN == 20, "screen", 0);
+}
+
+void check_constants(void) {
+    check_reasons();
+    check_sizes();
+    check_fields();
+    check_kinds();
+}

@@ -1,0 +1,159 @@
+//! The example, compiled in both languages and run on disks that the test makes.
+use crate::compilers::{BOTH, Folder, Language, build, compile, link, part, root};
+use std::fs;
+use std::path::{Path, PathBuf};
+use std::process::{Command, Output};
+use varnucht::raw;
+
+const IMAGE: usize = 819_200;
+
+/// The save that the example makes, in memory: the new disk and the sectors named, in order.
+fn saved(old: &[u8], name: &[u8], body: &[u8]) -> (Vec<u8>, Vec<usize>) {
+    let mut image = old.to_vec();
+    let mut list = vec![0; 3122];
+    let exec = [255, 255, 255];
+    // Each slice is a vector or an array of its own, lent with its own length.
+    let answer = unsafe {
+        raw::varnucht_save(
+            image.as_mut_ptr(),
+            image.len(),
+            19,
+            name.as_ptr(),
+            name.len(),
+            1,
+            32768,
+            exec.as_ptr(),
+            exec.len(),
+            std::ptr::null(),
+            0,
+            body.as_ptr(),
+            body.len(),
+            list.as_mut_ptr(),
+            list.len(),
+        )
+    };
+    assert_eq!(answer % 256, 0, "the save is accepted");
+    let named = (answer >> 24 & 0xff_ffff) as usize;
+    let sectors = list[..2 * named]
+        .chunks(2)
+        .map(|two| two[0] as usize + 256 * two[1] as usize)
+        .collect();
+    (image, sectors)
+}
+
+fn accepted(image: &[u8]) -> bool {
+    (unsafe { raw::varnucht_check(image.as_ptr(), image.len()) }) == 0
+}
+
+fn run(program: &Path, arguments: &[&Path]) -> Output {
+    Command::new(program).args(arguments).output().expect("the example runs")
+}
+
+/// The example's answer where it must succeed: what it wrote.
+fn done(output: Output) -> Vec<u8> {
+    assert!(
+        output.status.success() && output.stderr.is_empty(),
+        "{}",
+        String::from_utf8_lossy(&output.stderr)
+    );
+    output.stdout
+}
+
+/// The example's answer where it must be refused: what it said.
+fn refused(output: Output) -> String {
+    assert_eq!(output.status.code(), Some(1));
+    assert!(output.stdout.is_empty());
+    String::from_utf8(output.stderr).expect("words")
+}
+
+fn some_bytes(len: usize) -> Vec<u8> {
+    (0..len as u64)
+        .map(|i| (i.wrapping_mul(0x9e37_79b9_7f4a_7c15) >> 56) as u8)
+        .collect()
+}
+
+fn example(language: Language, folder: &Folder) -> PathBuf {
+    build(language, &["-O2"], &[root().join("examples/tunes.c")], folder, "tunes")
+}
+
+/// List, read, save, read back, list again, on a blank disk.
+#[test]
+fn the_example_saves_and_reads() {
+    for language in BOTH {
+        let folder = Folder::new(&format!("example-{language:?}"));
+        let tunes = example(language, &folder);
+        let disk = folder.write("disk", vec![0; IMAGE]);
+        let body = some_bytes(20_000);
+        let file = folder.write("file", &body);
+        let name = Path::new("TUNES");
+
+        assert_eq!(done(run(&tunes, &[&disk])), b"files 0, free sectors 1560\n");
+        assert_eq!(
+            refused(run(&tunes, &[&disk, name])),
+            "read: refused 15, slot 0: no live slot has the name\n"
+        );
+        assert_eq!(done(run(&tunes, &[&disk, name, &file])), b"");
+        let written = fs::read(&disk).expect("the disk");
+        assert!(
+            written == saved(&vec![0; IMAGE], b"TUNES", &body).0,
+            "the file on the storage is the new disk"
+        );
+        assert!(accepted(&written));
+        assert!(done(run(&tunes, &[&disk, name])) == body, "the saved file reads back");
+        let lines = " 1 -- TUNES      kind 19, sectors   40, length  20000\nfiles 1, free sectors 1520\n";
+        assert_eq!(String::from_utf8_lossy(&done(run(&tunes, &[&disk]))), lines);
+        let words = "save: refused 16, slot 1: a live slot has the new name\n";
+        assert_eq!(refused(run(&tunes, &[&disk, name, &file])), words);
+        assert!(fs::read(&disk).expect("the disk") == written, "a refused save writes nothing");
+    }
+}
+
+/// What the example cannot do it says in words, and leaves the disk alone.
+#[test]
+fn the_example_says_refusals_in_words() {
+    for language in BOTH {
+        let folder = Folder::new(&format!("words-{language:?}"));
+        let tunes = example(language, &folder);
+        let disk = folder.write("disk", vec![0; IMAGE]);
+        let file = folder.write("file", some_bytes(795_592));
+        let size = "check: refused 1, slot 0: the image is not 819,200 bytes\n";
+        for len in [0, IMAGE - 1, IMAGE + 1, 2 * IMAGE] {
+            let other = folder.write("other", vec![0; len]);
+            assert_eq!(refused(run(&tunes, &[&other])), size, "{len} bytes");
+        }
+        let unusable = "save: refused 12, slot 0: the name is not usable\n";
+        for name in ["ELEVENBYTES", "", " TUNES"] {
+            assert_eq!(refused(run(&tunes, &[&disk, Path::new(name), &file])), unusable, "{name:?}");
+        }
+        let full = "save: refused 19, slot 0: fewer free sectors than the save takes\n";
+        assert_eq!(refused(run(&tunes, &[&disk, Path::new("TUNES"), &file])), full);
+        assert!(refused(run(&tunes, &[&folder.file("nowhere")])).contains("nowhere"));
+        assert_eq!(run(&tunes, &[]).status.code(), Some(2));
+        assert!(fs::read(&disk).expect("the disk").iter().all(|byte| *byte == 0));
+    }
+}
+
+/// The example writes the sectors that the save names, in that order, each whole and flushed before the next. `watch.c`
+/// stands between it and the system and says each write and flush.
+#[test]
+fn the_example_writes_in_order() {
+    let folder = Folder::new("watched");
+    let objects = [folder.file("tunes.o"), folder.file("watch.o")];
+    compile(Language::C, "c99", &[], &root().join("examples/tunes.c"), &objects[0]);
+    compile(Language::C, "c99", &[], &part("watch.c"), &objects[1]);
+    let program = folder.file("watched");
+    link(Language::C, &objects, &["-Wl,--wrap=pwrite", "-Wl,--wrap=fsync"], &program);
+    let disk = folder.write("disk", vec![0; IMAGE]);
+    let body = some_bytes(3000);
+    let file = folder.write("file", &body);
+    let output = run(&program, &[&disk, Path::new("TUNES"), &file]);
+    let (new, sectors) = saved(&vec![0; IMAGE], b"TUNES", &body);
+    let expected: String = sectors
+        .iter()
+        .map(|sector| format!("write 512 at {}\nflush\n", 512 * sector))
+        .collect();
+    assert!(output.status.success());
+    assert_eq!(sectors.len(), 7);
+    assert_eq!(String::from_utf8_lossy(&output.stderr), expected);
+    assert!(fs::read(&disk).expect("the disk") == new);
+}

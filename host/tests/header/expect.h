@@ -1,0 +1,20 @@
+/* What the checks of the header share. */
+#ifndef EXPECT_H
+#define EXPECT_H
+
+#include "varnucht.h"
+
+/* Counts what holds, and prints what does not: what it was and at which number. */
+void expect(int holds, const char *what, unsigned long at);
+
+/* The next of a row of drawn numbers, the same row in every run. */
+uint64_t drawn(void);
+
+void check_constants(void);
+void check_answers(void);
+void check_prototypes(void);
+void check_entries(void);
+void check_empty_slices(void);
+void check_size_limits(void);
+
+#endif

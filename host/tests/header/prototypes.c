@@ -1,0 +1,37 @@
+/* Every call has the type that is written here once more, and links. The checks of types are made by the compiler: a pointer
+ * to a function of another type is an error in C++, and under -pedantic -Werror in C. */
+#include "expect.h"
+
+typedef uint64_t image_call(const uint8_t *, size_t);
+typedef uint64_t list_call(const uint8_t *, size_t, uint8_t *, size_t);
+typedef uint64_t read_call(const uint8_t *, size_t, const uint8_t *, size_t, uint8_t *, size_t);
+typedef uint64_t start_call(const uint8_t *, size_t, const uint8_t *, size_t);
+typedef uint64_t sector_call(const uint8_t *, size_t, const uint8_t *, size_t, uint32_t, uint32_t, uint32_t);
+typedef uint64_t save_call(uint8_t *, size_t, uint32_t, const uint8_t *, size_t, uint32_t, uint32_t, const uint8_t *, size_t,
+                           const uint8_t *, size_t, const uint8_t *, size_t, uint8_t *, size_t);
+typedef uint64_t change_call(uint8_t *, size_t, const uint8_t *, size_t, uint8_t *, size_t);
+typedef uint64_t rename_call(uint8_t *, size_t, const uint8_t *, size_t, const uint8_t *, size_t, uint8_t *, size_t);
+
+static image_call *const volatile check = varnucht_check;
+static list_call *const volatile list = varnucht_list;
+static read_call *const volatile reading = varnucht_read;
+static start_call *const volatile start = varnucht_start;
+static sector_call *const volatile sector = varnucht_sector;
+static save_call *const volatile save = varnucht_save;
+static rename_call *const volatile renaming = varnucht_rename;
+static change_call *const volatile changes[] = {varnucht_erase, varnucht_hide, varnucht_show, varnucht_protect,
+                                                varnucht_release};
+
+/* With nothing lent every call is there and answers 1, slot 0, and nothing else. */
+void check_prototypes(void) {
+    expect(check(NULL, 0) == 1, "check of nothing", 0);
+    expect(list(NULL, 0, NULL, 0) == 1, "list of nothing", 0);
+    expect(reading(NULL, 0, NULL, 0, NULL, 0) == 1, "read of nothing", 0);
+    expect(start(NULL, 0, NULL, 0) == 1, "start of nothing", 0);
+    expect(sector(NULL, 0, NULL, 0, 0, 0, 0) == 1, "sector of nothing", 0);
+    expect(save(NULL, 0, 0, NULL, 0, 0, 0, NULL, 0, NULL, 0, NULL, 0, NULL, 0) == 1, "save of nothing", 0);
+    expect(renaming(NULL, 0, NULL, 0, NULL, 0, NULL, 0) == 1, "rename of nothing", 0);
+    for (unsigned long i = 0; i < sizeof changes / sizeof changes[0]; i++) {
+        expect(changes[i](NULL, 0, NULL, 0, NULL, 0) == 1, "a change of nothing", i);
+    }
+}

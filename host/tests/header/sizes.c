@@ -1,0 +1,76 @@
+/* The sizes that the header calls always long enough are: on the fullest disks, and there one byte less is too short. */
+#include <string.h>
+
+#include "expect.h"
+
+static uint8_t image[VARNUCHT_IMAGE_BYTES], body[VARNUCHT_BODY_BYTES + 1], out[VARNUCHT_BODY_BYTES];
+static uint8_t list[VARNUCHT_SAVE_LIST_BYTES];
+static const uint8_t tunes[] = {'T', 'U', 'N', 'E', 'S'};
+
+static uint64_t save(const uint8_t *name, size_t name_len, size_t body_len, size_t list_len) {
+    return varnucht_save(image, sizeof image, VARNUCHT_KIND_CODE, name, name_len, 31, 49151, NULL, 0, NULL, 0, body,
+                         body_len, list, list_len);
+}
+
+/* The greatest body takes every sector, and a byte more is refused 19. */
+static void check_greatest_body(void) {
+    memset(image, 0, sizeof image);
+    expect(save(tunes, 5, VARNUCHT_BODY_BYTES + 1, sizeof list) == VARNUCHT_TOO_FEW_SECTORS, "a body too long", 0);
+    expect(save(tunes, 5, VARNUCHT_BODY_BYTES, sizeof list - 1) == VARNUCHT_BUFFER_TOO_SHORT, "a list too short", 0);
+    uint64_t answer = save(tunes, 5, VARNUCHT_BODY_BYTES, sizeof list);
+    expect(varnucht_refusal(answer) == 0 && varnucht_value(answer) == 1561, "the greatest save", 0);
+    expect(varnucht_read(image, sizeof image, tunes, 5, out, sizeof out - 1) == VARNUCHT_BUFFER_TOO_SHORT, "too short", 0);
+    answer = varnucht_read(image, sizeof image, tunes, 5, out, sizeof out);
+    expect(varnucht_refusal(answer) == 0 && varnucht_value(answer) == VARNUCHT_BODY_BYTES, "the greatest read", 0);
+    expect(memcmp(out, body, VARNUCHT_BODY_BYTES) == 0, "the greatest body reads back", 0);
+    answer = varnucht_start(image, sizeof image, tunes, 5);
+    expect(varnucht_refusal(answer) == 0 && varnucht_value(answer) == 540671, "the greatest address", 0);
+}
+
+/* Eighty files fill the listing. The one after them is refused 18. */
+static void check_longest_listing(void) {
+    memset(image, 0, sizeof image);
+    for (unsigned i = 0; i < VARNUCHT_SLOTS; i++) {
+        uint8_t name[2] = {(uint8_t)('A' + i / 10), (uint8_t)('0' + i % 10)};
+        expect(varnucht_refusal(save(name, 2, i, sizeof list)) == 0, "a file of eighty", i);
+    }
+    expect(save(tunes, 5, 0, sizeof list) == VARNUCHT_NO_FREE_SLOT, "the file after eighty", 0);
+    uint64_t answer = varnucht_list(image, sizeof image, out, VARNUCHT_LISTING_BYTES - 1);
+    expect(answer == VARNUCHT_BUFFER_TOO_SHORT, "a listing too long", 0);
+    answer = varnucht_list(image, sizeof image, out, VARNUCHT_LISTING_BYTES);
+    expect(varnucht_refusal(answer) == 0 && varnucht_value(answer) == VARNUCHT_SLOTS, "the longest listing", 0);
+    expect(varnucht_free(answer) == VARNUCHT_DATA_SECTORS - VARNUCHT_SLOTS, "its free sectors", 0);
+    expect(varnucht_entry_slot(varnucht_entry(out, VARNUCHT_SLOTS - 1)) == VARNUCHT_SLOTS, "its last entry", 0);
+}
+
+typedef uint64_t change(uint8_t *, size_t, const uint8_t *, size_t, uint8_t *, size_t);
+
+/* Two bytes are enough for every other change and one is not; of an odd number the last holds nothing. */
+static void check_other_lists(void) {
+    static change *const changes[] = {varnucht_hide, varnucht_show, varnucht_protect, varnucht_release, varnucht_erase};
+    static const uint8_t first[] = {'A', '0'}, other[] = {'A', 'A'};
+    const size_t room = VARNUCHT_CHANGE_LIST_BYTES;
+    for (unsigned i = 0; i < sizeof changes / sizeof changes[0]; i++) {
+        uint64_t answer = changes[i](image, sizeof image, first, 2, list, room - 1);
+        expect(answer == VARNUCHT_BUFFER_TOO_SHORT, "a change's list too short", i);
+        answer = changes[i](image, sizeof image, first, 2, list, room);
+        expect(varnucht_refusal(answer) == 0 && varnucht_value(answer) == 1, "a change", i);
+        expect(varnucht_listed(list, 0) == 0, "its sector", i);
+    }
+    expect(save(first, 2, 0, 3) == VARNUCHT_BUFFER_TOO_SHORT, "an odd byte holds no number", 0);
+    expect(varnucht_refusal(save(first, 2, 0, 4)) == 0, "four bytes hold two numbers", 0);
+    uint64_t answer = varnucht_rename(image, sizeof image, first, 2, other, 2, list, room - 1);
+    expect(answer == VARNUCHT_BUFFER_TOO_SHORT, "a rename's list too short", 0);
+    answer = varnucht_rename(image, sizeof image, first, 2, other, 2, list, room);
+    expect(varnucht_refusal(answer) == 0 && varnucht_value(answer) == 1, "a rename", 0);
+}
+
+void check_size_limits(void) {
+    for (size_t i = 0; i < sizeof body; i++) {
+        body[i] = (uint8_t)(drawn() >> 32);
+    }
+    check_greatest_body();
+    check_longest_listing();
+    check_other_lists();
+    expect(varnucht_check(image, sizeof image) == 0, "the disk is accepted", 0);
+}

@@ -1,0 +1,91 @@
+/* How much stack each call takes: it runs on a stack of its own, which was painted before, and the paint that is gone is
+ * counted. The disks are those that make a call work longest: the greatest file, and eighty files. */
+#define _XOPEN_SOURCE 700
+#include <stdio.h>
+#include <string.h>
+#include <ucontext.h>
+
+#include "varnucht.h"
+
+#define PAINT 0xa5
+
+static uint8_t stack[65536];
+static ucontext_t here, there;
+
+static uint8_t blank[VARNUCHT_IMAGE_BYTES], full[VARNUCHT_IMAGE_BYTES], crowded[VARNUCHT_IMAGE_BYTES];
+static uint8_t image[VARNUCHT_IMAGE_BYTES];
+static uint8_t body[VARNUCHT_BODY_BYTES], list[VARNUCHT_SAVE_LIST_BYTES];
+static const uint8_t name[] = {'A', '0'}, other[] = {'T', 'U', 'N', 'E', 'S'};
+static unsigned refusal;
+
+static uint64_t save(uint8_t *to, const uint8_t *as, size_t as_len, size_t len) {
+    return varnucht_save(to, sizeof image, 19, as, as_len, 1, 32768, NULL, 0, NULL, 0, body, len, list, sizeof list);
+}
+
+static void nothing(void) {}
+static void check(void) { refusal = varnucht_refusal(varnucht_check(image, sizeof image)); }
+static void listing(void) { refusal = varnucht_refusal(varnucht_list(image, sizeof image, body, sizeof body)); }
+static void reading(void) { refusal = varnucht_refusal(varnucht_read(image, sizeof image, name, 2, body, sizeof body)); }
+static void start(void) { refusal = varnucht_refusal(varnucht_start(image, sizeof image, name, 2)); }
+static void sector(void) { refusal = varnucht_refusal(varnucht_sector(image, sizeof image, full, sizeof full, 1, 207, 10)); }
+static void saving(void) { refusal = varnucht_refusal(save(image, other, 5, 510 * 1560 - 9)); }
+static void saving_last(void) { refusal = varnucht_refusal(save(image, other, 5, 510 * 1480 - 9)); }
+static void erase(void) { refusal = varnucht_refusal(varnucht_erase(image, sizeof image, name, 2, list, 2)); }
+static void renaming(void) { refusal = varnucht_refusal(varnucht_rename(image, sizeof image, name, 2, other, 5, list, 2)); }
+static void hide(void) { refusal = varnucht_refusal(varnucht_hide(image, sizeof image, name, 2, list, 2)); }
+static void show(void) { refusal = varnucht_refusal(varnucht_show(image, sizeof image, name, 2, list, 2)); }
+static void protect(void) { refusal = varnucht_refusal(varnucht_protect(image, sizeof image, name, 2, list, 2)); }
+static void release(void) { refusal = varnucht_refusal(varnucht_release(image, sizeof image, name, 2, list, 2)); }
+
+/* The bytes from the deepest that was written to the stack's end. */
+static size_t used_by(void (*run)(void)) {
+    size_t clean = 0;
+    memset(stack, PAINT, sizeof stack);
+    getcontext(&there);
+    there.uc_stack.ss_sp = stack;
+    there.uc_stack.ss_size = sizeof stack;
+    there.uc_link = &here;
+    makecontext(&there, run, 0);
+    swapcontext(&here, &there);
+    while (clean < sizeof stack && stack[clean] == PAINT) {
+        clean++;
+    }
+    return sizeof stack - clean;
+}
+
+static void say(const char *call, void (*run)(void), const uint8_t *disk) {
+    memcpy(image, disk, sizeof image);
+    refusal = 0;
+    size_t without = used_by(nothing), with = used_by(run);
+    printf("%s %lu refused %u\n", call, (unsigned long)(with - without), refusal);
+}
+
+static void make_disks(void) {
+    save(full, name, 2, sizeof body);
+    for (unsigned i = 0; i < 80; i++) {
+        uint8_t each[2] = {(uint8_t)('A' + i / 10), (uint8_t)('0' + i % 10)};
+        save(crowded, each, 2, 1);
+    }
+    varnucht_erase(crowded, sizeof crowded, (const uint8_t *)"H9", 2, list, 2);
+}
+
+int main(void) {
+    make_disks();
+    const uint8_t *const disks[] = {full, crowded};
+    for (int i = 0; i < 2; i++) {
+        say("check", check, disks[i]);
+        say("list", listing, disks[i]);
+        say("read", reading, disks[i]);
+        say("start", start, disks[i]);
+        say("sector", sector, disks[i]);
+        say("erase", erase, disks[i]);
+        say("rename", renaming, disks[i]);
+        say("hide", hide, disks[i]);
+        say("show", show, disks[i]);
+        say("protect", protect, disks[i]);
+        say("release", release, disks[i]);
+    }
+    say("save", saving, blank);
+    say("save", saving_last, crowded);
+    return 0;
+}

@@ -1,0 +1,51 @@
+//! Kills the tool in the middle of saves, many times, at drawn moments. The image left is accepted each time, shows the old
+//! files or the new, and takes the change again. `VARNUCHT_KILLS` is how many saves to kill, `VARNUCHT_SEED` what is drawn.
+//!
+//! A sector is written in one call of 512 bytes, which a kill cannot tear: the disk left is held to whole sectors.
+#![cfg(unix)]
+#[path = "tool_kill/disk.rs"]
+mod disk;
+#[path = "tool_kill/draw.rs"]
+mod draw;
+#[path = "tool_kill/pace.rs"]
+mod pace;
+#[path = "tool_kill/scene.rs"]
+mod scene;
+#[path = "tool_kill/tally.rs"]
+mod tally;
+#[path = "tool_kill/victim.rs"]
+mod victim;
+
+use scene::Scene;
+use std::env;
+use tally::Tally;
+
+/// A number from the environment, or the usual one.
+fn number(name: &str, usual: usize) -> usize {
+    env::var(name).map_or(usual, |text| {
+        text.parse().unwrap_or_else(|_| panic!("{name} is a number and not {text}"))
+    })
+}
+
+#[test]
+fn a_killed_tool_leaves_the_old_files_or_the_new() {
+    let kills = number("VARNUCHT_KILLS", 120);
+    let mut scene = Scene::new(number("VARNUCHT_SEED", 1) as u64);
+    let mut pace = scene.measure();
+    println!("at first: {}, saves of 20 to {} sectors", pace.words(), pace.most_sectors());
+    let (mut saves, mut others) = (Tally::default(), Tally::default());
+    while saves.kills() < kills {
+        assert!(
+            saves.rounds < 3 * kills + 20,
+            "too few runs were still there to kill: {saves}"
+        );
+        scene.save_round(&mut pace, &mut saves);
+        if saves.rounds % 4 == 0 {
+            scene.change_round(&pace, &mut others);
+        }
+    }
+    println!("at last: {}, saves of 20 to {} sectors", pace.words(), pace.most_sectors());
+    println!("saves: {saves}");
+    println!("erase, rename, hide, show: {others}");
+    assert!(saves.middle >= kills / 5, "too few kills fell between two writes: {saves}");
+}
