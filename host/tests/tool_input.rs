@@ -72,11 +72,10 @@ fn what_is_no_file() {
         on(command, &directory, NONE).fails(3, "directory");
         on(command, &missing, NONE).fails(3, "missing.mgt: No such file");
     }
-    for words in [["erase", "A", ""], ["save", "A", "/dev/null"], ["rename", "A", "B"]] {
-        let words = || words[1..].iter().filter(|word| !word.is_empty());
-        let command = if words().count() == 1 { "erase" } else { "save" };
-        on(command, &directory, words()).fails(3, "directory");
-        on(command, &missing, words()).fails(3, "No such file");
+    let changes: [(&str, &[&str]); 3] = [("erase", &["A"]), ("save", &["A", "/dev/null"]), ("rename", &["A", "B"])];
+    for (command, words) in changes {
+        on(command, &directory, words).fails(3, "directory");
+        on(command, &missing, words).fails(3, "missing.mgt: No such file");
     }
     on("check", "/dev/zero".as_ref(), NONE).fails(1, "refusal 1: ");
     on("check", "/dev/null".as_ref(), NONE).fails(1, "refusal 1: ");
