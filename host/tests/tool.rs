@@ -17,7 +17,12 @@ fn check_accepts_and_refuses() {
     for command in ["list", "map"] {
         on(command, &image, NONE).fails(1, "refusal 3 at slot 1");
     }
-    on("erase", &image, ["ONE"]).fails(1, "refusal 3 at slot 1");
+    // The disk's refusals come before those of the request, whatever is wrong with that.
+    on("erase", &image, ["ONE"]).fails(1, "disk.mgt: refusal 3 at slot 1");
+    on("erase", &image, [""]).fails(1, "disk.mgt: refusal 3 at slot 1");
+    on("hide", &image, ["", "--dry-run"]).fails(1, "disk.mgt: refusal 3 at slot 1");
+    on("read", &image, [""]).fails(1, "disk.mgt: refusal 3 at slot 1");
+    on("save", &image, ["", "/dev/null", "--kind", "5", "--page", "32"]).fails(1, "disk.mgt: refusal 3 at slot 1");
     assert_eq!(fs::read(&image).unwrap(), bytes);
 }
 

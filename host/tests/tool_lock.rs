@@ -77,7 +77,7 @@ fn reading_waits_for_a_change_alone() {
         &["sector", path, "0", "1"],
         &["erase", path, "ONE", "--dry-run"],
     ] {
-        assert_eq!(run(words).err, "", "{words:?}");
+        assert_eq!(run(words.iter().copied().chain(["--no-wait"])).err, "", "{words:?}");
     }
     drop(lock);
     for words in [

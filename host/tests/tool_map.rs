@@ -91,7 +91,7 @@ fn colour_only_where_it_is_wanted() {
     let coloured = on("map", &image, ["--color", "always"]);
     assert!(coloured.done().contains("\x1b[0;32mAAAA") || coloured.text().contains("\x1b[0;32mA"));
     assert_eq!(plain(coloured.text()), plainly.text());
-    assert!(coloured.text().ends_with(|letter| letter == '\n' || letter == 'm'));
+    assert!(coloured.text().ends_with(['\n', 'm']));
     for when in ["never", "auto"] {
         assert_eq!(on("map", &image, ["--color", when]).done(), plainly.text());
     }

@@ -68,6 +68,17 @@ fn listings_say_what_the_library_says() {
     assert_eq!((full.listing().free(), full.listing().room()), (0, None));
 }
 
+/// Bits 14 and 15 of the length are no part of it.
+#[test]
+fn lengths_ignore_two_bits() {
+    let high = pair().listing().entries()[1].as_bytes()[241];
+    for bits in [0x40, 0x80, 0xc0] {
+        let disk = Disk::open(damaged(&[(241, high | bits)])).unwrap();
+        assert_eq!(disk.listing().entries()[1].length(), Some(900));
+        assert!(disk.read(&name("TWO")).unwrap() == body(900));
+    }
+}
+
 /// A file's start as its entry gives it is what the library gives, for each offset around the range.
 #[test]
 fn starts_of_entries_are_the_librarys() {
