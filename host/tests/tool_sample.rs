@@ -1,10 +1,11 @@
 //! The sample disk: the script makes it anew, byte for byte, and the tool prints of it what is kept beside it.
-mod tool_support;
+#[path = "tool/support.rs"]
+mod support;
 
 use std::fs;
 use std::path::PathBuf;
 use std::process::Command;
-use tool_support::*;
+use support::*;
 use varnucht::Name;
 
 /// A file of the folder with the samples.

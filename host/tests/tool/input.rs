@@ -1,11 +1,9 @@
 //! Bad input of many kinds: every one is answered, with the status that the help names, and nothing changes.
-mod tool_support;
-
+use crate::support::*;
 use std::ffi::OsString;
 use std::fs::{self, File};
 use std::os::unix::ffi::OsStringExt;
 use std::time::Instant;
-use tool_support::*;
 
 #[test]
 fn images_of_every_length() {

@@ -1,13 +1,11 @@
 //! How the tool writes: only the sectors named, in their order, and nothing on a dry run; what is lost where writing fails.
-mod tool_support;
-
+use crate::support::*;
 use std::fs::{self, File};
 use std::io::{self, Read};
 use std::os::unix::fs::{MetadataExt, PermissionsExt};
 use std::os::unix::process::CommandExt;
 use std::path::Path;
 use std::process::{Command, Stdio};
-use tool_support::*;
 use varnucht::{Disk, Image, Name};
 
 /// The commands of every change, on a disk with the files ONE and TWO.

@@ -1,8 +1,6 @@
 //! The map: all 1,600 sectors, drawn from the listing.
-mod tool_support;
-
+use crate::support::*;
 use std::fs;
-use tool_support::*;
 use varnucht::{LONGEST_BODY, Name, SectorNumber};
 
 /// The signs of all sectors, by sector number, from what `map` prints.

@@ -1,9 +1,7 @@
 //! Names of any bytes: what `list` prints can be typed back.
-mod tool_support;
-
+use crate::support::*;
 use std::ffi::OsStr;
 use std::os::unix::ffi::OsStrExt;
-use tool_support::*;
 
 /// Names that are hard to print: of control characters, bytes above 126, backslashes and spaces.
 fn hard_names() -> Vec<Vec<u8>> {

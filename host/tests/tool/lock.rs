@@ -1,11 +1,9 @@
 //! Locks: two programs that change one image at once lose nothing.
-mod tool_support;
-
+use crate::support::*;
 use std::fs::{self, File};
 use std::io::{BufRead, BufReader, Read};
 use std::process::{Child, Stdio};
 use std::time::Duration;
-use tool_support::*;
 
 /// Starts the tool and leaves it running.
 fn start(words: &[&str]) -> Child {
