@@ -130,8 +130,8 @@ fn powerless(command: &mut Command, folder: &Folder) -> Run {
 fn a_file_that_may_not_be_written() {
     let folder = Folder::new();
     let image = folder.image(&disk(&[("ONE", 10)]));
-    fs::set_permissions(&image, fs::Permissions::from_mode(0o444)).unwrap();
     age(&image);
+    fs::set_permissions(&image, fs::Permissions::from_mode(0o444)).unwrap();
     let before = state(&image);
     let path = image.to_str().unwrap();
     for words in [
