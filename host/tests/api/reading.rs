@@ -66,6 +66,7 @@ fn listings_say_what_the_library_says() {
     let mut full = blank();
     save(&mut full, &code("LONG", &body(LONGEST_BODY)));
     assert_eq!((full.listing().free(), full.listing().room()), (0, None));
+    assert_eq!((full.listing().free_slots(), disk.listing().free_slots()), (79, 78));
 }
 
 /// Bits 14 and 15 of the length are no part of it.

@@ -53,7 +53,12 @@ fn list_of_a_full_disk() {
     let folder = Folder::new();
     let image = folder.image(&disk(&[("LONG", LONGEST_BODY)]));
     let table = on("list", &image, NONE);
-    assert!(table.done().ends_with("\n1 file, no sector free\n"), "{}", table.text());
+    let last = "\n1 file, no sector free: no room for a file\n";
+    assert!(table.done().ends_with(last), "{}", table.text());
+    let files: Vec<(String, usize)> = (1..=80).map(|number| (format!("FILE{number}"), 0)).collect();
+    let table = on("list", &folder.image(&disk(&files)), NONE);
+    let last = "\n80 files, 1480 sectors free, but no slot: no room for a file\n";
+    assert!(table.done().ends_with(last), "{}", table.text());
 }
 
 #[test]

@@ -231,7 +231,7 @@ fn a_change_that_fails_says_so() {
     let run = Run::of(Command::new("sh").args(words).output().unwrap());
     run.fails(3, "0 of 1 sectors were written, and then: File too large");
     assert!(
-        run.err.contains("check the disk, which is the old one or the new one.\n"),
+        run.err.contains("may hold the old bytes or the new: check the disk.\n"),
         "{}",
         run.err
     );
