@@ -50,7 +50,7 @@ fn a_change_waits_for_a_lock() {
         } else {
             lock.lock().unwrap()
         }
-        on("hide", &image, ["ONE", "--no-wait"]).fails(3, "disk.mgt: another program has locked it\n");
+        run_soon(["hide", path, "ONE", "--no-wait"]).fails(3, "disk.mgt: another program has locked it\n");
         assert!(state(&image) == before);
     }
     let lock = File::open(&image).unwrap();
@@ -75,7 +75,7 @@ fn reading_waits_for_a_change_alone() {
         &["sector", path, "0", "1"],
         &["erase", path, "ONE", "--dry-run"],
     ] {
-        assert_eq!(run(words.iter().copied().chain(["--no-wait"])).err, "", "{words:?}");
+        assert_eq!(run_soon(words.iter().copied().chain(["--no-wait"])).err, "", "{words:?}");
     }
     drop(lock);
     for words in [
@@ -85,7 +85,7 @@ fn reading_waits_for_a_change_alone() {
     ] {
         let lock = File::open(&image).unwrap();
         lock.lock().unwrap();
-        run(words.iter().copied().chain(["--no-wait"])).fails(3, "another program has locked it");
+        run_soon(words.iter().copied().chain(["--no-wait"])).fails(3, "another program has locked it");
         assert_eq!(waits(words, lock).status, 0);
     }
 }

@@ -6,7 +6,7 @@ use std::io::Write;
 use std::path::{Path, PathBuf};
 use std::process::{Command, Output, Stdio};
 use std::sync::atomic::{AtomicUsize, Ordering};
-use std::time::{Duration, SystemTime};
+use std::time::{Duration, Instant, SystemTime};
 use varnucht::{CarriedKind, Disk, Image, NewFile, NewName, Start};
 
 /// The tool.
@@ -113,6 +113,24 @@ pub fn tool<S: AsRef<OsStr>>(words: impl IntoIterator<Item = S>) -> Command {
 /// Runs the tool with these words.
 pub fn run<S: AsRef<OsStr>>(words: impl IntoIterator<Item = S>) -> Run {
     Run::of(tool(words).output().expect("the tool runs"))
+}
+
+/// Runs the tool with these words where it must not wait for anything. What it prints is short.
+pub fn run_soon<S: AsRef<OsStr>>(words: impl IntoIterator<Item = S>) -> Run {
+    let mut child = tool(words)
+        .stdout(Stdio::piped())
+        .stderr(Stdio::piped())
+        .spawn()
+        .expect("the tool runs");
+    let began = Instant::now();
+    while child.try_wait().expect("the tool is there").is_none() {
+        if began.elapsed() > Duration::from_secs(20) {
+            child.kill().expect("the tool is there");
+            panic!("the tool waits");
+        }
+        std::thread::sleep(Duration::from_millis(5));
+    }
+    Run::of(child.wait_with_output().expect("the tool ends"))
 }
 
 /// Runs the tool on an image: a command, the image, and more words.
