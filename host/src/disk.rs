@@ -24,6 +24,8 @@ pub struct Disk {
 impl Disk {
     /// Opens a disk: checks the image and lists it. Refused 2 to 11 with the slot; the error hands the image back.
     ///
+    /// Every slot is looked at, and every sector of every file. The image is not copied.
+    ///
     /// ```
     /// use varnucht::{Disk, Image};
     ///

@@ -16,6 +16,28 @@
 //!
 //! The types are a convenience. Every request still goes to the library, and every decision is its answer.
 //!
+//! So these do not compile. An image that was not checked cannot be read:
+//!
+//! ```compile_fail,E0599
+//! # use varnucht::{Disk, Image, Name};
+//! let body = Image::blank().read(&Name::new("TUNES").unwrap());
+//! ```
+//!
+//! The image of a disk that was accepted cannot be changed behind its back:
+//!
+//! ```compile_fail,E0596
+//! # use varnucht::{Disk, Image};
+//! let disk = Disk::open(Image::blank()).unwrap();
+//! disk.image().as_bytes_mut()[0] = 1;
+//! ```
+//!
+//! A name that may only be asked for cannot be given to a file:
+//!
+//! ```compile_fail,E0308
+//! # use varnucht::{Change, Name};
+//! let change = Change::Rename(Name::new("TUNES").unwrap(), Name::new("SONGS").unwrap());
+//! ```
+//!
 //! # A disk in memory
 //!
 //! ```

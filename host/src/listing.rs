@@ -43,9 +43,15 @@ impl Listing {
         self.free
     }
 
-    /// The length of the longest body that the free sectors can take, with its nine header bytes; none where no sector is
-    /// free.
+    /// How many of the 80 slots are free.
+    pub fn free_slots(&self) -> usize {
+        SLOTS.saturating_sub(self.entries.len())
+    }
+
+    /// The length of the longest body that can be saved: the free sectors hold it and its nine header bytes. None where no
+    /// sector or no slot is free.
     pub fn room(&self) -> Option<u32> {
-        (510 * u32::from(self.free)).checked_sub(9)
+        let free = if self.free_slots() == 0 { 0 } else { self.free };
+        (510 * u32::from(free)).checked_sub(9)
     }
 }

@@ -49,7 +49,7 @@ impl fmt::Display for WriteError {
         )?;
         f.write_str(match self.at_last() {
             false => "The old disk is still there and reads as before",
-            true => "The directory's sector was the one that failed: check the disk, which is the old one or the new one",
+            true => "The directory's sector was the one that failed, and may hold the old bytes or the new: check the disk",
         })
     }
 }

@@ -64,6 +64,7 @@ fn summary(listing: &Listing) -> String {
     );
     match listing.room() {
         Some(room) => format!("{files}, {free} free: room for a file of {room} bytes\n"),
-        None => format!("{files}, no sector free\n"),
+        None if listing.free_slots() == 0 => format!("{files}, {free} free, but no slot: no room for a file\n"),
+        None => format!("{files}, no sector free: no room for a file\n"),
     }
 }

@@ -1,0 +1,75 @@
+//! The safe interface, by subject. Here is what the subjects share.
+#[path = "api/changing.rs"]
+mod changing;
+#[path = "api/reading.rs"]
+mod reading;
+#[path = "api/texts.rs"]
+mod texts;
+#[path = "api/types.rs"]
+mod types;
+#[path = "api/words.rs"]
+mod words;
+
+use varnucht::{CarriedKind, Disk, Image, Name, NewFile, NewName, Refused, SectorNumber, Slot, Start};
+
+/// A disk with no file.
+fn blank() -> Disk {
+    Disk::open(Image::blank()).expect("a blank disk is accepted")
+}
+
+/// A file of code with this name and body.
+fn code<'a>(name: &str, body: &'a [u8]) -> NewFile<'a> {
+    let (name, start) = (
+        NewName::new(name).expect("a usable name"),
+        Start::new(1, 32_768).expect("a usable start"),
+    );
+    NewFile::new(CarriedKind::Code, name, start, body)
+}
+
+/// Saves a file, and gives the numbers of its sectors.
+fn save(disk: &mut Disk, file: &NewFile) -> Vec<SectorNumber> {
+    disk.save(file).expect("the file is saved").into_numbers()
+}
+
+/// A name asked for.
+fn name(text: &str) -> Name {
+    Name::new(text).expect("a usable name")
+}
+
+/// A body that repeats nowhere soon.
+fn body(length: usize) -> Vec<u8> {
+    (0..length as u64)
+        .map(|place| (place.wrapping_mul(0x9e37_79b9_7f4a_7c15) >> 56) as u8)
+        .collect()
+}
+
+/// The place of a slot's bytes in an image.
+fn slot_place(slot: usize) -> usize {
+    (slot - 1) / 20 * 10_240 + (slot - 1) % 20 * 256
+}
+
+/// A disk with a file of two sectors in each of slots 1 and 2.
+fn pair() -> Disk {
+    let mut disk = blank();
+    save(&mut disk, &code("ONE", &body(1_000)));
+    save(&mut disk, &code("TWO", &body(900)));
+    disk
+}
+
+/// The pair with some bytes of slot 2 changed.
+fn damaged(changes: &[(usize, u8)]) -> Image {
+    let mut image = pair().into_image();
+    for (place, byte) in changes {
+        image.as_bytes_mut()[slot_place(2) + place] = *byte;
+    }
+    image
+}
+
+/// The number, the slot and the words of a refusal.
+fn parts(refused: Refused) -> (u8, u16, String) {
+    (
+        refused.refusal.number(),
+        refused.slot.map_or(0, Slot::number),
+        refused.to_string(),
+    )
+}

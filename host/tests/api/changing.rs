@@ -1,0 +1,160 @@
+//! A change written sector by sector gives the disk of memory; cut short, the old disk; refused, nothing.
+use super::*;
+use std::fs::{self, File};
+use std::io;
+use varnucht::{Change, LONGEST_BODY, SECTOR_LENGTH, Store};
+
+/// A disk in memory, and a file that follows it.
+struct Followed {
+    disk: Disk,
+    file: File,
+    path: std::path::PathBuf,
+}
+
+impl Followed {
+    fn new(disk: Disk, called: &str) -> Followed {
+        let path = std::env::temp_dir().join(format!("varnucht-api-{}-{called}.mgt", std::process::id()));
+        fs::write(&path, disk.image().as_bytes()).expect("the file is made");
+        let file = File::options().read(true).write(true).open(&path).expect("the file is there");
+        Followed { disk, file, path }
+    }
+
+    /// Makes a change in memory and in the file.
+    fn change(&mut self, change: &Change) -> Result<usize, Refused> {
+        let before = self.disk.image().clone();
+        let planned = self.disk.try_change(change);
+        assert!(self.disk.image() == &before, "a trial leaves the disk as it is");
+        let mut steps = Vec::new();
+        let sectors = self.disk.change(change);
+        assert_eq!(
+            planned,
+            sectors
+                .as_ref()
+                .map(|sectors| sectors.numbers().to_vec())
+                .map_err(|refused| *refused)
+        );
+        sectors?
+            .write_to(&mut self.file, |written, of| steps.push((written, of)))
+            .expect("the file takes them");
+        let of = steps.len();
+        assert!(steps.into_iter().eq((1..=of).map(|written| (written, of))));
+        assert!(
+            fs::read(&self.path).unwrap() == self.disk.image().as_bytes(),
+            "the file is the disk of memory"
+        );
+        Ok(of)
+    }
+}
+
+impl Drop for Followed {
+    fn drop(&mut self) {
+        let _ = fs::remove_file(&self.path);
+    }
+}
+
+#[test]
+fn a_file_follows_the_disk_of_memory() {
+    let (one, two, new) = (name("ONE"), name("TWO"), NewName::new("NEW NAME").unwrap());
+    let mut followed = Followed::new(pair(), "follows");
+    let long = body(3_000);
+    assert_eq!(followed.change(&Change::Save(code("LONG", &long))), Ok(7));
+    for (change, hidden, protected) in [
+        (Change::Hide(one), true, false),
+        (Change::Hide(one), true, false),
+        (Change::Protect(one), true, true),
+        (Change::Show(one), false, true),
+        (Change::Release(one), false, false),
+    ] {
+        assert_eq!(followed.change(&change), Ok(1));
+        let entry = followed.disk.listing().find(&one).unwrap();
+        assert_eq!((entry.hidden(), entry.protected()), (hidden, protected));
+    }
+    assert_eq!(followed.change(&Change::Rename(one, new)), Ok(1));
+    assert_eq!(followed.change(&Change::Erase(two)), Ok(1));
+    assert_eq!(
+        followed.change(&Change::Erase(two)).map_err(|refused| parts(refused).0),
+        Err(15)
+    );
+    assert_eq!(followed.change(&Change::Save(code("AGAIN", &long))), Ok(7));
+    let names: Vec<String> = followed
+        .disk
+        .listing()
+        .entries()
+        .iter()
+        .map(|entry| entry.name().to_string())
+        .collect();
+    assert_eq!(names, ["NEW NAME", "AGAIN", "LONG"]);
+    assert!(followed.disk.read(&name("AGAIN")).unwrap() == long);
+    assert!(followed.disk.read(&new.name()).unwrap() == body(1_000));
+}
+
+/// An image in memory that takes so many sectors and then no more.
+struct Failing {
+    image: Image,
+    left: usize,
+}
+
+impl Store for Failing {
+    fn write_sector(&mut self, number: SectorNumber, bytes: &[u8; SECTOR_LENGTH]) -> io::Result<()> {
+        self.left = self.left.checked_sub(1).ok_or_else(|| io::Error::other("no more"))?;
+        self.image.as_bytes_mut()[number.place()..][..SECTOR_LENGTH].copy_from_slice(bytes);
+        Ok(())
+    }
+}
+
+/// Wherever the writing of a save fails, the old disk is still there.
+#[test]
+fn a_save_that_fails_leaves_the_old_disk() {
+    let (old, long) = (pair(), body(20_000));
+    let mut disk = old.clone();
+    let sectors = disk.save(&code("LONG", &long)).unwrap();
+    let of = sectors.numbers().len();
+    assert_eq!(of, 41);
+    for left in 0..of {
+        let mut store = Failing {
+            image: old.image().clone(),
+            left,
+        };
+        let failed = sectors.write_to(&mut store, |_, _| {}).unwrap_err();
+        assert_eq!((failed.written, failed.of, failed.at_last()), (left, of, left + 1 == of));
+        assert!(
+            failed
+                .to_string()
+                .starts_with(&format!("{left} of {of} sectors were written, and then: no more. "))
+        );
+        let cut = Disk::open(store.image).expect("it is sound");
+        assert_eq!(cut.listing(), old.listing());
+        assert_eq!(cut.read(&name("ONE")), old.read(&name("ONE")));
+        assert_eq!(cut.read(&name("TWO")), old.read(&name("TWO")));
+    }
+    let mut store = Failing {
+        image: old.image().clone(),
+        left: of,
+    };
+    sectors.write_to(&mut store, |_, _| {}).expect("it takes them all");
+    assert!(&store.image == disk.image());
+}
+
+/// A refused change alters nothing, and the disk goes on as before.
+#[test]
+fn a_refused_change_alters_nothing() {
+    let mut disk = pair();
+    drop(disk.protect(&name("ONE")).unwrap());
+    let (before, long) = (disk.clone(), body(LONGEST_BODY));
+    let taken = NewName::new("ONE").unwrap();
+    let changes = [
+        (16, Change::Save(code("ONE", b""))),
+        (19, Change::Save(code("LONG", &long))),
+        (17, Change::Erase(name("ONE"))),
+        (17, Change::Rename(name("ONE"), NewName::new("NEW").unwrap())),
+        (16, Change::Rename(name("TWO"), taken)),
+        (15, Change::Hide(name("THREE"))),
+        (15, Change::Show(name("THREE"))),
+        (15, Change::Protect(name("THREE"))),
+        (15, Change::Release(name("THREE"))),
+    ];
+    for (number, change) in changes {
+        assert_eq!(parts(disk.change(&change).unwrap_err()).0, number);
+        assert!(disk == before);
+    }
+}

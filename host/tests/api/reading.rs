@@ -1,0 +1,115 @@
+//! What is saved is read back, and listings say what the library says.
+use super::*;
+use varnucht::{DATA_SECTORS, Drive, Drives, IMAGE_LENGTH, LONGEST_BODY};
+
+#[test]
+fn bodies_of_every_kind_and_length_come_back() {
+    let lengths = [
+        0,
+        1,
+        500,
+        501,
+        502,
+        1_011,
+        1_012,
+        10_000,
+        16_383,
+        16_384,
+        16_385,
+        LONGEST_BODY,
+    ];
+    for (length, kind) in lengths
+        .into_iter()
+        .flat_map(|length| CarriedKind::ALL.map(|kind| (length, kind)))
+    {
+        let mut disk = blank();
+        let body = body(length);
+        let start = Start::new(31, 49_151).unwrap();
+        let file = NewFile {
+            execution: [1, 2, 3],
+            information: [7; 11],
+            ..code("FILE", &body)
+        };
+        let sectors = save(&mut disk, &NewFile { kind, start, ..file });
+        assert_eq!(sectors.len(), (9 + length).div_ceil(510) + 1);
+        assert!(disk.read(&name("FILE")).unwrap() == body);
+        assert_eq!(disk.start(&name("FILE")), Ok(540_671));
+        let entry = disk.listing().find(&name("FILE")).expect("it is listed");
+        assert_eq!((entry.kind().carried(), entry.length()), (Some(kind), Some(length as u32)));
+        assert_eq!(
+            (entry.start(), entry.execution(), entry.information()),
+            (Some(start), [1, 2, 3], [7; 11])
+        );
+        assert_eq!(usize::from(entry.sector_count()), sectors.len() - 1);
+        assert!(
+            entry.sectors().eq(sectors[..sectors.len() - 1].iter().copied()),
+            "rising from the lowest"
+        );
+        assert_eq!(usize::from(disk.listing().free()), DATA_SECTORS - (sectors.len() - 1));
+    }
+}
+
+#[test]
+fn listings_say_what_the_library_says() {
+    let disk = Disk::open(damaged(&[(0, 5 + 128 + 64)])).unwrap();
+    let [one, two] = disk.listing().entries() else {
+        panic!("there are two files")
+    };
+    assert_eq!((one.slot().number(), two.slot().number()), (1, 2));
+    assert_eq!((one.hidden(), one.protected(), one.kind().number()), (false, false, 19));
+    assert_eq!((two.hidden(), two.protected(), two.kind().number()), (true, true, 5));
+    assert_eq!((two.length(), two.start()), (None, None));
+    assert_eq!((one.name(), two.name()), (name("ONE"), name("TWO")));
+    assert_eq!((disk.listing().free(), disk.listing().room()), (1_556, Some(1_556 * 510 - 9)));
+    assert_eq!(disk.start(&name("ONE")).ok(), one.start().map(Start::address));
+    assert!(disk.listing().find(&name("THREE")).is_none());
+    let mut full = blank();
+    save(&mut full, &code("LONG", &body(LONGEST_BODY)));
+    assert_eq!((full.listing().free(), full.listing().room()), (0, None));
+    assert_eq!((full.listing().free_slots(), disk.listing().free_slots()), (79, 78));
+}
+
+/// Bits 14 and 15 of the length are no part of it.
+#[test]
+fn lengths_ignore_two_bits() {
+    let high = pair().listing().entries()[1].as_bytes()[241];
+    for bits in [0x40, 0x80, 0xc0] {
+        let disk = Disk::open(damaged(&[(241, high | bits)])).unwrap();
+        assert_eq!(disk.listing().entries()[1].length(), Some(900));
+        assert!(disk.read(&name("TWO")).unwrap() == body(900));
+    }
+}
+
+/// A file's start as its entry gives it is what the library gives, for each offset around the range.
+#[test]
+fn starts_of_entries_are_the_librarys() {
+    for offset in [0u16, 16_384, 32_767, 32_768, 40_000, 49_151, 49_152, 65_535] {
+        let [low, high] = offset.to_le_bytes();
+        for page in [0, 1, 31, 32, 63, 255] {
+            let disk = Disk::open(damaged(&[(236, page), (237, low), (238, high)])).unwrap();
+            let entry = disk.listing().find(&name("TWO")).unwrap();
+            assert_eq!(
+                disk.start(&name("TWO")).ok(),
+                entry.start().map(Start::address),
+                "page {page}, offset {offset}"
+            );
+        }
+    }
+}
+
+#[test]
+fn raw_sectors_are_parts_of_the_chosen_image() {
+    let (mut one, mut two) = (Image::blank(), Image::blank());
+    one.as_bytes_mut().copy_from_slice(&body(IMAGE_LENGTH));
+    two.as_bytes_mut().fill(9);
+    let drives = Drives { one: &one, two: &two };
+    for number in (0..1_600).filter_map(SectorNumber::new) {
+        let (track, sector) = (number.track(), number.sector());
+        for (drive, image) in [(Drive::One, &one), (Drive::Two, &two)] {
+            let found = drives.sector(drive, track, sector).expect("it is there");
+            assert!(std::ptr::eq(found, image.at(number)), "it is not copied");
+            assert!(std::ptr::eq(found.as_ptr(), &image.as_bytes()[number.place()]));
+        }
+        assert_eq!(one.sector(track, sector), Ok(one.at(number)));
+    }
+}

@@ -1,0 +1,127 @@
+//! Every refusal prints document 01's words, and every one of them is met.
+use super::*;
+use std::collections::HashSet;
+use varnucht::{Answer, LONGEST_BODY, Refusal, Track, calls};
+
+/// Document 01's table, copied from it once more.
+const PAPER: [&str; 21] = [
+    "the image is not 819,200 bytes",
+    "the kind is not known",
+    "the first name byte is 0",
+    "the count is not 1 to 1,560",
+    "the map's set bits are not as many as the count",
+    "the first address is not a data sector, or its bit is clear",
+    "carried kind, and 510 × count is below 9 + length",
+    "the map shares a bit with an earlier live slot",
+    "the ten name bytes equal an earlier live slot's",
+    "the chain is broken",
+    "carried kind, and the header's first byte (whole), remainder (mod 16,384) or pages differ from the slot's kind, remainder, pages",
+    "the name is not usable",
+    "the kind asked for (save) or found (read, start address) is not carried",
+    "start page above 31, or offset outside 32,768 to 49,151 (save, start address)",
+    "no live slot has the name",
+    "a live slot has the new name",
+    "protected (erase, rename)",
+    "no slot has byte 0 zero (save)",
+    "fewer free sectors than the save takes",
+    "a lent output buffer is too short",
+    "no such drive, track or sector",
+];
+
+#[test]
+fn every_number_prints_with_and_without_a_slot() {
+    for number in 1..=255u8 {
+        let refusal = Refusal::from_number(number).expect("0 alone is no refusal");
+        assert_eq!(refusal.number(), number);
+        let words = PAPER
+            .get(usize::from(number) - 1)
+            .copied()
+            .unwrap_or("a refusal that is not in the table");
+        assert_eq!(refusal.words(), words);
+        assert_eq!(Refused::from(refusal).to_string(), format!("refusal {number}: {words}"));
+        let at = Answer::from_number(u64::from(number) + 256 * 80).decode().unwrap_err();
+        assert_eq!(at.to_string(), format!("refusal {number} at slot 80: {words}"));
+    }
+    assert_eq!(Refusal::from_number(0), None);
+    let distinct: HashSet<_> = (1..=21).map(|number| Refusal::from_number(number).unwrap()).collect();
+    assert_eq!(distinct.len(), 21);
+}
+
+/// Each of the 21 refusals, brought about and caught as an error.
+#[test]
+fn every_refusal_is_met() {
+    let mut met = Vec::new();
+    for (number, slot, refused) in provoked() {
+        let words = PAPER[usize::from(number) - 1];
+        let at = if slot == 0 {
+            String::new()
+        } else {
+            format!(" at slot {slot}")
+        };
+        assert_eq!(parts(refused), (number, slot, format!("refusal {number}{at}: {words}")));
+        met.push(number);
+    }
+    assert_eq!(met, (1..=21).collect::<Vec<u8>>());
+}
+
+/// A refusal of every number, each with the number and the slot that it should have.
+fn provoked() -> Vec<(u8, u16, Refused)> {
+    let mut all = vec![(1, 0, Image::from_bytes(vec![0; 819_199]).unwrap_err().into())];
+    all.extend(unsound());
+    all.push((12, 0, Name::new("ELEVEN BYTE").unwrap_err()));
+    let strange = Disk::open(damaged(&[(0, 5)])).expect("a snapshot is accepted");
+    all.push((13, 2, strange.read(&name("TWO")).unwrap_err()));
+    let low = Disk::open(damaged(&[(238, 0x7f)])).expect("an offset is not checked");
+    all.push((14, 2, low.start(&name("TWO")).unwrap_err()));
+    all.push((15, 0, pair().erase(&name("THREE")).unwrap_err()));
+    all.push((16, 1, pair().rename(&name("TWO"), &NewName::new("ONE").unwrap()).unwrap_err()));
+    let mut kept = pair();
+    drop(kept.protect(&name("TWO")).unwrap());
+    all.push((17, 2, kept.erase(&name("TWO")).unwrap_err()));
+    let mut full = blank();
+    for slot in 1..=80 {
+        save(&mut full, &code(&format!("F{slot}"), b""));
+    }
+    all.push((18, 0, full.save(&code("ONE MORE", b"")).unwrap_err()));
+    all.push((19, 0, blank().save(&code("LONG", &body(LONGEST_BODY + 1))).unwrap_err()));
+    all.push((
+        20,
+        0,
+        calls::list(pair().image().as_bytes(), &mut [0; 515]).decode().unwrap_err(),
+    ));
+    all.push((21, 0, Track::new(80).unwrap_err()));
+    all
+}
+
+/// Refusals 2 to 11, each from damage to slot 2 of the pair or to its first sector.
+fn unsound() -> Vec<(u8, u16, Refused)> {
+    let sound = pair();
+    let one = *sound.listing().entries()[0].as_bytes();
+    let two_sector = sound.listing().entries()[1].sectors().next().expect("it has two").place();
+    // Slot 2 with the first address and the map of slot 1.
+    let shared: Vec<(usize, u8)> = (13..210).map(|place| (place, one[place])).collect();
+    let mut broken = damaged(&[]);
+    broken.as_bytes_mut()[two_sector + 511] ^= 1;
+    let mut headed = damaged(&[]);
+    headed.as_bytes_mut()[two_sector] = 20;
+    let images = [
+        (2, damaged(&[(0, 13)])),
+        (3, damaged(&[(1, 0)])),
+        (4, damaged(&[(12, 0)])),
+        (5, damaged(&[(12, 3)])),
+        (6, damaged(&[(13, 3)])),
+        (7, damaged(&[(239, 1)])),
+        (8, damaged(&shared)),
+        (9, damaged(&[(1, b'O'), (2, b'N'), (3, b'E')])),
+        (10, broken),
+        (11, headed),
+    ];
+    let refuse = |(number, image): (u8, Image)| {
+        let before = image.clone();
+        assert_eq!(parts(image.check().unwrap_err()).0, number);
+        let unsound = Disk::open(image).unwrap_err();
+        assert!(unsound.image == before, "the image comes back as it was");
+        (number, 2, unsound.into())
+    };
+    images.into_iter().map(refuse).collect()
+}

@@ -1,0 +1,15 @@
+//! The tool, run as a process, by subject. `tool/support.rs` is what the subjects share.
+#[path = "tool/commands.rs"]
+mod commands;
+#[path = "tool/input.rs"]
+mod input;
+#[path = "tool/lock.rs"]
+mod lock;
+#[path = "tool/map.rs"]
+mod map;
+#[path = "tool/names.rs"]
+mod names;
+#[path = "tool/support.rs"]
+mod support;
+#[path = "tool/writing.rs"]
+mod writing;

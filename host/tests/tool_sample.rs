@@ -1,0 +1,72 @@
+//! The sample disk: the script makes it anew, byte for byte, and the tool prints of it what is kept beside it.
+#[path = "tool/support.rs"]
+mod support;
+
+use std::fs;
+use std::path::PathBuf;
+use std::process::Command;
+use support::*;
+use varnucht::Name;
+
+/// A file of the folder with the samples.
+fn sample(name: &str) -> PathBuf {
+    PathBuf::from(env!("CARGO_MANIFEST_DIR")).join("../samples").join(name)
+}
+
+#[test]
+fn the_script_makes_the_disk_anew() {
+    let folder = Folder::new();
+    let image = folder.path("sample.mgt");
+    let made = Command::new("sh")
+        .arg(sample("make.sh"))
+        .arg(&image)
+        .env("VARNUCHT", TOOL)
+        .output()
+        .expect("the shell runs");
+    let run = Run::of(made);
+    assert_eq!((run.status, run.err.as_str()), (0, ""), "{run:?}");
+    assert!(
+        fs::read(&image).unwrap() == fs::read(sample("sample.mgt")).unwrap(),
+        "the disk is another"
+    );
+}
+
+#[test]
+fn the_tool_prints_what_is_kept() {
+    let image = sample("sample.mgt");
+    assert_eq!(on("check", &image, NONE).done(), "accepted\n");
+    assert_eq!(
+        on("list", &image, NONE).done(),
+        fs::read_to_string(sample("list.txt")).unwrap()
+    );
+    assert_eq!(on("map", &image, NONE).done(), fs::read_to_string(sample("map.txt")).unwrap());
+}
+
+/// The bodies are those that the script says: the bytes 0 to 255 again and again, and a screen of stripes.
+#[test]
+fn the_bodies_read_back() {
+    let image = sample("sample.mgt");
+    let disk = held(&image);
+    for entry in disk.listing().entries() {
+        let length = entry.length().expect("all kinds are carried") as usize;
+        let expected: Vec<u8> = match entry.name().to_string().as_str() {
+            "TITLE" => [vec![0x55; 6_144], vec![0x38; 768]].concat(),
+            _ => (0..length).map(|place| place as u8).collect(),
+        };
+        assert!(disk.read(&entry.name()).unwrap() == expected, "{}", entry.name());
+        assert!(on("read", &image, [entry.name().to_string()]).out == expected);
+    }
+    let kinds: Vec<u8> = disk.listing().entries().iter().map(|entry| entry.kind().number()).collect();
+    assert!((16..=20).all(|kind| kinds.contains(&kind)), "every carried kind is there");
+    let marks = |name: &str| {
+        disk.listing()
+            .find(&Name::new(name).unwrap())
+            .map(|entry| (entry.hidden(), entry.protected()))
+    };
+    assert_eq!(
+        (marks("SECRET"), marks("MASTER"), marks("AUTO")),
+        (Some((true, false)), Some((false, true)), Some((false, false)))
+    );
+    assert_eq!((marks("DRAFT"), marks("TEMP")), (None, None));
+    println!("{} files", kinds.len());
+}
