@@ -126,3 +126,8 @@ pub use refusal::{Refusal, Refused, Slot};
 pub use sectors::{LONGEST_BODY, Sectors};
 pub use start::Start;
 pub use store::{Store, WriteError};
+
+/// The README's example in Rust, compiled and run with the other examples.
+#[cfg(doctest)]
+#[doc = include_str!("../../README.md")]
+struct Readme;

@@ -4,9 +4,24 @@
 unsafe extern "C" {
     pub fn varnucht_check(image: *const u8, image_len: usize) -> u64;
     pub fn varnucht_list(image: *const u8, image_len: usize, out: *mut u8, out_len: usize) -> u64;
-    pub fn varnucht_read(image: *const u8, image_len: usize, name: *const u8, name_len: usize, out: *mut u8, out_len: usize) -> u64;
+    pub fn varnucht_read(
+        image: *const u8,
+        image_len: usize,
+        name: *const u8,
+        name_len: usize,
+        out: *mut u8,
+        out_len: usize,
+    ) -> u64;
     pub fn varnucht_start(image: *const u8, image_len: usize, name: *const u8, name_len: usize) -> u64;
-    pub fn varnucht_sector(one: *const u8, one_len: usize, two: *const u8, two_len: usize, drive: u32, track: u32, sector: u32) -> u64;
+    pub fn varnucht_sector(
+        one: *const u8,
+        one_len: usize,
+        two: *const u8,
+        two_len: usize,
+        drive: u32,
+        track: u32,
+        sector: u32,
+    ) -> u64;
     pub fn varnucht_save(
         image: *mut u8,
         image_len: usize,
@@ -24,7 +39,14 @@ unsafe extern "C" {
         list: *mut u8,
         list_len: usize,
     ) -> u64;
-    pub fn varnucht_erase(image: *mut u8, image_len: usize, name: *const u8, name_len: usize, list: *mut u8, list_len: usize) -> u64;
+    pub fn varnucht_erase(
+        image: *mut u8,
+        image_len: usize,
+        name: *const u8,
+        name_len: usize,
+        list: *mut u8,
+        list_len: usize,
+    ) -> u64;
     pub fn varnucht_rename(
         image: *mut u8,
         image_len: usize,
@@ -35,8 +57,36 @@ unsafe extern "C" {
         list: *mut u8,
         list_len: usize,
     ) -> u64;
-    pub fn varnucht_hide(image: *mut u8, image_len: usize, name: *const u8, name_len: usize, list: *mut u8, list_len: usize) -> u64;
-    pub fn varnucht_show(image: *mut u8, image_len: usize, name: *const u8, name_len: usize, list: *mut u8, list_len: usize) -> u64;
-    pub fn varnucht_protect(image: *mut u8, image_len: usize, name: *const u8, name_len: usize, list: *mut u8, list_len: usize) -> u64;
-    pub fn varnucht_release(image: *mut u8, image_len: usize, name: *const u8, name_len: usize, list: *mut u8, list_len: usize) -> u64;
+    pub fn varnucht_hide(
+        image: *mut u8,
+        image_len: usize,
+        name: *const u8,
+        name_len: usize,
+        list: *mut u8,
+        list_len: usize,
+    ) -> u64;
+    pub fn varnucht_show(
+        image: *mut u8,
+        image_len: usize,
+        name: *const u8,
+        name_len: usize,
+        list: *mut u8,
+        list_len: usize,
+    ) -> u64;
+    pub fn varnucht_protect(
+        image: *mut u8,
+        image_len: usize,
+        name: *const u8,
+        name_len: usize,
+        list: *mut u8,
+        list_len: usize,
+    ) -> u64;
+    pub fn varnucht_release(
+        image: *mut u8,
+        image_len: usize,
+        name: *const u8,
+        name_len: usize,
+        list: *mut u8,
+        list_len: usize,
+    ) -> u64;
 }

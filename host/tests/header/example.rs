@@ -1,4 +1,4 @@
-//! The example, compiled in both languages and run on disks that the test makes.
+//! The examples, compiled in both languages and run on disks that the test makes; the README shows the first as it is.
 use crate::compilers::{BOTH, Folder, Language, build, compile, link, part, root};
 use std::fs;
 use std::path::{Path, PathBuf};
@@ -74,6 +74,28 @@ fn some_bytes(len: usize) -> Vec<u8> {
 
 fn example(language: Language, folder: &Folder) -> PathBuf {
     build(language, &["-O2"], &[root().join("examples/tunes.c")], folder, "tunes")
+}
+
+/// The README's program in C is `examples/files.c`, to the letter, and lists the sample disk.
+#[test]
+fn the_readme_shows_a_program_that_runs() {
+    let source = root().join("examples/files.c");
+    let text = fs::read_to_string(&source).expect("the program");
+    let readme = fs::read_to_string(root().join("README.md")).expect("the README");
+    assert!(readme.contains(&format!("```c\n{text}```\n")), "the README shows examples/files.c");
+    for language in BOTH {
+        let folder = Folder::new(&format!("files-{language:?}"));
+        let files = build(language, &["-O2"], std::slice::from_ref(&source), &folder, "files");
+        let lines = String::from_utf8(done(run(&files, &[&root().join("samples/sample.mgt")]))).expect("text");
+        assert_eq!(lines.lines().count(), 14, "{lines}");
+        assert!(lines.contains(" 2 TUNES        20 sectors\n") && lines.ends_with("\n1503 sectors free\n"), "{lines}");
+        let blank = folder.write("blank", vec![0; IMAGE]);
+        assert_eq!(done(run(&files, &[&blank])), b"1560 sectors free\n");
+        let long = folder.write("long", vec![0; IMAGE + 1]);
+        let words = "files: refused 1, slot 0: the image is not 819,200 bytes\n";
+        assert_eq!(refused(run(&files, &[&long])), words);
+        assert_eq!(run(&files, &[&folder.file("nowhere")]).status.code(), Some(2));
+    }
 }
 
 /// List, read, save, read back, list again, on a blank disk.
