@@ -1,1 +1,28 @@
-//! Document 01 in plain Rust.
+//! Document 01 in plain Rust, written from the paper alone. The tests and the benchmark compare the proved library with it.
+//!
+//! Every call takes any bytes and any numbers. A refused call changes no byte of anything lent.
+//!
+//! - `geometry`: sides, tracks, sectors, map bits, slot places
+//! - `map`: the 1,560 bits of a slot's map or of the used map
+//! - `name`: names asked for and new names
+//! - `slot`: what the 256 bytes of a directory slot say
+//! - `check`: refusals 1 to 11
+//! - `calls`: check, list, read, start address, raw sector
+//! - `save`: the change that takes slots and sectors
+//! - `changes`: the changes of one directory byte or name
+//! - `refusal`: the numbers of refusal
+
+mod calls;
+mod changes;
+mod check;
+mod geometry;
+mod map;
+mod name;
+mod refusal;
+mod save;
+mod slot;
+
+pub use calls::{Listed, check, list, read, sector, start};
+pub use changes::{erase, hide, protect, release, rename, show};
+pub use refusal::Refused;
+pub use save::{Wish, save};

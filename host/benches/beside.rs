@@ -1,0 +1,33 @@
+//! The proved library beside document 01 in plain Rust, on the same disks and in the same process.
+//!
+//! Before a row is timed, both sides do its work once and must give equal answers and equal buffers. Then they take turns,
+//! a round each. A round is a number of calls and gives the mean of them; the table has the best round and the middle one.
+
+#[path = "beside/clock.rs"]
+mod clock;
+#[path = "beside/disks.rs"]
+mod disks;
+#[path = "beside/rows.rs"]
+mod rows;
+#[path = "beside/sides.rs"]
+mod sides;
+#[path = "beside/table.rs"]
+mod table;
+
+use std::time::Instant;
+
+fn main() {
+    let begin = Instant::now();
+    let timer = clock::timer_cost();
+    table::print_head(timer);
+    let mut count = 0;
+    for row in rows::all() {
+        table::print_row(&row, &clock::measure(&row, timer));
+        count += 1;
+    }
+    println!();
+    println!(
+        "{count} rows, each equal on both sides before it was timed. {:.1} seconds.",
+        begin.elapsed().as_secs_f64()
+    );
+}

@@ -1,0 +1,96 @@
+//! The disks of the benchmark, all made by `paper::save` and `paper::erase`.
+
+use paper::Wish;
+use std::rc::Rc;
+
+/// The longest body that a blank disk takes: 1,560 sectors.
+pub const LONGEST: usize = 795_591;
+
+/// Room for the numbers of the longest list.
+pub const LIST_BYTES: usize = 2 * 1_561;
+
+/// A disk, what the table calls it, and the name of its last file (of any name, if it has none).
+#[derive(Clone)]
+pub struct Disk {
+    pub title: &'static str,
+    pub image: Rc<[u8]>,
+    pub last: Vec<u8>,
+}
+
+pub fn blank() -> Disk {
+    made("blank", 0, 0, unlike)
+}
+
+pub fn eighty() -> Disk {
+    made("80 x 900", 80, 900, unlike)
+}
+
+pub fn eighty_alike() -> Disk {
+    made("80 x 900, names alike", 80, 900, alike)
+}
+
+pub fn seventy_eight() -> Disk {
+    made("78 x 10,191", 78, 10_191, unlike)
+}
+
+pub fn one() -> Disk {
+    made("1 x 795,591", 1, LONGEST, unlike)
+}
+
+/// The disk with its last file erased.
+pub fn less_one(disk: &Disk, title: &'static str) -> Disk {
+    let mut image = disk.image.to_vec();
+    paper::erase(&mut image, &disk.last, &mut [0; 2]).expect("the last file is there");
+    Disk {
+        title,
+        image: image.into(),
+        last: disk.last.clone(),
+    }
+}
+
+/// Ten bytes that differ from file to file in the first byte.
+fn unlike(file: u8) -> [u8; 10] {
+    let mut name = *b"-disk file";
+    name[0] = b'!' + file;
+    name
+}
+
+/// Ten bytes that differ from file to file in the last byte alone.
+fn alike(file: u8) -> [u8; 10] {
+    let mut name = *b"disk file-";
+    name[9] = b'!' + file;
+    name
+}
+
+/// Bytes without a short period, so that no sector is like the next.
+pub fn body(length: usize) -> Vec<u8> {
+    (0..length as u32)
+        .map(|at| (at.wrapping_mul(2_654_435_761) >> 24) as u8)
+        .collect()
+}
+
+/// A wish for a machine code file.
+pub fn wish<'a>(name: &'a [u8], body: &'a [u8]) -> Wish<'a> {
+    Wish {
+        kind: 19,
+        name,
+        page: 1,
+        offset: 32_768,
+        exec: &[255, 255, 255],
+        info: &[],
+        body,
+    }
+}
+
+fn made(title: &'static str, files: u8, length: usize, name: fn(u8) -> [u8; 10]) -> Disk {
+    let mut image = vec![0; 819_200];
+    let body = body(length);
+    for file in 0..files {
+        paper::save(&mut image, &wish(&name(file), &body), &mut [0; LIST_BYTES]).expect("the file has room");
+    }
+    Disk {
+        title,
+        image: image.into(),
+        last: name(files.saturating_sub(1)).to_vec(),
+    }
+}

@@ -1,0 +1,105 @@
+//! What is measured: a call, a disk, and the refusal that the call must give there (0: accepted).
+
+use crate::disks::{self, Disk, LIST_BYTES, LONGEST};
+use crate::sides::Side;
+
+/// A call with what it is asked for.
+pub enum Work {
+    Check,
+    List,
+    /// Reads the disk's last file.
+    Read,
+    /// Saves a new file with this body.
+    Save(Vec<u8>),
+    /// Erases the disk's last file.
+    Erase,
+}
+
+pub struct Row {
+    pub disk: Disk,
+    pub work: Work,
+    pub refusal: u8,
+}
+
+/// Every row, in the order of the table.
+pub fn all() -> Vec<Row> {
+    let (blank, eighty, seventy_eight, one) = (disks::blank(), disks::eighty(), disks::seventy_eight(), disks::one());
+    let eighty_alike = disks::eighty_alike();
+    let disks = [&blank, &eighty, &seventy_eight, &one];
+    let row = |disk: &Disk, work, refusal| Row {
+        disk: disk.clone(),
+        work,
+        refusal,
+    };
+    let mut rows = vec![];
+    rows.extend([&blank, &eighty, &eighty_alike, &seventy_eight, &one].map(|disk| row(disk, Work::Check, 0)));
+    rows.extend(disks.map(|disk| row(disk, Work::List, 0)));
+    rows.extend(disks.map(|disk| row(disk, Work::Read, if disk.title == blank.title { 15 } else { 0 })));
+    rows.extend(saves(&blank, &eighty, &seventy_eight, &one));
+    rows.extend(disks.map(|disk| row(disk, Work::Erase, if disk.title == blank.title { 15 } else { 0 })));
+    rows
+}
+
+/// Saves: on the blank disk, on disks that have no slot or no sector left, and on those disks less one file.
+fn saves(blank: &Disk, eighty: &Disk, seventy_eight: &Disk, one: &Disk) -> [Row; 9] {
+    let seventy_nine = disks::less_one(eighty, "80 x 900 less one");
+    let seventy_seven = disks::less_one(seventy_eight, "78 x 10,191 less one");
+    let erased = disks::less_one(one, "1 x 795,591, erased");
+    let save = |disk: &Disk, length, refusal| Row {
+        disk: disk.clone(),
+        work: Work::Save(disks::body(length)),
+        refusal,
+    };
+    [
+        save(blank, 900, 0),
+        save(blank, LONGEST, 0),
+        save(eighty, 900, 18),
+        save(&seventy_nine, 900, 0),
+        save(seventy_eight, 900, 19),
+        save(&seventy_seven, 900, 0),
+        save(one, 900, 19),
+        save(&erased, 900, 0),
+        save(&erased, LONGEST, 0),
+    ]
+}
+
+impl Row {
+    /// The name that a save gives. No disk has it.
+    const NEW: &'static [u8] = b"new";
+
+    pub fn call(&self) -> String {
+        match &self.work {
+            Work::Check => "check".into(),
+            Work::List => "list".into(),
+            Work::Read => "read".into(),
+            Work::Save(body) => format!("save {}", body.len()),
+            Work::Erase => "erase".into(),
+        }
+    }
+
+    /// Whether the image changes. Then it is put back after every call.
+    pub fn changes(&self) -> bool {
+        self.refusal == 0 && matches!(self.work, Work::Save(_) | Work::Erase)
+    }
+
+    /// How long the lent output buffer is. The list of a change is two bytes for each sector named.
+    pub fn buffer_bytes(&self) -> usize {
+        match self.work {
+            Work::Check => 0,
+            Work::List => 80 * 258,
+            Work::Read => LONGEST,
+            Work::Save(_) | Work::Erase => LIST_BYTES,
+        }
+    }
+
+    /// Does the work once.
+    pub fn run(&self, side: &Side, image: &mut [u8], buffer: &mut [u8]) -> u64 {
+        match &self.work {
+            Work::Check => (side.check)(image),
+            Work::List => (side.list)(image, buffer),
+            Work::Read => (side.read)(image, &self.disk.last, buffer),
+            Work::Save(body) => (side.save)(image, &disks::wish(Row::NEW, body), buffer),
+            Work::Erase => (side.erase)(image, &self.disk.last, buffer),
+        }
+    }
+}

@@ -1,0 +1,116 @@
+//! The two sides behind one set of calls. Both answer the word of the C layer.
+
+use paper::{Refused, Wish};
+use std::hint::black_box;
+use varnucht::raw;
+
+/// The calls that are measured.
+#[derive(Clone, Copy)]
+pub struct Side {
+    pub check: fn(&[u8]) -> u64,
+    pub list: fn(&[u8], &mut [u8]) -> u64,
+    pub read: fn(&[u8], &[u8], &mut [u8]) -> u64,
+    pub save: fn(&mut [u8], &Wish, &mut [u8]) -> u64,
+    pub erase: fn(&mut [u8], &[u8], &mut [u8]) -> u64,
+}
+
+/// The proved library. The compiler does not see which functions these are.
+pub fn ours() -> Side {
+    black_box(Side {
+        check: our_check,
+        list: our_list,
+        read: our_read,
+        save: our_save,
+        erase: our_erase,
+    })
+}
+
+/// Document 01 in plain Rust, hidden from the compiler in the same way.
+pub fn theirs() -> Side {
+    black_box(Side {
+        check: |image| word(paper::check(image), |()| (0, 0)),
+        list: |image, out| word(paper::list(image, out), |listed| (listed.files, listed.free)),
+        read: |image, name, out| word(paper::read(image, name, out), |length| (length, 0)),
+        save: |image, wish, list| word(paper::save(image, wish, list), |count| (count, 0)),
+        erase: |image, name, list| word(paper::erase(image, name, list), |count| (count, 0)),
+    })
+}
+
+/// The answer of the C layer: refusal + 256 × slot + 2^24 × value + 2^48 × free.
+fn word<T>(answer: Result<T, Refused>, values: impl FnOnce(T) -> (usize, usize)) -> u64 {
+    match answer {
+        Ok(answer) => {
+            let (value, free) = values(answer);
+            (value as u64) << 24 | (free as u64) << 48
+        }
+        Err(refused) => u64::from(refused.number) | u64::from(refused.slot) << 8,
+    }
+}
+
+/// The refusal in an answer; 0 for none.
+pub fn refusal(word: u64) -> u8 {
+    word as u8
+}
+
+/// The value in an answer.
+pub fn value(word: u64) -> usize {
+    (word >> 24 & 0xff_ffff) as usize
+}
+
+// Each of these hands over whole slices. Those that may change are borrowed alone, so they overlap no other.
+
+fn our_check(image: &[u8]) -> u64 {
+    unsafe { raw::varnucht_check(image.as_ptr(), image.len()) }
+}
+
+fn our_list(image: &[u8], out: &mut [u8]) -> u64 {
+    unsafe { raw::varnucht_list(image.as_ptr(), image.len(), out.as_mut_ptr(), out.len()) }
+}
+
+fn our_read(image: &[u8], name: &[u8], out: &mut [u8]) -> u64 {
+    unsafe {
+        raw::varnucht_read(
+            image.as_ptr(),
+            image.len(),
+            name.as_ptr(),
+            name.len(),
+            out.as_mut_ptr(),
+            out.len(),
+        )
+    }
+}
+
+fn our_save(image: &mut [u8], wish: &Wish, list: &mut [u8]) -> u64 {
+    unsafe {
+        raw::varnucht_save(
+            image.as_mut_ptr(),
+            image.len(),
+            wish.kind,
+            wish.name.as_ptr(),
+            wish.name.len(),
+            wish.page,
+            wish.offset,
+            wish.exec.as_ptr(),
+            wish.exec.len(),
+            wish.info.as_ptr(),
+            wish.info.len(),
+            wish.body.as_ptr(),
+            wish.body.len(),
+            list.as_mut_ptr(),
+            list.len(),
+        )
+    }
+}
+
+fn our_erase(image: &mut [u8], name: &[u8], list: &mut [u8]) -> u64 {
+    unsafe {
+        raw::varnucht_erase(
+            image.as_mut_ptr(),
+            image.len(),
+            name.as_ptr(),
+            name.len(),
+            list.as_mut_ptr(),
+            list.len(),
+        )
+    }
+}

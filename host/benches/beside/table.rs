@@ -1,0 +1,46 @@
+//! The printed table.
+
+use crate::clock::Measured;
+use crate::rows::Row;
+use std::time::Duration;
+
+pub fn print_head(timer: Duration) {
+    println!("The proved library (ours) beside document 01 in plain Rust (paper), both built for release, in one process.");
+    println!("Microseconds for one call; ratio: ours / paper. The sides take turns; a round is about 100 us of calls.");
+    println!("check, list, read and refused calls: many calls between two looks at the clock.");
+    println!(
+        "save and erase that are accepted: every call timed alone, less {} ns, the cost of an empty timed",
+        timer.as_nanos()
+    );
+    println!("region; the changed sectors are put back after each call, untimed.");
+    println!("No buffer is cleared between calls, and both sides use the same image and buffer: the caches are warm.");
+    println!("read and erase take the last file. Files have kind 19 and names of ten bytes that differ in the first byte;");
+    println!("with names alike they differ in the tenth byte alone. 'less one': the last file was erased before.");
+    println!();
+    println!(
+        "{:<12} {:<22} {:<10} {:>10} {:>10} {:>10} {:>10} {:>7} {:>7} {:>6}",
+        "call", "disk", "answer", "ours best", "median", "paper best", "median", "ratio", "median", "rounds"
+    );
+}
+
+pub fn print_row(row: &Row, measured: &Measured) {
+    let answer = if row.refusal == 0 {
+        "accepted".to_string()
+    } else {
+        format!("refused {}", row.refusal)
+    };
+    let (ours, theirs) = (&measured.ours, &measured.theirs);
+    println!(
+        "{:<12} {:<22} {:<10} {:>10.3} {:>10.3} {:>10.3} {:>10.3} {:>7.2} {:>7.2} {:>6}",
+        row.call(),
+        row.disk.title,
+        answer,
+        ours.best,
+        ours.median,
+        theirs.best,
+        theirs.median,
+        ours.best / theirs.best,
+        ours.median / theirs.median,
+        measured.rounds
+    );
+}

@@ -1,0 +1,146 @@
+//! The calls that change no image.
+
+use crate::check::survey;
+use crate::geometry::{Address, Image, PAYLOAD_BYTES, SECTOR_BYTES, SLOT_BYTES, Sector, sector as sector_of, whole};
+use crate::name::asked;
+use crate::refusal::{Reason, Refused};
+use crate::slot::{HEADER_BYTES, Slot, find, live_slots};
+
+/// The bytes of a listing for each live slot: the slot's number in two, then the slot.
+const ENTRY_BYTES: usize = 2 + SLOT_BYTES;
+
+/// What a listing answers.
+#[derive(Clone, Copy, Debug, PartialEq, Eq)]
+pub struct Listed {
+    pub files: usize,
+    pub free: usize,
+}
+
+pub fn check(image: &[u8]) -> Result<(), Refused> {
+    survey(whole(image)?).map(|_| ())
+}
+
+/// Fills the buffer with every live slot, hidden ones too.
+pub fn list(image: &[u8], out: &mut [u8]) -> Result<Listed, Refused> {
+    let image = whole(image)?;
+    let survey = survey(image)?;
+    let out = out
+        .get_mut(..survey.files * ENTRY_BYTES)
+        .ok_or(Reason::BufferTooShort.alone())?;
+    for (entry, slot) in out.as_chunks_mut::<ENTRY_BYTES>().0.iter_mut().zip(live_slots(image)) {
+        entry[..2].copy_from_slice(&u16::from(slot.number).to_le_bytes());
+        entry[2..].copy_from_slice(slot.bytes);
+    }
+    Ok(Listed {
+        files: survey.files,
+        free: survey.free(),
+    })
+}
+
+/// Copies a file's body to the front of the buffer and answers its length.
+pub fn read(image: &[u8], name: &[u8], out: &mut [u8]) -> Result<usize, Refused> {
+    let image = whole(image)?;
+    let slot = carried(image, name)?;
+    let length = slot.length();
+    let mut rest = out.get_mut(..length).ok_or(Reason::BufferTooShort.alone())?;
+    let mut skip = HEADER_BYTES;
+    for sector in chain(image, slot.first()) {
+        let payload = &sector[skip..PAYLOAD_BYTES];
+        let (now, later) = rest.split_at_mut(payload.len().min(rest.len()));
+        now.copy_from_slice(&payload[..now.len()]);
+        if later.is_empty() {
+            break;
+        }
+        (rest, skip) = (later, 0);
+    }
+    Ok(length)
+}
+
+pub fn start(image: &[u8], name: &[u8]) -> Result<u32, Refused> {
+    let slot = carried(whole(image)?, name)?;
+    start_address(slot.page().into(), slot.offset().into()).ok_or(Reason::AddressOutOfRange.at(slot.number))
+}
+
+/// The place of a raw sector in the image of the chosen drive. The directory is not looked at.
+pub fn sector(one: &[u8], two: &[u8], drive: u32, track: u32, sector: u32) -> Result<usize, Refused> {
+    whole(one)?;
+    whole(two)?;
+    place(drive, track, sector).ok_or(Reason::NoSuchSector.alone())
+}
+
+fn place(drive: u32, track: u32, sector: u32) -> Option<usize> {
+    let address = Address {
+        track: track.try_into().ok()?,
+        sector: sector.try_into().ok()?,
+    };
+    let number = address.number()?;
+    matches!(drive, 1 | 2).then_some(number * SECTOR_BYTES)
+}
+
+/// The address where a file begins in memory: page × 16,384 + offset − 16,384, for the offsets of one page.
+pub fn start_address(page: u32, offset: u32) -> Option<u32> {
+    (page <= 31 && (32_768..=49_151).contains(&offset)).then(|| page * 16_384 + offset - 16_384)
+}
+
+/// The live slot of a name asked for on a disk that passes the check.
+pub fn found<'a>(image: &'a Image, name: &[u8]) -> Result<Slot<'a>, Refused> {
+    survey(image)?;
+    let name = asked(name).ok_or(Reason::NameNotUsable.alone())?;
+    find(image, &name).ok_or(Reason::NoSuchName.alone())
+}
+
+/// The same, with the demand that its kind is carried.
+fn carried<'a>(image: &'a Image, name: &[u8]) -> Result<Slot<'a>, Refused> {
+    let slot = found(image, name)?;
+    if slot.is_carried() {
+        Ok(slot)
+    } else {
+        Err(Reason::KindNotCarried.at(slot.number))
+    }
+}
+
+/// The sectors of a checked file, from its first to its last.
+fn chain(image: &Image, first: Address) -> impl Iterator<Item = &Sector> {
+    let mut next = first;
+    std::iter::from_fn(move || {
+        let sector = sector_of(image, next.number()?);
+        next = Address::link(sector);
+        Some(sector)
+    })
+}
+
+#[cfg(test)]
+mod tests {
+    use super::*;
+
+    #[test]
+    fn the_papers_start_addresses() {
+        assert_eq!(start_address(29, 32_768), Some(491_520));
+        assert_eq!(start_address(31, 49_151), Some(540_671));
+        assert_eq!(start_address(0, 32_768), Some(16_384));
+        for (page, offset) in [(31, 49_152), (31, 32_767), (32, 32_768), (u32::MAX, u32::MAX)] {
+            assert_eq!(start_address(page, offset), None);
+        }
+    }
+
+    #[test]
+    fn places_of_raw_sectors() {
+        assert_eq!(place(1, 0, 1), Some(0));
+        assert_eq!(place(2, 207, 10), Some(818_688));
+        assert_eq!(place(1, 128, 1), Some(5_120));
+        let refused = [
+            (0, 0, 1),
+            (3, 0, 1),
+            (1, 80, 1),
+            (1, 127, 1),
+            (1, 208, 1),
+            (1, 0, 0),
+            (1, 0, 11),
+            (1, 256, 1),
+            (1, 0, 257),
+        ];
+        for (drive, track, sector) in refused {
+            assert_eq!(place(drive, track, sector), None);
+        }
+    }
+}

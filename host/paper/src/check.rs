@@ -1,0 +1,191 @@
+//! The check of a disk: refusals 2 to 11. Every call but the raw sector begins with it.
+
+use crate::geometry::{Address, DATA_SECTORS, Image, PAYLOAD_BYTES, SLOTS, sector};
+use crate::map::Map;
+use crate::name::Name;
+use crate::refusal::{Reason, Refused};
+use crate::slot::{HEADER_BYTES, Slot, live_slots, remainder};
+
+/// What the check learns of the live slots.
+pub struct Survey {
+    /// How many slots are live.
+    pub files: usize,
+    /// Every data sector that a live slot has.
+    pub used: Map,
+    used_count: usize,
+    /// The names of the live slots, in front.
+    names: [Name; SLOTS as usize],
+}
+
+impl Survey {
+    const EMPTY: Survey = Survey {
+        files: 0,
+        used: Map::CLEAR,
+        used_count: 0,
+        names: [[0; 10]; SLOTS as usize],
+    };
+
+    /// How many data sectors no live slot has.
+    pub fn free(&self) -> usize {
+        DATA_SECTORS - self.used_count
+    }
+
+    /// Joins in a slot, or says the lowest of 2 to 9 that it gives beside the slots before it.
+    fn join(&mut self, slot: &Slot) -> Result<(), Reason> {
+        let (name, count) = (slot.name(), slot.count());
+        own_rules(slot)?;
+        let map = slot.map();
+        if map.count() != count {
+            return Err(Reason::MapUnlikeCount);
+        }
+        if !slot.first().bit().is_some_and(|bit| map.has(bit)) {
+            return Err(Reason::FirstNotInMap);
+        }
+        if slot.is_carried() && PAYLOAD_BYTES * count < HEADER_BYTES + slot.length() {
+            return Err(Reason::TooFewSectors);
+        }
+        if self.used.meets(&map) {
+            return Err(Reason::MapShared);
+        }
+        if self.names[..self.files].contains(name) {
+            return Err(Reason::NameTwice);
+        }
+        self.used.join(&map);
+        self.used_count += count;
+        self.names[self.files] = *name;
+        self.files += 1;
+        Ok(())
+    }
+}
+
+/// Refusals 2 to 4.
+fn own_rules(slot: &Slot) -> Result<(), Reason> {
+    if !matches!(slot.kind(), 1..=12 | 16..=23) {
+        return Err(Reason::KindUnknown);
+    }
+    if slot.name()[0] == 0 {
+        return Err(Reason::NameBeginsWithZero);
+    }
+    if !(1..=DATA_SECTORS).contains(&slot.count()) {
+        return Err(Reason::CountOutOfRange);
+    }
+    Ok(())
+}
+
+/// The whole check: the directory first, then every chain.
+pub fn survey(image: &Image) -> Result<Survey, Refused> {
+    let survey = directory(image)?;
+    for slot in live_slots(image) {
+        file(image, &slot).map_err(|reason| reason.at(slot.number))?;
+    }
+    Ok(survey)
+}
+
+/// Refusals 2 to 9.
+pub fn directory(image: &Image) -> Result<Survey, Refused> {
+    let mut survey = Survey::EMPTY;
+    for slot in live_slots(image) {
+        survey.join(&slot).map_err(|reason| reason.at(slot.number))?;
+    }
+    Ok(survey)
+}
+
+/// Refusals 10 and 11.
+fn file(image: &Image, slot: &Slot) -> Result<(), Reason> {
+    if !chain_holds(image, slot) {
+        return Err(Reason::ChainBroken);
+    }
+    if slot.is_carried() && !header_agrees(image, slot) {
+        return Err(Reason::HeaderDiffers);
+    }
+    Ok(())
+}
+
+/// Whether the chain passes as many different sectors of the slot's map as the count says, and ends there.
+/// A sector passed leaves the map, so one that comes again is found as one that is not in it.
+fn chain_holds(image: &Image, slot: &Slot) -> bool {
+    let mut left = slot.map();
+    let mut here = slot.first();
+    for _ in 0..slot.count() {
+        let (Some(bit), Some(number)) = (here.bit(), here.number()) else {
+            return false;
+        };
+        if !left.take(bit) {
+            return false;
+        }
+        here = Address::link(sector(image, number));
+    }
+    here == Address::END
+}
+
+/// Whether the header in a file's first sector says what the slot says.
+fn header_agrees(image: &Image, slot: &Slot) -> bool {
+    let Some(number) = slot.first().number() else { return false };
+    let first = sector(image, number);
+    first[0] == slot.kind() && remainder([first[1], first[2]]) == slot.remainder() && first[7] == slot.pages()
+}
+
+#[cfg(test)]
+mod tests {
+    use super::*;
+    use crate::geometry::{IMAGE_BYTES, slot_place, whole};
+    use crate::slot::{COUNT_AT, MAP_AT, NAME_AT, REMAINDER_AT};
+
+    fn put(image: &mut [u8], slot: u8, at: usize, bytes: &[u8]) {
+        image[slot_place(slot) + at..][..bytes.len()].copy_from_slice(bytes);
+    }
+
+    /// The paper's case L, as the first part of an image that is zero elsewhere.
+    fn case_l() -> Vec<u8> {
+        let mut image = vec![0; IMAGE_BYTES];
+        put(&mut image, 1, 0, &[83]);
+        put(&mut image, 1, NAME_AT, b"SAMDOS2   ");
+        put(&mut image, 1, COUNT_AT, &[0, 20, 4, 1]);
+        put(&mut image, 1, MAP_AT, &[255, 255, 15]);
+        put(&mut image, 1, REMAINDER_AT, &[16, 39]);
+        put(&mut image, 3, 0, &[16]);
+        put(&mut image, 3, NAME_AT, b"TUNES     ");
+        put(&mut image, 3, COUNT_AT, &[0, 2, 6, 1]);
+        put(&mut image, 3, MAP_AT + 2, &[48]);
+        put(&mut image, 3, REMAINDER_AT, &[88, 2]);
+        image
+    }
+
+    #[test]
+    fn case_l_has_1538_free_sectors() {
+        let image = case_l();
+        let image = whole(&image).expect("a whole image");
+        let survey = directory(image).unwrap_or_else(|refused| panic!("{refused:?}"));
+        assert_eq!((survey.files, survey.free(), survey.used.count()), (2, 1_538, 22));
+        assert_eq!(super::survey(image).err(), Some(Reason::ChainBroken.at(1)));
+    }
+
+    /// What the directory of case L gives with some bytes of a slot put over it.
+    fn with(slot: u8, at: usize, bytes: &[u8]) -> Option<Refused> {
+        let mut image = case_l();
+        put(&mut image, slot, at, bytes);
+        directory(whole(&image).expect("a whole image")).err()
+    }
+
+    #[test]
+    fn the_directory_refuses_by_number_and_slot() {
+        for kind in [13, 15, 24, 63, 64, 128, 192] {
+            assert_eq!(with(3, 0, &[kind]), Some(Reason::KindUnknown.at(3)));
+        }
+        for kind in [1, 12, 16, 23, 0xc0 | 23, 0] {
+            assert_eq!(with(3, 0, &[kind]), None);
+        }
+        assert_eq!(with(3, NAME_AT, &[0]), Some(Reason::NameBeginsWithZero.at(3)));
+        assert_eq!(with(3, COUNT_AT, &[0, 0]), Some(Reason::CountOutOfRange.at(3)));
+        assert_eq!(with(3, COUNT_AT, &[6, 25]), Some(Reason::CountOutOfRange.at(3)));
+        assert_eq!(with(3, COUNT_AT, &[6, 24]), Some(Reason::MapUnlikeCount.at(3)));
+        assert_eq!(with(3, COUNT_AT, &[2, 0]), Some(Reason::MapUnlikeCount.at(3)));
+        assert_eq!(with(3, COUNT_AT, &[0, 2, 3, 1]), Some(Reason::FirstNotInMap.at(3)));
+        assert_eq!(with(3, COUNT_AT, &[0, 2, 6, 3]), Some(Reason::FirstNotInMap.at(3)));
+        assert_eq!(with(3, REMAINDER_AT, &[0xf3, 0xc3]), None);
+        assert_eq!(with(3, REMAINDER_AT, &[0xf4, 3]), Some(Reason::TooFewSectors.at(3)));
+        assert_eq!(with(3, MAP_AT + 2, &[24]), Some(Reason::MapShared.at(3)));
+        assert_eq!(with(3, NAME_AT, b"SAMDOS2   "), Some(Reason::NameTwice.at(3)));
+        assert_eq!(with(1, NAME_AT, b"TUNES     "), Some(Reason::NameTwice.at(3)));
+    }
+}

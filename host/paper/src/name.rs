@@ -1,0 +1,51 @@
+//! Names as the caller gives them.
+
+/// The ten name bytes of a slot.
+pub type Name = [u8; 10];
+
+/// A name asked for: 1 to 10 bytes, the first not 0.
+pub fn asked(given: &[u8]) -> Option<Name> {
+    let mut name = [b' '; 10];
+    name.get_mut(..given.len())?.copy_from_slice(given);
+    (!given.is_empty() && given[0] != 0).then_some(name)
+}
+
+/// A new name keeps to that too; every byte given is 32 to 126 and the first is not 32.
+pub fn fresh(given: &[u8]) -> Option<Name> {
+    let printable = given.iter().all(|byte| (32..=126).contains(byte));
+    asked(given).filter(|name| printable && name[0] != b' ')
+}
+
+#[cfg(test)]
+mod tests {
+    use super::*;
+
+    #[test]
+    fn names_asked_for() {
+        assert_eq!(asked(b"A"), Some(*b"A         "));
+        assert_eq!(asked(b"ABCDEFGHIJ"), Some(*b"ABCDEFGHIJ"));
+        assert_eq!(asked(b" \x00\xff"), Some(*b" \x00\xff       "));
+        for refused in [&b""[..], b"\x00", b"\x00A", b"ABCDEFGHIJK"] {
+            assert_eq!(asked(refused), None);
+        }
+    }
+
+    #[test]
+    fn new_names() {
+        assert_eq!(fresh(b"A B"), Some(*b"A B       "));
+        assert_eq!(fresh(b"!~"), Some(*b"!~        "));
+        for refused in [
+            &b""[..],
+            b" ",
+            b" A",
+            b"\x00",
+            b"A\x1f",
+            b"A\x7f",
+            b"A\x00",
+            b"\xff",
+            b"ABCDEFGHIJK",
+        ] {
+            assert_eq!(fresh(refused), None);
+        }
+    }
+}

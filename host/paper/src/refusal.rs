@@ -1,0 +1,50 @@
+//! The numbers of refusal, each under a name.
+
+/// Why a call was refused, by the paper's number, and the slot where it was found (0: none).
+#[derive(Clone, Copy, Debug, PartialEq, Eq)]
+pub struct Refused {
+    pub number: u8,
+    pub slot: u8,
+}
+
+/// The rows of the paper's table. The value of a case is its number.
+#[derive(Clone, Copy, Debug, PartialEq, Eq)]
+#[repr(u8)]
+pub enum Reason {
+    ImageLength = 1,
+    KindUnknown = 2,
+    NameBeginsWithZero = 3,
+    CountOutOfRange = 4,
+    MapUnlikeCount = 5,
+    FirstNotInMap = 6,
+    TooFewSectors = 7,
+    MapShared = 8,
+    NameTwice = 9,
+    ChainBroken = 10,
+    HeaderDiffers = 11,
+    NameNotUsable = 12,
+    KindNotCarried = 13,
+    AddressOutOfRange = 14,
+    NoSuchName = 15,
+    NameTaken = 16,
+    Protected = 17,
+    NoFreeSlot = 18,
+    DiskFull = 19,
+    BufferTooShort = 20,
+    NoSuchSector = 21,
+}
+
+impl Reason {
+    /// The refusal found at a slot.
+    pub fn at(self, slot: u8) -> Refused {
+        Refused {
+            number: self as u8,
+            slot,
+        }
+    }
+
+    /// The refusal that belongs to no slot.
+    pub fn alone(self) -> Refused {
+        self.at(0)
+    }
+}

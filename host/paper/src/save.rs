@@ -1,0 +1,159 @@
+//! Save: a new file in the lowest free slot and the lowest free sectors.
+
+use crate::calls::start_address;
+use crate::check::survey;
+use crate::geometry::{Address, Image, PAYLOAD_BYTES, SECTOR_BYTES, SLOT_BYTES, Sector, sector_mut, slot_place, whole_mut};
+use crate::map::Map;
+use crate::name::{Name, fresh};
+use crate::refusal::{Reason, Refused};
+use crate::slot::{self, HEADER_BYTES, PAGE_BYTES, find, is_carried, slots};
+
+/// What a save asks for.
+#[derive(Clone, Copy, Debug)]
+pub struct Wish<'a> {
+    pub kind: u32,
+    pub name: &'a [u8],
+    pub page: u32,
+    pub offset: u32,
+    pub exec: &'a [u8],
+    pub info: &'a [u8],
+    pub body: &'a [u8],
+}
+
+/// Saves a file and answers how many sectors changed. The list names them: the file's sectors along its chain, then the
+/// directory's sector.
+pub fn save(image: &mut [u8], wish: &Wish, list: &mut [u8]) -> Result<usize, Refused> {
+    let image = whole_mut(image)?;
+    let survey = survey(image)?;
+    let name = fresh(wish.name).ok_or(Reason::NameNotUsable.alone())?;
+    if !is_carried(wish.kind) {
+        return Err(Reason::KindNotCarried.alone());
+    }
+    if start_address(wish.page, wish.offset).is_none() {
+        return Err(Reason::AddressOutOfRange.alone());
+    }
+    if let Some(taken) = find(image, &name) {
+        return Err(Reason::NameTaken.at(taken.number));
+    }
+    let slot = slots(image)
+        .find(|slot| !slot.is_live())
+        .ok_or(Reason::NoFreeSlot.alone())?
+        .number;
+    let count = sectors_for(wish.body.len());
+    if survey.free() < count {
+        return Err(Reason::DiskFull.alone());
+    }
+    let list = list
+        .as_chunks_mut()
+        .0
+        .get_mut(..count + 1)
+        .ok_or(Reason::BufferTooShort.alone())?;
+    let (data, directory) = list.split_at_mut(count);
+    let map = write_body(image, wish, &survey.used, data);
+    write_slot(image, slot, wish, &name, &map, count);
+    directory[0] = number_bytes(slot_place(slot) / SECTOR_BYTES);
+    Ok(count + 1)
+}
+
+/// How many sectors a body of this length takes with its header.
+fn sectors_for(length: usize) -> usize {
+    (HEADER_BYTES + length).div_ceil(PAYLOAD_BYTES)
+}
+
+/// A sector number as the list has it.
+pub fn number_bytes(number: usize) -> [u8; 2] {
+    (number as u16).to_le_bytes()
+}
+
+/// Writes header and body to the lowest sectors that are not used, one for each place in the list. Answers their map.
+fn write_body(image: &mut Image, wish: &Wish, used: &Map, list: &mut [[u8; 2]]) -> Map {
+    let header = header(wish);
+    let mut lead = &header[..];
+    let mut body = wish.body;
+    let mut map = Map::CLEAR;
+    let mut bits = used.clear_bits().take(list.len()).peekable();
+    for entry in list {
+        let Some(bit) = bits.next() else { break };
+        let Some(number) = Address::of_bit(bit).number() else { break };
+        let next = bits.peek().map_or(Address::END, |bit| Address::of_bit(*bit));
+        let (now, later) = body.split_at(body.len().min(PAYLOAD_BYTES - lead.len()));
+        fill(sector_mut(image, number), lead, now, next);
+        (lead, body) = (&[], later);
+        map.set(bit);
+        *entry = number_bytes(number);
+    }
+    map
+}
+
+/// Writes one sector: what leads, a part of the body, zeros up to the link, the link.
+fn fill(sector: &mut Sector, lead: &[u8], body: &[u8], next: Address) {
+    let (front, rest) = sector.split_at_mut(lead.len());
+    front.copy_from_slice(lead);
+    let (middle, rest) = rest.split_at_mut(body.len());
+    middle.copy_from_slice(body);
+    rest.fill(0);
+    sector[510] = next.track;
+    sector[511] = next.sector;
+}
+
+/// The nine bytes before the body. Page and offset were tested, so they fit.
+fn header(wish: &Wish) -> [u8; HEADER_BYTES] {
+    let [low, high] = remainder(wish);
+    let [offset_low, offset_high] = (wish.offset as u16).to_le_bytes();
+    [
+        wish.kind as u8,
+        low,
+        high,
+        offset_low,
+        offset_high,
+        0,
+        0,
+        pages(wish),
+        wish.page as u8,
+    ]
+}
+
+fn pages(wish: &Wish) -> u8 {
+    (wish.body.len() / PAGE_BYTES) as u8
+}
+
+fn remainder(wish: &Wish) -> [u8; 2] {
+    ((wish.body.len() % PAGE_BYTES) as u16).to_le_bytes()
+}
+
+/// Writes the whole slot. Bytes that have no meaning here are 0, and byte 245 says that there is no date.
+fn write_slot(image: &mut Image, number: u8, wish: &Wish, name: &Name, map: &Map, count: usize) {
+    let mut bytes = [0; SLOT_BYTES];
+    let mut put = |at: usize, part: &[u8]| bytes[at..][..part.len()].copy_from_slice(part);
+    let first = map.lowest().map_or(Address::END, Address::of_bit);
+    put(0, &[wish.kind as u8]);
+    put(slot::NAME_AT, name);
+    put(slot::COUNT_AT, &(count as u16).to_be_bytes());
+    put(slot::FIRST_AT, &[first.track, first.sector]);
+    put(slot::MAP_AT, &map.to_bytes());
+    put(slot::INFO_AT, at_most(wish.info, 11));
+    put(slot::PAGE_AT, &[wish.page as u8]);
+    put(slot::OFFSET_AT, &(wish.offset as u16).to_le_bytes());
+    put(slot::PAGES_AT, &[pages(wish)]);
+    put(slot::REMAINDER_AT, &remainder(wish));
+    put(slot::EXEC_AT, at_most(wish.exec, 3));
+    put(slot::DATE_AT, &[255]);
+    image[slot_place(number)..][..SLOT_BYTES].copy_from_slice(&bytes);
+}
+
+/// The first bytes, up to a number of them.
+fn at_most(bytes: &[u8], most: usize) -> &[u8] {
+    &bytes[..bytes.len().min(most)]
+}
+
+#[cfg(test)]
+mod tests {
+    use super::*;
+
+    #[test]
+    fn the_papers_sector_counts() {
+        for (length, sectors) in [(0, 1), (501, 1), (502, 2), (10_000, 20), (795_591, 1_560), (795_592, 1_561)] {
+            assert_eq!(sectors_for(length), sectors);
+        }
+    }
+}

@@ -1,0 +1,158 @@
+//! What the 256 bytes of a directory slot say.
+
+use crate::geometry::{Address, Image, SLOT_BYTES, SLOTS, slot_place};
+use crate::map::{MAP_BYTES, Map};
+use crate::name::Name;
+
+pub const HIDDEN: u8 = 0x80;
+pub const PROTECTED: u8 = 0x40;
+pub const NAME_AT: usize = 1;
+pub const COUNT_AT: usize = 11;
+pub const FIRST_AT: usize = 13;
+pub const MAP_AT: usize = 15;
+pub const INFO_AT: usize = 221;
+pub const PAGE_AT: usize = 236;
+pub const OFFSET_AT: usize = 237;
+pub const PAGES_AT: usize = 239;
+pub const REMAINDER_AT: usize = 240;
+pub const EXEC_AT: usize = 242;
+pub const DATE_AT: usize = 245;
+
+/// The bytes before the body in a file's first sector.
+pub const HEADER_BYTES: usize = 9;
+
+/// A page of memory: lengths are pages and a remainder.
+pub const PAGE_BYTES: usize = 16_384;
+
+/// The kinds whose length and body this paper carries.
+pub fn is_carried(kind: u32) -> bool {
+    (16..=20).contains(&kind)
+}
+
+/// A slot by its number, 1 to 80, with its bytes.
+#[derive(Clone, Copy)]
+pub struct Slot<'a> {
+    pub number: u8,
+    pub bytes: &'a [u8; SLOT_BYTES],
+}
+
+/// Every slot, rising.
+pub fn slots(image: &Image) -> impl Iterator<Item = Slot<'_>> {
+    let pieces = image.as_chunks().0;
+    (1..=SLOTS).map(move |number| Slot {
+        number,
+        bytes: &pieces[slot_place(number) / SLOT_BYTES],
+    })
+}
+
+/// The slots that are neither free nor erased, rising.
+pub fn live_slots(image: &Image) -> impl Iterator<Item = Slot<'_>> {
+    slots(image).filter(Slot::is_live)
+}
+
+/// The live slot of that name. A checked disk has one at most.
+pub fn find<'a>(image: &'a Image, name: &Name) -> Option<Slot<'a>> {
+    live_slots(image).find(|slot| slot.name() == name)
+}
+
+impl<'a> Slot<'a> {
+    pub fn is_live(&self) -> bool {
+        self.bytes[0] != 0
+    }
+
+    pub fn is_protected(&self) -> bool {
+        self.bytes[0] & PROTECTED != 0
+    }
+
+    pub fn kind(&self) -> u8 {
+        self.bytes[0] & !(HIDDEN | PROTECTED)
+    }
+
+    pub fn is_carried(&self) -> bool {
+        is_carried(self.kind().into())
+    }
+
+    pub fn name(&self) -> &'a Name {
+        self.part(NAME_AT)
+    }
+
+    /// The sector count: the one number of a slot that has its high byte first.
+    pub fn count(&self) -> usize {
+        u16::from_be_bytes(*self.part(COUNT_AT)).into()
+    }
+
+    pub fn first(&self) -> Address {
+        let [track, sector] = *self.part(FIRST_AT);
+        Address { track, sector }
+    }
+
+    pub fn map(&self) -> Map {
+        Map::from_bytes(self.part::<MAP_BYTES>(MAP_AT))
+    }
+
+    pub fn page(&self) -> u8 {
+        self.bytes[PAGE_AT] & 31
+    }
+
+    pub fn offset(&self) -> u16 {
+        u16::from_le_bytes(*self.part(OFFSET_AT))
+    }
+
+    pub fn pages(&self) -> u8 {
+        self.bytes[PAGES_AT]
+    }
+
+    /// The length mod 16,384. Bits 14 and 15 of the two bytes say nothing.
+    pub fn remainder(&self) -> u16 {
+        remainder(*self.part(REMAINDER_AT))
+    }
+
+    /// The body's length, for a carried kind.
+    pub fn length(&self) -> usize {
+        usize::from(self.pages()) * PAGE_BYTES + usize::from(self.remainder())
+    }
+
+    fn part<const N: usize>(&self, at: usize) -> &'a [u8; N] {
+        self.bytes[at..].first_chunk().expect("the part lies inside the slot")
+    }
+}
+
+/// The remainder that two bytes of a slot or of a header give.
+pub fn remainder(bytes: [u8; 2]) -> u16 {
+    u16::from_le_bytes(bytes) % PAGE_BYTES as u16
+}
+
+#[cfg(test)]
+mod tests {
+    use super::*;
+
+    #[test]
+    fn numbers_of_a_slot() {
+        let mut bytes = [0; SLOT_BYTES];
+        bytes[0] = 0xc0 | 19;
+        bytes[COUNT_AT..FIRST_AT].copy_from_slice(&[1, 44]);
+        bytes[PAGE_AT] = 0xe0 | 29;
+        bytes[OFFSET_AT..PAGES_AT].copy_from_slice(&[0, 128]);
+        bytes[PAGES_AT] = 1;
+        bytes[REMAINDER_AT..EXEC_AT].copy_from_slice(&[0, 0xc0]);
+        let slot = Slot {
+            number: 1,
+            bytes: &bytes,
+        };
+        assert_eq!((slot.kind(), slot.count(), slot.page(), slot.offset()), (19, 300, 29, 32_768));
+        assert_eq!((slot.length(), slot.remainder()), (16_384, 0));
+        assert!(slot.is_live() && slot.is_protected() && slot.is_carried());
+    }
+
+    #[test]
+    fn slots_skip_the_second_side() {
+        let mut image = vec![0; crate::geometry::IMAGE_BYTES];
+        for slot in 1..=SLOTS {
+            image[slot_place(slot)] = slot;
+        }
+        image[slot_place(7)] = 0;
+        let image = crate::geometry::whole(&image).expect("a whole image");
+        assert!(slots(image).all(|slot| slot.number == slot.bytes[0] || slot.number == 7));
+        assert_eq!(live_slots(image).count(), 79);
+    }
+}

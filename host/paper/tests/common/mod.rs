@@ -1,0 +1,56 @@
+//! Small helps for the tests: disks, wishes, places.
+#![allow(dead_code)]
+
+use paper::{Refused, Wish};
+
+pub const IMAGE: usize = 819_200;
+
+pub fn blank() -> Vec<u8> {
+    vec![0; IMAGE]
+}
+
+pub fn refused<T>(number: u8, slot: u8) -> Result<T, Refused> {
+    Err(Refused { number, slot })
+}
+
+/// A wish that nothing stands against on a blank disk.
+pub fn wish<'a>(name: &'a [u8], body: &'a [u8]) -> Wish<'a> {
+    Wish {
+        kind: 19,
+        name,
+        page: 29,
+        offset: 32_768,
+        exec: &[1, 2, 3],
+        info: &[9; 11],
+        body,
+    }
+}
+
+/// Bytes that differ from each other and from zero often enough to show a wrong place.
+pub fn body(length: usize) -> Vec<u8> {
+    (0..length).map(|at| (at % 251 + at / 251 % 3 + 1) as u8).collect()
+}
+
+pub fn put(image: &mut [u8], name: &[u8], length: usize) -> Vec<usize> {
+    let mut list = vec![0; 2 * 1_561];
+    let count = paper::save(image, &wish(name, &body(length)), &mut list).expect("there is room");
+    numbers(&list[..2 * count])
+}
+
+pub fn numbers(list: &[u8]) -> Vec<usize> {
+    list.as_chunks()
+        .0
+        .iter()
+        .map(|pair| u16::from_le_bytes(*pair).into())
+        .collect()
+}
+
+pub fn slot_place(slot: usize) -> usize {
+    (slot - 1) / 20 * 10_240 + (slot - 1) % 20 * 256
+}
+
+/// The numbers of the sectors that differ.
+pub fn changed(old: &[u8], new: &[u8]) -> Vec<usize> {
+    let pairs = old.chunks(512).zip(new.chunks(512)).enumerate();
+    pairs.filter(|(_, (old, new))| old != new).map(|(number, _)| number).collect()
+}
