@@ -16,11 +16,19 @@ pub struct Asked {
 
 impl Asked {
     pub fn new(call: Call) -> Asked {
-        Asked { call, numbers: [0; 3], slices: Default::default() }
+        Asked {
+            call,
+            numbers: [0; 3],
+            slices: Default::default(),
+        }
     }
 
     pub fn with(mut self, role: usize, bytes: impl Into<Vec<u8>>) -> Asked {
-        assert!(role != IMAGE && self.call.takes().contains(&role), "no slice for {:?}", self.call);
+        assert!(
+            role != IMAGE && self.call.takes().contains(&role),
+            "no slice for {:?}",
+            self.call
+        );
         self.slices[role] = bytes.into();
         self
     }
@@ -49,7 +57,11 @@ pub fn draw(call: Call, facts: &Facts, random: &mut Random) -> Asked {
         Call::Save => wishes::draw(facts, random),
         Call::Rename => {
             let name = asked_name(facts, random);
-            let new = if random.one_in(8) { name.clone() } else { new_name(facts, random) };
+            let new = if random.one_in(8) {
+                name.clone()
+            } else {
+                new_name(facts, random)
+            };
             asked.with(NAME, name).with(NEW, new).with(OUT, list(1, random))
         }
         _ => asked.with(NAME, asked_name(facts, random)).with(OUT, list(1, random)),
@@ -139,21 +151,30 @@ pub fn new_name(facts: &Facts, random: &mut Random) -> Vec<u8> {
 
 /// The raw sector call: the second image too, either of them seldom of a wrong length, and numbers at the edges.
 fn sector(random: &mut Random) -> Asked {
-    let length = if random.one_in(4) { wrong_length(random) } else { geometry::IMAGE };
+    let length = if random.one_in(4) {
+        wrong_length(random)
+    } else {
+        geometry::IMAGE
+    };
     let drive = random.pick(&[1, 1, 1, 2, 2, 2, 0, 3, 257, 1 << 16 | 2, u32::MAX]);
     let track = match random.below(3) {
         0 => random.below(256) as u32,
         1 => random.pick(&[0, 3, 4, 79, 128, 207]),
         _ => random.pick(&[80, 127, 208, 255, 256, 1 << 16, 1 << 31, u32::MAX]),
     };
-    let sector = if random.one_in(4) { random.pick(&[0, 11, 255, 257, 1 << 31, u32::MAX]) } else { random.between(1, 10) as u32 };
+    let sector = if random.one_in(4) {
+        random.pick(&[0, 11, 255, 257, 1 << 31, u32::MAX])
+    } else {
+        random.between(1, 10) as u32
+    };
     let mut asked = Asked::new(Call::Sector).with(TWO, vec![random.byte(); length]);
     asked.numbers = [drive, track, sector];
     asked
 }
 
-pub const WRONG_LENGTHS: [usize; 13] =
-    [0, 1, 255, 256, 511, 512, 40_959, 40_960, 40_961, 819_199, 819_201, 819_712, 1_000_000];
+pub const WRONG_LENGTHS: [usize; 13] = [
+    0, 1, 255, 256, 511, 512, 40_959, 40_960, 40_961, 819_199, 819_201, 819_712, 1_000_000,
+];
 
 pub fn wrong_length(random: &mut Random) -> usize {
     random.pick(&WRONG_LENGTHS)

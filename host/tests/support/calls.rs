@@ -35,8 +35,15 @@ pub const CALLS: [Call; 12] = [
     Call::Release,
 ];
 
-pub const CHANGES: [Call; 7] =
-    [Call::Save, Call::Erase, Call::Rename, Call::Hide, Call::Show, Call::Protect, Call::Release];
+pub const CHANGES: [Call; 7] = [
+    Call::Save,
+    Call::Erase,
+    Call::Rename,
+    Call::Hide,
+    Call::Show,
+    Call::Protect,
+    Call::Release,
+];
 
 /// The slices that calls lend, as places in the arrays below.
 pub const IMAGE: usize = 0;
@@ -48,7 +55,16 @@ pub const INFO: usize = 5;
 pub const BODY: usize = 6;
 /// The output buffer of list and read, the list of sector numbers of a change.
 pub const OUT: usize = 7;
-pub const ROLES: [&str; 8] = ["image", "image of drive 2", "name", "new name", "execution bytes", "information", "body", "output"];
+pub const ROLES: [&str; 8] = [
+    "image",
+    "image of drive 2",
+    "name",
+    "new name",
+    "execution bytes",
+    "information",
+    "body",
+    "output",
+];
 
 impl Call {
     pub fn is_change(self) -> bool {
@@ -88,7 +104,11 @@ impl<'a> Request<'a> {
     pub fn new(call: Call, image: &'a [u8]) -> Request<'a> {
         let mut slices: [&[u8]; 8] = [&[]; 8];
         slices[IMAGE] = image;
-        Request { call, numbers: [0; 3], slices }
+        Request {
+            call,
+            numbers: [0; 3],
+            slices,
+        }
     }
 
     pub fn with(mut self, role: usize, bytes: &'a [u8]) -> Request<'a> {
@@ -110,7 +130,10 @@ pub struct Part {
     pub length: usize,
 }
 
-pub const NOTHING: Part = Part { front: std::ptr::null_mut(), length: 0 };
+pub const NOTHING: Part = Part {
+    front: std::ptr::null_mut(),
+    length: 0,
+};
 
 /// Asks the C layer.
 ///
@@ -130,7 +153,21 @@ pub unsafe fn ask_c(call: Call, numbers: [u32; 3], parts: &[Part; 8]) -> u64 {
             Call::Start => raw::varnucht_start(i, il, n, nl),
             Call::Sector => raw::varnucht_sector(i, il, two.front, two.length, a, b, c),
             Call::Save => raw::varnucht_save(
-                i, il, a, n, nl, b, c, exec.front, exec.length, info.front, info.length, body.front, body.length, o, ol,
+                i,
+                il,
+                a,
+                n,
+                nl,
+                b,
+                c,
+                exec.front,
+                exec.length,
+                info.front,
+                info.length,
+                body.front,
+                body.length,
+                o,
+                ol,
             ),
             Call::Erase => raw::varnucht_erase(i, il, n, nl, o, ol),
             Call::Rename => raw::varnucht_rename(i, il, n, nl, new.front, new.length, o, ol),
@@ -155,9 +192,17 @@ pub fn ask_paper(request: &Request) -> Answer {
     if request.call.is_change() {
         let mut image = request.slices[IMAGE].to_vec();
         let packed = pack(change(request, &mut image, &mut out).map(|sectors| (sectors, 0)));
-        return Answer { packed, image: Some(image), out };
+        return Answer {
+            packed,
+            image: Some(image),
+            out,
+        };
     }
-    Answer { packed: pack(look(request, &mut out)), image: None, out }
+    Answer {
+        packed: pack(look(request, &mut out)),
+        image: None,
+        out,
+    }
 }
 
 /// The calls that read: value and free sectors.
@@ -179,7 +224,19 @@ fn change(request: &Request, image: &mut [u8], list: &mut [u8]) -> Result<usize,
     let [_, _, name, new, exec, info, body, _] = request.slices;
     let [kind, page, offset] = request.numbers;
     match request.call {
-        Call::Save => paper::save(image, &Wish { kind, name, page, offset, exec, info, body }, list),
+        Call::Save => paper::save(
+            image,
+            &Wish {
+                kind,
+                name,
+                page,
+                offset,
+                exec,
+                info,
+                body,
+            },
+            list,
+        ),
         Call::Erase => paper::erase(image, name, list),
         Call::Rename => paper::rename(image, name, new, list),
         Call::Hide => paper::hide(image, name, list),

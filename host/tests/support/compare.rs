@@ -32,14 +32,29 @@ pub fn ask(request: &Request, lender: &mut impl Lend) -> Left {
     for &role in request.call.takes() {
         let old = request.slices[role];
         let left = left(&paper, role, old);
-        same(request, role, lender.bytes(role), left, "at return the C layer and the paper differ");
-        assert!(lender.around(role), "bytes around it are changed: {}\n{}", ROLES[role], tell(request));
+        same(
+            request,
+            role,
+            lender.bytes(role),
+            left,
+            "at return the C layer and the paper differ",
+        );
+        assert!(
+            lender.around(role),
+            "bytes around it are changed: {}\n{}",
+            ROLES[role],
+            tell(request)
+        );
         if calls::refusal(answer) != 0 {
             same(request, role, left, old, "a refused call changed a slice");
         }
     }
     let image = if calls::refusal(answer) == 0 { paper.image } else { None };
-    Left { answer, image, out: paper.out }
+    Left {
+        answer,
+        image,
+        out: paper.out,
+    }
 }
 
 /// Asks the C layer alone, on lent copies.
@@ -63,7 +78,11 @@ fn left<'a>(paper: &'a Answer, role: usize, old: &'a [u8]) -> &'a [u8] {
 /// Accepted: the slot is 0. Refused: value and free are 0.
 fn form(request: &Request, answer: u64) {
     let accepted = calls::refusal(answer) == 0;
-    let good = if accepted { calls::slot(answer) == 0 } else { calls::value(answer) == 0 && calls::free(answer) == 0 };
+    let good = if accepted {
+        calls::slot(answer) == 0
+    } else {
+        calls::value(answer) == 0 && calls::free(answer) == 0
+    };
     assert!(good, "the answer {} has no such form\n{}", read_out(answer), tell(request));
 }
 
@@ -73,16 +92,31 @@ fn same(request: &Request, role: usize, one: &[u8], other: &[u8], fault: &str) {
     }
     assert_eq!(one.len(), other.len());
     let at = one.iter().zip(other).position(|(a, b)| a != b).expect("a byte differs");
-    panic!("{fault}: {} byte {at} is {} and {}\n{}", ROLES[role], one[at], other[at], tell(request));
+    panic!(
+        "{fault}: {} byte {at} is {} and {}\n{}",
+        ROLES[role],
+        one[at],
+        other[at],
+        tell(request)
+    );
 }
 
 fn differ(request: &Request, c: u64, paper: u64) -> String {
-    format!("the C layer answers {}, the paper {}\n{}", read_out(c), read_out(paper), tell(request))
+    format!(
+        "the C layer answers {}, the paper {}\n{}",
+        read_out(c),
+        read_out(paper),
+        tell(request)
+    )
 }
 
 pub fn read_out(answer: u64) -> String {
     let (refusal, slot) = (calls::refusal(answer), calls::slot(answer));
-    format!("refusal {refusal} slot {slot} value {} free {}", calls::value(answer), calls::free(answer))
+    format!(
+        "refusal {refusal} slot {slot} value {} free {}",
+        calls::value(answer),
+        calls::free(answer)
+    )
 }
 
 /// The request in words; of long slices the length alone.
@@ -94,7 +128,11 @@ pub fn tell(request: &Request) -> String {
     for &role in request.call.takes() {
         let bytes = request.slices[role];
         let shown = role != BODY && bytes.len() <= 16;
-        let bytes = if shown { format!("{bytes:?}") } else { format!("{} bytes", bytes.len()) };
+        let bytes = if shown {
+            format!("{bytes:?}")
+        } else {
+            format!("{} bytes", bytes.len())
+        };
         text += &format!("; {} {bytes}", ROLES[role]);
     }
     text

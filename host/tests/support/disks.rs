@@ -30,7 +30,10 @@ pub fn draw(random: &mut Random) -> Disk {
 }
 
 pub fn of_shape(shape: &Shape, random: &mut Random) -> Disk {
-    let mut disk = Disk { image: shape.ground.image(random), files: Vec::new() };
+    let mut disk = Disk {
+        image: shape.ground.image(random),
+        files: Vec::new(),
+    };
     let mut free = shape.free(random);
     for &(slot, count) in &shape.files {
         let chain = free.drain(..count).collect();
@@ -72,7 +75,11 @@ impl Disk {
     }
 
     fn write(&mut self, slot: usize, chain: Vec<usize>, ground: Ground, random: &mut Random) -> File {
-        let kind = if random.one_in(3) { random.pick(&fields::KNOWN) } else { random.between(16, 20) as u8 };
+        let kind = if random.one_in(3) {
+            random.pick(&fields::KNOWN)
+        } else {
+            random.between(16, 20) as u8
+        };
         let name = names::draw(random, &self.names());
         let mut bytes = ground.bytes(SLOT, random);
         bytes[0] = kind | random.byte() & (fields::HIDDEN | fields::PROTECTED);
@@ -96,7 +103,13 @@ impl Disk {
             Vec::new()
         };
         self.slot_mut(slot).copy_from_slice(&bytes);
-        File { slot, kind, name, chain, body }
+        File {
+            slot,
+            kind,
+            name,
+            chain,
+            body,
+        }
     }
 
     /// The nine bytes and the body of a carried file; its other payload is rubbish. Gives the body.

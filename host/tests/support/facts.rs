@@ -30,16 +30,28 @@ impl Facts {
             name: fields::name(bytes),
             kind: fields::kind(bytes),
             protected: bytes[0] & fields::PROTECTED != 0,
-            length: if fields::is_carried(fields::kind(bytes)) { fields::length(bytes) } else { 0 },
+            length: if fields::is_carried(fields::kind(bytes)) {
+                fields::length(bytes)
+            } else {
+                0
+            },
         });
-        let erased = slots().filter(|(_, bytes)| bytes[0] == 0).map(|(_, bytes)| fields::name(bytes));
-        Facts { live: live.collect(), erased: erased.collect(), free: BITS - used(image) }
+        let erased = slots()
+            .filter(|(_, bytes)| bytes[0] == 0)
+            .map(|(_, bytes)| fields::name(bytes));
+        Facts {
+            live: live.collect(),
+            erased: erased.collect(),
+            free: BITS - used(image),
+        }
     }
 
     /// The live slot that a name asked for finds.
     pub fn find(&self, given: &[u8]) -> Option<&Live> {
         let usable = (1..=10).contains(&given.len()) && given[0] != 0;
-        usable.then(|| names::filled(given)).and_then(|name| self.live.iter().find(|live| live.name == name))
+        usable
+            .then(|| names::filled(given))
+            .and_then(|name| self.live.iter().find(|live| live.name == name))
     }
 }
 

@@ -85,7 +85,9 @@ pub fn remainder(length: usize, junk: u8) -> [u8; 2] {
 /// The start address that a slot gives; none where its offset is outside.
 pub fn start(slot: &[u8]) -> Option<usize> {
     let page = usize::from(slot[PAGE] & 31);
-    (32_768..=49_151).contains(&offset(slot)).then(|| page * 16_384 + offset(slot) - 16_384)
+    (32_768..=49_151)
+        .contains(&offset(slot))
+        .then(|| page * 16_384 + offset(slot) - 16_384)
 }
 
 pub fn is_slot(slot: &[u8]) -> bool {

@@ -78,7 +78,10 @@ impl Pages {
     pub fn part(&self, length: usize, flush: Flush) -> Part {
         let from = if flush == Flush::End { self.open - length } else { 0 };
         // Safety: it lies between the closed pages.
-        Part { front: unsafe { self.front().add(from) }, length }
+        Part {
+            front: unsafe { self.front().add(from) },
+            length,
+        }
     }
 
     fn open(&self) -> &[u8] {
@@ -104,7 +107,11 @@ pub struct Guarded {
 
 impl Guarded {
     pub fn new(flush: Flush, empty: Empty) -> Guarded {
-        Guarded { flush, empty, lent: Default::default() }
+        Guarded {
+            flush,
+            empty,
+            lent: Default::default(),
+        }
     }
 
     /// Where the slice stands among the open bytes.
@@ -143,7 +150,9 @@ impl Lend for Guarded {
     }
 
     fn around(&self, role: usize) -> bool {
-        let Some((pages, length)) = &self.lent[role] else { return true };
+        let Some((pages, length)) = &self.lent[role] else {
+            return true;
+        };
         let (before, rest) = pages.open().split_at(self.from(pages, *length));
         before.iter().chain(&rest[*length..]).all(|&byte| byte == CANARY)
     }

@@ -56,6 +56,9 @@ impl Buffer {
         self.store.resize(size, CANARY);
         let front = self.store[self.from..].as_mut_ptr();
         assert_eq!(front as usize % 16, odd, "the buffer does not stand where it should");
-        Part { front, length: bytes.len() }
+        Part {
+            front,
+            length: bytes.len(),
+        }
     }
 }

@@ -16,7 +16,9 @@ pub fn filled(given: &[u8]) -> Name {
 pub fn usable(random: &mut Random) -> Vec<u8> {
     let length = random.between(1, 10);
     let few = random.one_in(4);
-    let mut name: Vec<u8> = (0..length).map(|_| if few { random.pick(b"Aa ~") } else { printable(random) }).collect();
+    let mut name: Vec<u8> = (0..length)
+        .map(|_| if few { random.pick(b"Aa ~") } else { printable(random) })
+        .collect();
     while name[0] == 32 {
         name[0] = printable(random);
     }
@@ -24,7 +26,11 @@ pub fn usable(random: &mut Random) -> Vec<u8> {
 }
 
 fn printable(random: &mut Random) -> u8 {
-    if random.one_in(5) { random.pick(&[32, 126]) } else { random.between(32, 126) as u8 }
+    if random.one_in(5) {
+        random.pick(&[32, 126])
+    } else {
+        random.between(32, 126) as u8
+    }
 }
 
 /// A name that no slot of `taken` has: plain, or of any bytes, or one of those with a single byte changed.

@@ -13,7 +13,11 @@ pub struct Rounds {
 impl Rounds {
     /// `first` and `usual` hold unless `VARNUCHT_SEED` and `VARNUCHT_ROUNDS` say otherwise.
     pub fn new(first: u64, usual: u64) -> Rounds {
-        Rounds { first: number("VARNUCHT_SEED").unwrap_or(first), count: number("VARNUCHT_ROUNDS").unwrap_or(usual), usual }
+        Rounds {
+            first: number("VARNUCHT_SEED").unwrap_or(first),
+            count: number("VARNUCHT_ROUNDS").unwrap_or(usual),
+            usual,
+        }
     }
 
     pub fn seeds(&self) -> Range<u64> {
@@ -28,7 +32,11 @@ impl Rounds {
 
 fn number(variable: &str) -> Option<u64> {
     let text = env::var(variable).ok()?;
-    Some(text.trim().parse().unwrap_or_else(|_| panic!("{variable} is no number: {text}")))
+    Some(
+        text.trim()
+            .parse()
+            .unwrap_or_else(|_| panic!("{variable} is no number: {text}")),
+    )
 }
 
 /// Says which seed a round had, if the round fails.

@@ -36,8 +36,12 @@ impl Tally {
 
     /// The pairs that did not occur.
     pub fn missing(&self) -> Vec<(Call, u8)> {
-        let pairs = CALLS.into_iter().flat_map(|call| possible(call).into_iter().map(move |number| (call, number)));
-        pairs.filter(|&(call, number)| self.0[call as usize][usize::from(number)] == 0).collect()
+        let pairs = CALLS
+            .into_iter()
+            .flat_map(|call| possible(call).into_iter().map(move |number| (call, number)));
+        pairs
+            .filter(|&(call, number)| self.0[call as usize][usize::from(number)] == 0)
+            .collect()
     }
 
     /// A row for each number, a column for each call; a dash where the call cannot give the number.
@@ -50,7 +54,11 @@ impl Tally {
             write!(text, "\n{number:>3}").expect("a string takes all");
             for call in CALLS {
                 let count = self.0[call as usize][usize::from(number)];
-                let shown = if possible(call).contains(&number) { count.to_string() } else { "-".into() };
+                let shown = if possible(call).contains(&number) {
+                    count.to_string()
+                } else {
+                    "-".into()
+                };
                 write!(text, "{shown:>8}").expect("a string takes all");
             }
         }

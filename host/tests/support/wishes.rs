@@ -36,7 +36,11 @@ pub fn good(facts: &Facts, random: &mut Random) -> Asked {
 
 /// A body: anything, or one byte again and again.
 fn body(length: usize, random: &mut Random) -> Vec<u8> {
-    if random.one_in(4) { vec![random.byte(); length] } else { random.bytes(length) }
+    if random.one_in(4) {
+        vec![random.byte(); length]
+    } else {
+        random.bytes(length)
+    }
 }
 
 /// A usable name that no live slot has.
@@ -50,11 +54,19 @@ pub fn fresh(facts: &Facts, random: &mut Random) -> Vec<u8> {
 }
 
 fn page(random: &mut Random) -> u32 {
-    if random.one_in(4) { random.pick(&[0, 31]) } else { random.below(32) as u32 }
+    if random.one_in(4) {
+        random.pick(&[0, 31])
+    } else {
+        random.below(32) as u32
+    }
 }
 
 fn offset(random: &mut Random) -> u32 {
-    if random.one_in(4) { random.pick(&[32_768, 49_151]) } else { random.between(32_768, 49_151) as u32 }
+    if random.one_in(4) {
+        random.pick(&[32_768, 49_151])
+    } else {
+        random.between(32_768, 49_151) as u32
+    }
 }
 
 /// The length of a body: at the edges of sectors and pages, at exactly the room, one above it, or anything.

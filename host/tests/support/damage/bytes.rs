@@ -19,7 +19,11 @@ pub const ALL: &[&Damage] = &[
 fn in_slot(disk: &mut Disk, index: usize, random: &mut Random) -> Option<Outcome> {
     let slot = disk.files[index].slot;
     for _ in 0..random.between(1, 3) {
-        let at = if random.coin() { random.below(fields::MAP) } else { random.below(SLOT) };
+        let at = if random.coin() {
+            random.below(fields::MAP)
+        } else {
+            random.below(SLOT)
+        };
         disk.slot_mut(slot)[at] ^= flip(random);
     }
     Some(Outcome::Open)
@@ -62,5 +66,9 @@ fn anywhere(disk: &mut Disk, _: usize, random: &mut Random) -> Option<Outcome> {
 
 /// One bit, or any.
 fn flip(random: &mut Random) -> u8 {
-    if random.coin() { 1 << random.below(8) } else { random.between(1, 255) as u8 }
+    if random.coin() {
+        1 << random.below(8)
+    } else {
+        random.between(1, 255) as u8
+    }
 }

@@ -69,7 +69,11 @@ fn slot_length(disk: &mut Disk, index: usize, random: &mut Random) -> Option<Out
         _ => random.between(0, fills(file.chain.len())),
     };
     set_length(disk.slot_mut(slot), length, random);
-    Some(if length == old { Outcome::Accepted } else { Outcome::Refused(11, slot) })
+    Some(if length == old {
+        Outcome::Accepted
+    } else {
+        Outcome::Refused(11, slot)
+    })
 }
 
 fn set_length(slot: &mut [u8], length: usize, random: &mut Random) {
@@ -84,7 +88,9 @@ fn slot_junk(disk: &mut Disk, index: usize, random: &mut Random) -> Option<Outco
 }
 
 fn header_junk(disk: &mut Disk, index: usize, random: &mut Random) -> Option<Outcome> {
-    header(disk, index, fields::HEADER_REMAINDER + 1, |old| old ^ random.pick(&[64, 128, 192]))?;
+    header(disk, index, fields::HEADER_REMAINDER + 1, |old| {
+        old ^ random.pick(&[64, 128, 192])
+    })?;
     Some(Outcome::Accepted)
 }
 

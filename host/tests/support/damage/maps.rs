@@ -120,7 +120,10 @@ fn others(disk: &Disk, index: usize) -> Option<Vec<usize>> {
 /// The bits that are no file's.
 fn free(disk: &Disk) -> Option<Vec<usize>> {
     let mut used = [false; BITS];
-    disk.files.iter().flat_map(|file| &file.chain).for_each(|&bit| used[bit] = true);
+    disk.files
+        .iter()
+        .flat_map(|file| &file.chain)
+        .for_each(|&bit| used[bit] = true);
     some((0..BITS).filter(|&bit| !used[bit]).collect())
 }
 

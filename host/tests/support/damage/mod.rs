@@ -49,8 +49,12 @@ pub fn two(random: &mut Random) -> (Disk, Outcome) {
     loop {
         let mut disk = disks::draw(random);
         let (first, second) = (random.pick(&all), random.pick(&all));
-        let Some((i, one)) = somewhere(first, &mut disk, random) else { continue };
-        let Some((j, other)) = somewhere(second, &mut disk, random) else { continue };
+        let Some((i, one)) = somewhere(first, &mut disk, random) else {
+            continue;
+        };
+        let Some((j, other)) = somewhere(second, &mut disk, random) else {
+            continue;
+        };
         let apart = i != j && first.own && second.own;
         return (disk, if apart { earlier(one, other) } else { Outcome::Open });
     }
@@ -60,7 +64,9 @@ pub fn two(random: &mut Random) -> (Disk, Outcome) {
 fn somewhere(damage: &Damage, disk: &mut Disk, random: &mut Random) -> Option<(usize, Outcome)> {
     let files = disk.files.len();
     let from = if files == 0 { return None } else { random.below(files) };
-    (0..files).map(|i| (from + i) % files).find_map(|index| Some((index, (damage.apply)(disk, index, random)?)))
+    (0..files)
+        .map(|i| (from + i) % files)
+        .find_map(|index| Some((index, (damage.apply)(disk, index, random)?)))
 }
 
 /// All slots for 2 to 9 come before all slots for 10 and 11; then the lowest slot, and at a slot the lowest number.
@@ -71,7 +77,13 @@ fn earlier(one: Outcome, other: Outcome) -> Outcome {
     };
     match (rank(one), rank(other)) {
         _ if one == Outcome::Open || other == Outcome::Open => Outcome::Open,
-        (Some(a), Some(b)) => if a <= b { one } else { other },
+        (Some(a), Some(b)) => {
+            if a <= b {
+                one
+            } else {
+                other
+            }
+        }
         (Some(_), None) => one,
         _ => other,
     }

@@ -85,7 +85,11 @@ fn count_by(disk: &mut Disk, index: usize, more: isize) -> Option<Outcome> {
 fn count_swapped(disk: &mut Disk, index: usize, _: &mut Random) -> Option<Outcome> {
     let count = disk.files[index].chain.len();
     let swapped = count % 256 * 256 + count / 256;
-    if swapped == count { None } else { miscounted(disk, index, swapped) }
+    if swapped == count {
+        None
+    } else {
+        miscounted(disk, index, swapped)
+    }
 }
 
 /// Another count than the map has bits.
@@ -156,7 +160,11 @@ fn too_long(disk: &mut Disk, index: usize, length: usize, random: &mut Random) -
     let bytes = disk.slot_mut(slot);
     bytes[fields::PAGES] = (length / 16_384) as u8;
     bytes[fields::REMAINDER..fields::EXEC].copy_from_slice(&fields::remainder(length, random.byte()));
-    Some(if fields::is_carried(kind) { Outcome::Refused(7, slot) } else { Outcome::Accepted })
+    Some(if fields::is_carried(kind) {
+        Outcome::Refused(7, slot)
+    } else {
+        Outcome::Accepted
+    })
 }
 
 fn name_of_earlier(disk: &mut Disk, index: usize, random: &mut Random) -> Option<Outcome> {
