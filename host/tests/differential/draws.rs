@@ -57,7 +57,7 @@ fn every_call_answers_as_the_paper() {
 
 /// Disks that are accepted, several requests of every call on each.
 fn whole(run: &mut Run) -> bool {
-    let rounds = Rounds::new(1_000_000, 500);
+    let rounds = Rounds::new(1_000_000, 700);
     for seed in rounds.seeds() {
         let _round = Round(seed);
         let random = &mut Random::new(seed);
@@ -65,7 +65,7 @@ fn whole(run: &mut Run) -> bool {
         assert_eq!(run.check(&disk.image), 0, "a drawn disk is refused");
         let facts = Facts::of(&disk.image);
         for call in CALLS {
-            for _ in 0..2 {
+            for _ in 0..3 {
                 run.ask(&asking::draw(call, &facts, random).on(&disk.image));
             }
         }

@@ -134,19 +134,24 @@ fn spelled(name: names::Name, random: &mut Random) -> Vec<u8> {
 pub fn new_name(facts: &Facts, random: &mut Random) -> Vec<u8> {
     let mut name = names::usable(random);
     let at = random.below(name.len());
-    match random.below(14) {
+    match random.below(20) {
         0 => name[at] = random.pick(&[31, 127]),
         1 => name[at] = random.pick(&[0, 1, 128, 255]),
         2 => name[0] = random.pick(&[32, 0, 31, 127]),
         3 => name = [names::filled(&name).as_slice(), &[32]].concat(),
         4 => name.clear(),
-        5 | 6 if !facts.live.is_empty() => {
-            let live = facts.live[random.below(facts.live.len())].name;
-            name = spelled(live, random);
-        }
+        5..8 => name = taken_name(facts, random).unwrap_or(name),
+        8 if !facts.live.is_empty() => name = facts.live[random.below(facts.live.len())].name.to_vec(),
         _ => {}
     }
     name
+}
+
+/// A live slot's name that would be usable as a new one, in one of its spellings.
+pub fn taken_name(facts: &Facts, random: &mut Random) -> Option<Vec<u8>> {
+    let usable = |name: &names::Name| name[0] != 32 && name.iter().all(|byte| (32..=126).contains(byte));
+    let taken: Vec<_> = facts.live.iter().map(|live| live.name).filter(usable).collect();
+    (!taken.is_empty()).then(|| spelled(random.pick(&taken), random))
 }
 
 /// The raw sector call: the second image too, either of them seldom of a wrong length, and numbers at the edges.

@@ -94,12 +94,13 @@ fn page_edge(room: usize, random: &mut Random) -> usize {
 
 /// One part made such that the save may be refused for it.
 fn spoil(asked: &mut Asked, facts: &Facts, random: &mut Random) {
-    match random.below(6) {
+    match random.below(7) {
         0 => asked.numbers[0] = bad_kind(random),
         1 => asked.slices[NAME] = asking::new_name(facts, random),
         2 => asked.numbers[1] = random.pick(&[32, 33, 64, 255, 256, 1 << 16, 1 << 31, u32::MAX]),
         3 => asked.numbers[2] = random.pick(&[0, 1, 32_767, 49_152, 65_535, 65_536 + 32_768, 1 << 31, u32::MAX]),
         4 => asked.slices[OUT] = asking::list(sectors_for(asked.slices[BODY].len()) + 1, random),
+        5 => asked.slices[NAME] = asking::taken_name(facts, random).unwrap_or_default(),
         _ => {
             let length = random.pick(&[fills(facts.free.max(1)) + 1, fills(BITS), fills(BITS) + 1, 900_000]);
             asked.slices[BODY] = vec![random.byte(); length];

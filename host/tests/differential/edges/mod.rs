@@ -5,6 +5,7 @@ mod arguments;
 mod bodies;
 mod buffers;
 mod names;
+mod slots;
 
 use crate::support::asking::Asked;
 use crate::support::calls::{self, BODY, Call, NAME, OUT};
