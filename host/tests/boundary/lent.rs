@@ -10,6 +10,7 @@ use crate::support::geometry::{BITS, IMAGE, fills};
 use crate::support::guarded::{Empty, Flush, Guarded};
 use crate::support::random::Random;
 use crate::support::settings::{Round, Rounds};
+use crate::support::shapes::Shape;
 use crate::support::wishes;
 
 /// Flush with either closed page; no bytes as a closed page and as NULL.
@@ -22,16 +23,13 @@ const WAYS: [(Flush, Empty); 4] = [
 
 /// Asks with the slices lent at the end of their pages and at their front; gives the answer, and the image after a change.
 fn ask(request: &Request) -> (u64, Option<Vec<u8>>) {
-    let ways = if request.slices.iter().any(|slice| slice.is_empty()) {
-        &WAYS[..]
-    } else {
-        &WAYS[..2]
-    };
-    let lefts = ways
-        .iter()
-        .map(|&(flush, empty)| compare::ask(request, &mut Guarded::new(flush, empty)));
-    let left = lefts.last().expect("there is a way");
-    (left.answer, left.image)
+    let empty = request.call.takes().iter().any(|&role| request.slices[role].is_empty());
+    let mut given = None;
+    for &(flush, empty) in if empty { &WAYS[..] } else { &WAYS[..2] } {
+        let left = compare::ask(request, &mut Guarded::new(flush, empty));
+        given = Some((left.answer, left.image));
+    }
+    given.expect("there is a way")
 }
 
 /// How often each call was accepted and refused.
@@ -138,6 +136,6 @@ fn saves_of_full_size() {
 /// A disk with a free slot and so many free sectors.
 fn with_free(free: usize, random: &mut Random) -> Vec<u8> {
     let files = if free == BITS { 0 } else { 30 };
-    let shape = crate::support::shapes::Shape::with(files, BITS - free, random);
+    let shape = Shape::with(files, BITS - free, random);
     disks::of_shape(&shape, random).image
 }

@@ -36,7 +36,7 @@ impl Run {
 #[test]
 fn every_call_answers_as_the_paper() {
     let mut run = Run::default();
-    let parts: [fn(&mut Run) -> bool; 5] = [whole, damaged, damaged_twice, wrong_lengths, histories];
+    let parts: [fn(&mut Run) -> bool; 5] = [whole, damaged, much_damaged, wrong_lengths, histories];
     let enough = parts.map(|part| part(&mut run));
     let table = run.tally.table();
     println!(
@@ -87,14 +87,14 @@ fn damaged(run: &mut Run) -> bool {
     rounds.enough()
 }
 
-/// Two damages on each disk: the order of the table decides.
-fn damaged_twice(run: &mut Run) -> bool {
+/// Two damages or more on each disk: the order of the table decides.
+fn much_damaged(run: &mut Run) -> bool {
     let rounds = Rounds::new(3_000_000, 400);
     for seed in rounds.seeds() {
         let _round = Round(seed);
         let random = &mut Random::new(seed);
-        let (disk, outcome) = damage::two(random);
-        on_damaged(run, &disk, outcome, "two damages", random);
+        let (disk, outcome) = damage::several(random);
+        on_damaged(run, &disk, outcome, "several damages", random);
     }
     rounds.enough()
 }

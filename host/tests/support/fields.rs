@@ -1,6 +1,6 @@
 //! Where the fields of a slot stand, and how they are written and read: document 01, "A slot".
 
-use super::geometry::{BITS, SLOT};
+use super::geometry::BITS;
 
 pub const HIDDEN: u8 = 128;
 pub const PROTECTED: u8 = 64;
@@ -88,8 +88,4 @@ pub fn start(slot: &[u8]) -> Option<usize> {
     (32_768..=49_151)
         .contains(&offset(slot))
         .then(|| page * 16_384 + offset(slot) - 16_384)
-}
-
-pub fn is_slot(slot: &[u8]) -> bool {
-    slot.len() == SLOT
 }

@@ -14,6 +14,7 @@ pub const ALL: &[&Damage] = &[
     &Damage { title: "an erased slot made live", own: false, apply: revived },
     &Damage { title: "a slot copied to another", own: false, apply: copied },
     &Damage { title: "bytes anywhere", own: false, apply: anywhere },
+    &Damage { title: "nothing but rubbish", own: false, apply: rubbish },
 ];
 
 fn in_slot(disk: &mut Disk, index: usize, random: &mut Random) -> Option<Outcome> {
@@ -60,6 +61,17 @@ fn copied(disk: &mut Disk, index: usize, random: &mut Random) -> Option<Outcome>
 fn anywhere(disk: &mut Disk, _: usize, random: &mut Random) -> Option<Outcome> {
     for _ in 0..random.between(1, 2_000) {
         disk.image[random.below(IMAGE)] ^= flip(random);
+    }
+    Some(Outcome::Open)
+}
+
+/// The whole image, or the directory alone: any bytes, or one byte everywhere.
+fn rubbish(disk: &mut Disk, _: usize, random: &mut Random) -> Option<Outcome> {
+    let length = random.pick(&[IMAGE, 40_960]);
+    if random.coin() {
+        random.fill(&mut disk.image[..length]);
+    } else {
+        disk.image[..length].fill(random.byte());
     }
     Some(Outcome::Open)
 }

@@ -3,8 +3,10 @@
 
 mod bytes;
 mod chains;
+mod firsts;
 mod headers;
 mod maps;
+mod names;
 mod slots;
 
 use super::disks::{self, Disk};
@@ -29,7 +31,16 @@ pub struct Damage {
 }
 
 pub fn all() -> Vec<&'static Damage> {
-    [slots::ALL, maps::ALL, chains::ALL, headers::ALL, bytes::ALL].concat()
+    [
+        slots::ALL,
+        names::ALL,
+        firsts::ALL,
+        maps::ALL,
+        chains::ALL,
+        headers::ALL,
+        bytes::ALL,
+    ]
+    .concat()
 }
 
 /// A drawn disk with this damage.
@@ -43,8 +54,8 @@ pub fn one(damage: &Damage, random: &mut Random) -> (Disk, Outcome) {
     panic!("no drawn disk allows: {}", damage.title);
 }
 
-/// A drawn disk with two damages, so that the order decides between them.
-pub fn two(random: &mut Random) -> (Disk, Outcome) {
+/// A drawn disk with two damages or more, so that the order decides between them.
+pub fn several(random: &mut Random) -> (Disk, Outcome) {
     let all = all();
     loop {
         let mut disk = disks::draw(random);
@@ -55,8 +66,17 @@ pub fn two(random: &mut Random) -> (Disk, Outcome) {
         let Some((j, other)) = somewhere(second, &mut disk, random) else {
             continue;
         };
-        let apart = i != j && first.own && second.own;
-        return (disk, if apart { earlier(one, other) } else { Outcome::Open });
+        let mut outcome = if i != j && first.own && second.own {
+            earlier(one, other)
+        } else {
+            Outcome::Open
+        };
+        while random.one_in(3) {
+            if somewhere(random.pick(&all), &mut disk, random).is_some() {
+                outcome = Outcome::Open;
+            }
+        }
+        return (disk, outcome);
     }
 }
 
