@@ -1,0 +1,141 @@
+//! Every call with every slice between closed pages, compared with `paper` as in the differential tests.
+
+use crate::support::asking::{self, Asked};
+use crate::support::calls::{self, BODY, CALLS, Call, NAME, OUT, Request};
+use crate::support::compare;
+use crate::support::damage;
+use crate::support::disks;
+use crate::support::facts::Facts;
+use crate::support::geometry::{BITS, IMAGE, fills};
+use crate::support::guarded::{Empty, Flush, Guarded};
+use crate::support::random::Random;
+use crate::support::settings::{Round, Rounds};
+use crate::support::shapes::Shape;
+use crate::support::wishes;
+
+/// Flush with either closed page; no bytes as a closed page and as NULL.
+const WAYS: [(Flush, Empty); 4] = [
+    (Flush::End, Empty::Closed),
+    (Flush::Front, Empty::Null),
+    (Flush::End, Empty::Null),
+    (Flush::Front, Empty::Closed),
+];
+
+/// Asks with the slices lent at the end of their pages and at their front; gives the answer, and the image after a change.
+fn ask(request: &Request) -> (u64, Option<Vec<u8>>) {
+    let empty = request.call.takes().iter().any(|&role| request.slices[role].is_empty());
+    let mut given = None;
+    for &(flush, empty) in if empty { &WAYS[..] } else { &WAYS[..2] } {
+        let left = compare::ask(request, &mut Guarded::new(flush, empty));
+        given = Some((left.answer, left.image));
+    }
+    given.expect("there is a way")
+}
+
+/// How often each call was accepted and refused.
+#[derive(Default)]
+struct Counts([[usize; 2]; 12]);
+
+impl Counts {
+    fn every_call(&mut self, facts: &Facts, image: &[u8], random: &mut Random) {
+        for call in CALLS {
+            let asked = asking::draw(call, facts, random);
+            let (answer, _) = ask(&asked.on(image));
+            self.0[call as usize][usize::from(calls::refusal(answer) != 0)] += 1;
+        }
+    }
+
+    fn print(&self, what: &str) {
+        println!(
+            "{what}: accepted and refused by call: {:?}",
+            CALLS.iter().zip(self.0).collect::<Vec<_>>()
+        );
+    }
+}
+
+#[test]
+fn whole_disks() {
+    let mut counts = Counts::default();
+    let rounds = Rounds::new(10_000_000, 80);
+    for seed in rounds.seeds() {
+        let _round = Round(seed);
+        let random = &mut Random::new(seed);
+        let disk = disks::draw(random);
+        counts.every_call(&Facts::of(&disk.image), &disk.image, random);
+    }
+    counts.print("whole disks");
+    let reached = |[accepted, refused]: [usize; 2]| accepted > 0 && refused > 0;
+    // Check alone accepts every whole disk.
+    assert!(
+        !rounds.enough() || counts.0[1..].iter().all(|&pair| reached(pair)),
+        "a call was only accepted or only refused"
+    );
+}
+
+#[test]
+fn damaged_disks() {
+    let mut counts = Counts::default();
+    let all = damage::all();
+    for seed in Rounds::new(11_000_000, all.len() as u64).seeds() {
+        let _round = Round(seed);
+        let random = &mut Random::new(seed);
+        let (disk, _) = damage::one(all[seed as usize % all.len()], random);
+        counts.every_call(&Facts::of(&disk.image), &disk.image, random);
+    }
+    counts.print("damaged disks");
+}
+
+/// Images that end anywhere, most of all in the directory: nothing behind their end may be looked at.
+#[test]
+fn short_images() {
+    let mut counts = Counts::default();
+    for seed in Rounds::new(12_000_000, 60).seeds() {
+        let _round = Round(seed);
+        let random = &mut Random::new(seed);
+        let mut disk = disks::draw(random);
+        let facts = Facts::of(&disk.image);
+        let length = match random.below(6) {
+            0 => random.pick(&[0, 1, 255, 256, 40_959, 40_960]),
+            1 => random.pick(&[IMAGE - 1, IMAGE + 1, IMAGE - 512, IMAGE + 512]),
+            2 => random.between(40_960, IMAGE - 1),
+            _ => random.between(0, 40_960),
+        };
+        disk.image.resize(length, 16);
+        counts.every_call(&facts, &disk.image, random);
+    }
+    counts.print("short images");
+    assert!(
+        counts.0.iter().all(|&[accepted, _]| accepted == 0),
+        "an image of a wrong length was accepted"
+    );
+}
+
+/// A save that takes all the room, and its body read into a buffer of exactly its length.
+#[test]
+fn saves_of_full_size() {
+    for free in [BITS, 700, 1] {
+        let random = &mut Random::new(13_000_000 + free as u64);
+        let image = with_free(free, random);
+        let facts = Facts::of(&image);
+        let list = vec![0x5c; 2 * (free + 1)];
+        let asked = wishes::good(&facts, random)
+            .with(BODY, random.bytes(fills(free)))
+            .with(OUT, list);
+        let (answer, new) = ask(&asked.on(&image));
+        assert_eq!((calls::refusal(answer), calls::value(answer)), (0, free + 1));
+        let new = new.expect("accepted");
+        for short in [0, 1] {
+            let out = vec![0x5c; fills(free) - short];
+            let read = Asked::new(Call::Read).with(NAME, asked.slices[NAME].clone()).with(OUT, out);
+            let (answer, _) = ask(&read.on(&new));
+            assert_eq!(calls::refusal(answer), if short == 0 { 0 } else { 20 });
+        }
+    }
+}
+
+/// A disk with a free slot and so many free sectors.
+fn with_free(free: usize, random: &mut Random) -> Vec<u8> {
+    let files = if free == BITS { 0 } else { 30 };
+    let shape = Shape::with(files, BITS - free, random);
+    disks::of_shape(&shape, random).image
+}

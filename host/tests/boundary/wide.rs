@@ -1,0 +1,159 @@
+//! Slices longer than 32 bits can count: the low 32 bits of such a length are a length that would do. The pages take no memory
+//! until they are touched, so a call that answers at once costs nothing.
+
+use crate::support::calls::{self, BODY, Call, EXEC, IMAGE, INFO, NAME, NEW, NOTHING, OUT, Part, TWO, ask_c, value};
+use crate::support::compare::Lend;
+use crate::support::disks::{self, Disk};
+use crate::support::fields;
+use crate::support::geometry;
+use crate::support::guarded::{Empty, Flush, Guarded, PAGE, Pages};
+use crate::support::random::Random;
+
+const WIDE: usize = 1 << 32;
+
+/// Pages with these bytes at their front and 0 behind; lent over 2^32 bytes more than `length`.
+struct Wide(Pages);
+
+impl Wide {
+    fn new(front: &[u8]) -> Wide {
+        let pages = Pages::new(WIDE + geometry::IMAGE + PAGE);
+        // Safety: the pages are open and longer than the bytes.
+        unsafe { std::ptr::copy_nonoverlapping(front.as_ptr(), pages.front(), front.len()) };
+        Wide(pages)
+    }
+
+    fn part(&self, length: usize) -> Part {
+        Part {
+            length: WIDE + length,
+            ..self.0.part(length, Flush::Front)
+        }
+    }
+
+    fn front(&self, length: usize) -> &[u8] {
+        // Safety: the pages are open, and no call runs while the reference lives.
+        unsafe { std::slice::from_raw_parts(self.0.front(), length) }
+    }
+}
+
+/// Slices of usual length for every role, between closed pages.
+struct Usual {
+    lender: Guarded,
+    parts: [Part; 8],
+}
+
+impl Usual {
+    fn new(disk: &Disk, name: &[u8]) -> Usual {
+        let mut usual = Usual {
+            lender: Guarded::new(Flush::End, Empty::Closed),
+            parts: [NOTHING; 8],
+        };
+        let slices: [&[u8]; 8] = [
+            &disk.image,
+            &disk.image,
+            name,
+            b"new",
+            &[1, 2, 3],
+            &[4; 11],
+            &[5; 600],
+            &vec![0x5c; geometry::IMAGE],
+        ];
+        for (role, bytes) in slices.into_iter().enumerate() {
+            usual.parts[role] = usual.lender.lend(role, bytes, role == IMAGE || role == OUT);
+        }
+        usual
+    }
+
+    /// Asks with one slice made wide.
+    fn ask(&self, call: Call, numbers: [u32; 3], role: usize, part: Part) -> u64 {
+        let mut parts = self.parts;
+        parts[role] = part;
+        // Safety: the slices stand apart from each other and may all be read; image and output may be written.
+        unsafe { ask_c(call, numbers, &parts) }
+    }
+}
+
+/// A drawn disk with a free slot, room for three sectors, and a carried file of some length that starts inside the range.
+fn disk() -> (Disk, usize) {
+    let fits = |disk: &Disk, i: usize| {
+        let slot = disk.slot(disk.files[i].slot);
+        disk.files[i].body.len() > 9 && fields::start(slot).is_some() && disk.files.len() < 80 && disk.free() > 3
+    };
+    let drawn = (16_000_000..).map(|seed| disks::draw(&mut Random::new(seed)));
+    drawn
+        .filter_map(|disk| (0..disk.files.len()).find(|&i| fits(&disk, i)).map(|i| (disk, i)))
+        .next()
+        .expect("one is found")
+}
+
+/// An image whose length is right in its low 32 bits is not 819,200 bytes.
+#[test]
+fn images() {
+    let (disk, i) = disk();
+    let usual = Usual::new(&disk, &disk.files[i].name);
+    let image = Wide::new(&disk.image);
+    for call in calls::CALLS {
+        assert_eq!(
+            usual.ask(call, [19, 1, 40_000], IMAGE, image.part(geometry::IMAGE)),
+            1,
+            "{call:?}"
+        );
+    }
+    assert_eq!(usual.ask(Call::Sector, [1, 4, 1], TWO, image.part(geometry::IMAGE)), 1);
+    assert!(image.front(geometry::IMAGE) == disk.image);
+}
+
+/// Names of more than ten bytes are not usable.
+#[test]
+fn names() {
+    let (disk, i) = disk();
+    let usual = Usual::new(&disk, &disk.files[i].name);
+    let (name, new) = (Wide::new(&disk.files[i].name), Wide::new(b"new"));
+    for call in calls::CALLS.into_iter().filter(|call| call.takes().contains(&NAME)) {
+        let part = if call == Call::Save { new.part(3) } else { name.part(10) };
+        assert_eq!(usual.ask(call, [19, 1, 40_000], NAME, part), 12, "{call:?}");
+    }
+    assert_eq!(usual.ask(Call::Rename, [0; 3], NEW, new.part(3)), 12);
+    assert!(usual.lender.bytes(IMAGE) == disk.image);
+}
+
+/// A buffer whose low 32 bits are too few is long enough.
+#[test]
+fn output_buffers() {
+    let (disk, i) = disk();
+    let (file, files) = (&disk.files[i], disk.files.len());
+    let usual = Usual::new(&disk, &file.name);
+    let out = Wide::new(&[]);
+    let read = usual.ask(Call::Read, [0; 3], OUT, out.part(1));
+    assert_eq!((calls::refusal(read), value(read)), (0, file.body.len()));
+    assert!(out.front(file.body.len()) == file.body);
+    let out = Wide::new(&[]);
+    let list = usual.ask(Call::List, [0; 3], OUT, out.part(1));
+    assert_eq!(
+        (calls::refusal(list), value(list), calls::free(list)),
+        (0, files, disk.free())
+    );
+    assert!(out.front(258 * files + 1)[258 * files - 256..] == [disk.slot(disk.files[files - 1].slot), &[0]].concat());
+    let out = Wide::new(&[]);
+    let hide = usual.ask(Call::Hide, [0; 3], OUT, out.part(1));
+    assert_eq!((calls::refusal(hide), value(hide)), (0, 1));
+    assert_eq!(out.front(4)[2..], [0, 0]);
+}
+
+/// Execution bytes and information beyond 3 and 11 are ignored; a body that long has no room.
+#[test]
+fn what_is_saved() {
+    let (disk, i) = disk();
+    let numbers = [19, 1, 40_000];
+    for (role, field, length) in [(EXEC, fields::EXEC, 3), (INFO, fields::INFO, 11)] {
+        let usual = Usual::new(&disk, b"unlike all");
+        let wide = Wide::new(&[9; 20]);
+        assert_eq!(calls::refusal(usual.ask(Call::Save, numbers, role, wide.part(1))), 0);
+        let free = (1..=80).find(|&slot| disk.slot(slot)[0] == 0).expect("a slot is free");
+        let slot = &usual.lender.bytes(IMAGE)[geometry::slot_place(free)..][..geometry::SLOT];
+        assert_eq!(slot[field..field + length], [9; 11][..length]);
+    }
+    let usual = Usual::new(&disk, b"unlike all");
+    assert_eq!(usual.ask(Call::Save, numbers, BODY, Wide::new(&[]).part(10)), 19);
+    assert!(usual.lender.bytes(IMAGE) == disk.image);
+    assert!(disk.files[i].body.len() > 9);
+}

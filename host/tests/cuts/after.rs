@@ -1,0 +1,137 @@
+//! What an accepted change leaves, written once more from document 01, "What each change does", and what is seen of it.
+
+use crate::change::Change;
+use crate::support::asking::Asked;
+use crate::support::calls::{BODY, Call, EXEC, INFO, NAME, NEW, OUT, refusal, value};
+use crate::support::compare::{self, Left};
+use crate::support::fields;
+use crate::support::geometry::{BITS, PAYLOAD, SECTOR, SLOT, SLOTS, address, bit_place, number, sectors_for, slot_place};
+use crate::support::margins::Margins;
+use crate::support::names;
+
+/// The new disk and the sectors named are what the paper says, byte for byte.
+pub fn examine(change: &Change) {
+    let (new, named) = if change.asked.call == Call::Save {
+        saved(change)
+    } else {
+        edited(change)
+    };
+    assert_eq!(change.named, named, "{:?} names other sectors", change.asked.call);
+    assert!(change.new == new, "{:?} leaves another disk", change.asked.call);
+    seen(change);
+}
+
+/// A saved file reads back with the start asked for; an erased one is gone; a renamed one answers to its new name alone.
+fn seen(change: &Change) {
+    let slices = &change.asked.slices;
+    match change.asked.call {
+        Call::Save => {
+            let [_, page, offset] = change.asked.numbers;
+            let read = ask(Call::Read, &slices[NAME], slices[BODY].len(), &change.new);
+            assert_eq!((refusal(read.answer), value(read.answer)), (0, slices[BODY].len()));
+            assert!(read.out == slices[BODY], "the saved body reads back otherwise");
+            let start = ask(Call::Start, &slices[NAME], 0, &change.new).answer;
+            assert_eq!(
+                (refusal(start), value(start)),
+                (0, (page * 16_384 + offset - 16_384) as usize)
+            );
+        }
+        Call::Erase => assert_eq!(ask(Call::Start, &slices[NAME], 0, &change.new).answer, 15),
+        Call::Rename => {
+            assert_eq!(ask(Call::Start, &slices[NAME], 0, &change.new).answer, 15);
+            let old = ask(Call::Start, &slices[NAME], 0, change.old).answer;
+            assert_eq!(ask(Call::Start, &slices[NEW], 0, &change.new).answer, old);
+        }
+        _ => {}
+    }
+}
+
+fn ask(call: Call, name: &[u8], length: usize, image: &[u8]) -> Left {
+    let mut asked = Asked::new(call).with(NAME, name);
+    if call == Call::Read {
+        asked = asked.with(OUT, vec![0x5c; length]);
+    }
+    compare::ask(&asked.on(image), &mut Margins::default())
+}
+
+/// A change of bytes in the slot that it finds.
+fn edited(change: &Change) -> (Vec<u8>, Vec<usize>) {
+    let place = slot_place(change.found().expect("it is found by name"));
+    let mut new = change.old.to_vec();
+    let slot = &mut new[place..place + SLOT];
+    match change.asked.call {
+        Call::Erase => slot[0] = 0,
+        Call::Rename => slot[fields::NAME..fields::COUNT].copy_from_slice(&names::filled(&change.asked.slices[NEW])),
+        Call::Hide => slot[0] |= fields::HIDDEN,
+        Call::Show => slot[0] &= !fields::HIDDEN,
+        Call::Protect => slot[0] |= fields::PROTECTED,
+        Call::Release => slot[0] &= !fields::PROTECTED,
+        call => unreachable!("{call:?}"),
+    }
+    (new, vec![number(place)])
+}
+
+/// The lowest free slot, and the lowest free sectors, rising, as chain.
+fn saved(change: &Change) -> (Vec<u8>, Vec<usize>) {
+    let mut new = change.old.to_vec();
+    let bits = lowest_free(change);
+    let slot = (1..=SLOTS).find(|&slot| new[slot_place(slot)] == 0).expect("a slot is free");
+    let payload = payload(change, bits.len());
+    for (i, &bit) in bits.iter().enumerate() {
+        let sector = &mut new[bit_place(bit)..][..SECTOR];
+        sector[..PAYLOAD].copy_from_slice(&payload[i * PAYLOAD..][..PAYLOAD]);
+        sector[PAYLOAD..].copy_from_slice(&bits.get(i + 1).map_or([0, 0], |&next| address(next)));
+    }
+    new[slot_place(slot)..][..SLOT].copy_from_slice(&new_slot(change, &bits));
+    let places = bits.iter().map(|&bit| bit_place(bit)).chain([slot_place(slot)]);
+    (new, places.map(number).collect())
+}
+
+fn lowest_free(change: &Change) -> Vec<usize> {
+    let live = change
+        .facts
+        .live
+        .iter()
+        .map(|live| &change.old[slot_place(live.slot)..][..SLOT]);
+    let maps: Vec<&[u8]> = live.collect();
+    let free = (0..BITS).filter(|&bit| !maps.iter().any(|slot| fields::has_bit(slot, bit)));
+    free.take(sectors_for(change.asked.slices[BODY].len())).collect()
+}
+
+/// The nine bytes, the body, and 0 behind it.
+fn payload(change: &Change, sectors: usize) -> Vec<u8> {
+    let body = &change.asked.slices[BODY];
+    let [kind, page, offset] = change.asked.numbers;
+    let [low, high] = fields::remainder(body.len(), 0);
+    let [offset_low, offset_high] = (offset as u16).to_le_bytes();
+    let pages = (body.len() / 16_384) as u8;
+    let mut payload = vec![kind as u8, low, high, offset_low, offset_high, 0, 0, pages, page as u8];
+    payload.extend(body);
+    payload.resize(sectors * PAYLOAD, 0);
+    payload
+}
+
+fn new_slot(change: &Change, bits: &[usize]) -> [u8; SLOT] {
+    let [kind, page, offset] = change.asked.numbers;
+    let length = change.asked.slices[BODY].len();
+    let mut slot = [0; SLOT];
+    slot[0] = kind as u8;
+    slot[fields::NAME..fields::COUNT].copy_from_slice(&names::filled(&change.asked.slices[NAME]));
+    fields::set_count(&mut slot, bits.len());
+    slot[fields::FIRST..fields::MAP].copy_from_slice(&address(bits[0]));
+    bits.iter().for_each(|&bit| fields::set_bit(&mut slot, bit, true));
+    slot[fields::INFO..fields::INFO + 11]
+        .iter_mut()
+        .zip(&change.asked.slices[INFO])
+        .for_each(|(byte, info)| *byte = *info);
+    slot[fields::PAGE] = page as u8;
+    slot[fields::OFFSET..fields::PAGES].copy_from_slice(&(offset as u16).to_le_bytes());
+    slot[fields::PAGES] = (length / 16_384) as u8;
+    slot[fields::REMAINDER..fields::EXEC].copy_from_slice(&fields::remainder(length, 0));
+    slot[fields::EXEC..fields::EXEC + 3]
+        .iter_mut()
+        .zip(&change.asked.slices[EXEC])
+        .for_each(|(byte, exec)| *byte = *exec);
+    slot[245] = 255;
+    slot
+}

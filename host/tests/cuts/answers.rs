@@ -1,0 +1,91 @@
+//! The questions to the old disk and to a cut one: the listing, and body and start address for every live name, for the names
+//! of the change, and for some that are not there.
+
+use crate::change::Change;
+use crate::support::asking::{self, Asked};
+use crate::support::calls::{Call, NAME, NEW, OUT, Request};
+use crate::support::compare;
+use crate::support::facts::Facts;
+use crate::support::margins::Margins;
+use crate::support::names;
+use crate::support::random::Random;
+
+/// Questions, and what the old disk answers: the packed answer and the output buffer at return.
+pub struct Answers(Vec<(Asked, u64, Vec<u8>)>);
+
+impl Answers {
+    pub fn of(change: &Change, random: &mut Random) -> Answers {
+        let mut lender = Margins::default();
+        let answered = questions(change, random).into_iter().map(|asked| {
+            let left = compare::ask(&asked.on(change.old), &mut lender);
+            (asked, left.answer, left.out)
+        });
+        Answers(answered.collect())
+    }
+
+    /// The disk is accepted, and the answers are the same. Gives how many there were.
+    pub fn same_on(&self, disk: &[u8]) -> usize {
+        accepted(disk);
+        let mut lender = Margins::default();
+        for (asked, answer, out) in &self.0 {
+            let request = asked.on(disk);
+            let left = compare::ask(&request, &mut lender);
+            assert!(left.answer == *answer, "{}", other_answer(&request, *answer, left.answer));
+            assert!(
+                left.out == *out,
+                "another output buffer than on the old disk\n{}",
+                compare::tell(&request)
+            );
+        }
+        self.0.len()
+    }
+}
+
+pub fn accepted(disk: &[u8]) {
+    let answer = compare::ask(&Request::new(Call::Check, disk), &mut Margins::default()).answer;
+    assert_eq!(answer, 0, "the disk is refused: {}", compare::read_out(answer));
+}
+
+fn other_answer(request: &Request, old: u64, cut: u64) -> String {
+    format!(
+        "the old disk {}, the cut one {}\n{}",
+        compare::read_out(old),
+        compare::read_out(cut),
+        compare::tell(request)
+    )
+}
+
+fn questions(change: &Change, random: &mut Random) -> Vec<Asked> {
+    let facts = &change.facts;
+    let all = 258 * facts.live.len();
+    let lengths = [all, all + 258, random.below(all + 1)];
+    let mut questions: Vec<Asked> = lengths.into_iter().map(|length| listing(length, random)).collect();
+    for name in asked_names(change, random) {
+        let length = facts.find(&name).map_or(700, |live| live.length);
+        let out = if random.one_in(4) {
+            asking::buffer(length, random)
+        } else {
+            random.bytes(length + 3)
+        };
+        questions.push(Asked::new(Call::Read).with(NAME, name.clone()).with(OUT, out));
+        questions.push(Asked::new(Call::Start).with(NAME, name));
+    }
+    questions
+}
+
+fn listing(length: usize, random: &mut Random) -> Asked {
+    Asked::new(Call::List).with(OUT, random.bytes(length))
+}
+
+fn asked_names(change: &Change, random: &mut Random) -> Vec<Vec<u8>> {
+    let Facts { live, erased, .. } = &change.facts;
+    let mut asked: Vec<Vec<u8>> = live.iter().map(|live| live.name.to_vec()).collect();
+    asked.extend([
+        change.asked.slices[NAME].clone(),
+        change.asked.slices[NEW].clone(),
+        Vec::new(),
+    ]);
+    asked.extend((0..2).map(|_| names::usable(random)));
+    asked.extend(erased.first().map(|name| name.to_vec()));
+    asked
+}

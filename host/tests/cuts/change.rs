@@ -1,0 +1,134 @@
+//! An accepted change: the old disk, the new one, and the sectors that it names.
+
+use crate::support::asking::Asked;
+use crate::support::calls::{self, BODY, Call, NAME, NEW, OUT};
+use crate::support::compare;
+use crate::support::facts::{Facts, Live};
+use crate::support::fields;
+use crate::support::geometry::{IMAGE, SECTOR, SECTORS, SLOT, bit_place, sectors_for, slot_place};
+use crate::support::margins::Margins;
+use crate::support::random::Random;
+use crate::support::wishes;
+
+pub struct Change<'a> {
+    pub asked: Asked,
+    pub old: &'a [u8],
+    pub new: Vec<u8>,
+    /// The sector numbers, in the order of writing.
+    pub named: Vec<usize>,
+    /// What the old disk shows.
+    pub facts: Facts,
+}
+
+impl Change<'_> {
+    /// A change of this sort; none where the disk does not take it.
+    pub fn draw<'a>(call: Call, old: &'a [u8], random: &mut Random) -> Option<Change<'a>> {
+        let facts = Facts::of(old);
+        if call == Call::Save {
+            return Change::make(wishes::good(&facts, random), facts, old);
+        }
+        let fit = |live: &&Live| !live.protected || !matches!(call, Call::Erase | Call::Rename);
+        let names: Vec<_> = facts.live.iter().filter(fit).map(|live| live.name).collect();
+        if names.is_empty() {
+            return None;
+        }
+        let mut asked = Asked::new(call).with(NAME, random.pick(&names)).with(OUT, random.bytes(5));
+        if call == Call::Rename {
+            asked = asked.with(NEW, wishes::fresh(&facts, random));
+        }
+        Some(Change::make(asked, facts, old).expect("nothing speaks against it"))
+    }
+
+    /// A save of a body of this length.
+    pub fn save<'a>(old: &'a [u8], length: usize, random: &mut Random) -> Option<Change<'a>> {
+        let facts = Facts::of(old);
+        let list = 2 * (sectors_for(length) + 1);
+        let asked = wishes::good(&facts, random)
+            .with(BODY, random.bytes(length))
+            .with(OUT, vec![0x5c; list]);
+        Change::make(asked, facts, old)
+    }
+
+    fn make<'a>(asked: Asked, facts: Facts, old: &'a [u8]) -> Option<Change<'a>> {
+        let left = compare::ask(&asked.on(old), &mut Margins::default());
+        let named = left.out.chunks_exact(2).take(calls::value(left.answer));
+        let named = named.map(|pair| usize::from(pair[0]) + 256 * usize::from(pair[1])).collect();
+        Some(Change {
+            new: left.image?,
+            asked,
+            old,
+            named,
+            facts,
+        })
+    }
+
+    /// No number twice; sectors not named are unchanged; the directory sector comes last, and before it stand data sectors.
+    pub fn names_its_sectors(&self) {
+        let mut named = [false; SECTORS];
+        for &number in &self.named {
+            assert!(
+                number < SECTORS && !named[number],
+                "sector {number} is no sector or is named twice"
+            );
+            named[number] = true;
+        }
+        for number in (0..SECTORS).filter(|&number| !named[number]) {
+            let sector = number * SECTOR..(number + 1) * SECTOR;
+            assert!(
+                self.old[sector.clone()] == self.new[sector],
+                "sector {number} is changed and not named"
+            );
+        }
+        let directory = |number: usize| number % 20 < 10 && number < 80;
+        let (last, data) = self.named.split_last().expect("at least one sector");
+        assert!(
+            directory(*last) && !data.iter().any(|&number| directory(number)),
+            "{:?}",
+            self.named
+        );
+        assert!(self.asked.call == Call::Save || data.is_empty(), "{:?}", self.named);
+    }
+
+    /// The old disk with the first k named sectors taken from the new one.
+    pub fn cut(&self, k: usize) -> Vec<u8> {
+        let mut disk = self.old.to_vec();
+        for number in &self.named[..k] {
+            let sector = number * SECTOR..(number + 1) * SECTOR;
+            disk[sector.clone()].copy_from_slice(&self.new[sector]);
+        }
+        disk
+    }
+
+    /// The slot bytes and the sectors of every file that the change does not find by name are as on the old disk.
+    pub fn keeps_other_files(&self, disk: &[u8]) {
+        assert_eq!(disk.len(), IMAGE);
+        for live in &self.facts.live {
+            if self.found().is_some_and(|slot| slot == live.slot) {
+                continue;
+            }
+            let slot = slot_place(live.slot)..slot_place(live.slot) + SLOT;
+            assert!(disk[slot.clone()] == self.old[slot.clone()], "slot {} is changed", live.slot);
+            for place in fields::bits(&self.old[slot]).into_iter().map(bit_place) {
+                let sector = place..place + SECTOR;
+                assert!(
+                    disk[sector.clone()] == self.old[sector],
+                    "a sector of slot {} is changed",
+                    live.slot
+                );
+            }
+        }
+    }
+
+    /// The slot that the change finds by name; a save finds none.
+    pub fn found(&self) -> Option<usize> {
+        if self.asked.call == Call::Save {
+            return None;
+        }
+        Some(
+            self.facts
+                .find(&self.asked.slices[NAME])
+                .expect("an accepted change found it")
+                .slot,
+        )
+    }
+}

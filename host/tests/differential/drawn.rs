@@ -1,0 +1,72 @@
+//! The answers on a drawn disk are what was drawn. Here the expectation comes from the drawing alone: `paper` and the C layer
+//! cannot be wrong together.
+
+use crate::support::calls::{self, Call, NAME, OUT, Request};
+use crate::support::compare;
+use crate::support::disks::{self, Disk, File};
+use crate::support::fields;
+use crate::support::margins::Margins;
+use crate::support::random::Random;
+use crate::support::settings::{Round, Rounds};
+
+#[test]
+fn drawn_disks_answer_what_was_drawn() {
+    let (mut lender, mut files) = (Margins::default(), 0);
+    let rounds = Rounds::new(6_000_000, 150);
+    for seed in rounds.seeds() {
+        let _round = Round(seed);
+        let disk = disks::draw(&mut Random::new(seed));
+        listed(&disk, &mut lender);
+        for file in &disk.files {
+            read(&disk, file, &mut lender);
+            started(&disk, file, &mut lender);
+        }
+        files += disk.files.len();
+    }
+    println!("{} drawn disks with {files} files", rounds.seeds().count());
+}
+
+/// 258 bytes for each live slot, rising: its number, low byte first, and its bytes; then what stood there.
+fn listed(disk: &Disk, lender: &mut Margins) {
+    let mut expected = Vec::new();
+    for file in &disk.files {
+        expected.extend([file.slot as u8, 0]);
+        expected.extend(disk.slot(file.slot));
+    }
+    expected.extend([0x5c; 9]);
+    let out = vec![0x5c; expected.len()];
+    let left = compare::ask(&Request::new(Call::List, &disk.image).with(OUT, &out), lender);
+    assert_eq!(calls::refusal(left.answer), 0);
+    assert_eq!(
+        (calls::value(left.answer), calls::free(left.answer)),
+        (disk.files.len(), disk.free())
+    );
+    assert!(left.out == expected, "the listing is not what was drawn");
+}
+
+fn read(disk: &Disk, file: &File, lender: &mut Margins) {
+    let out = vec![0x5c; file.body.len() + 9];
+    let left = compare::ask(
+        &Request::new(Call::Read, &disk.image).with(NAME, &file.name).with(OUT, &out),
+        lender,
+    );
+    if !fields::is_carried(file.kind) {
+        return assert_eq!((calls::refusal(left.answer), calls::slot(left.answer)), (13, file.slot));
+    }
+    assert_eq!((calls::refusal(left.answer), calls::value(left.answer)), (0, file.body.len()));
+    assert!(
+        left.out == [&file.body[..], &[0x5c; 9]].concat(),
+        "the body is not what was drawn"
+    );
+}
+
+fn started(disk: &Disk, file: &File, lender: &mut Margins) {
+    let answer = compare::ask(&Request::new(Call::Start, &disk.image).with(NAME, &file.name), lender).answer;
+    let given = (calls::refusal(answer), calls::slot(answer), calls::value(answer));
+    let expected = match fields::start(disk.slot(file.slot)) {
+        _ if !fields::is_carried(file.kind) => (13, file.slot, 0),
+        Some(address) => (0, 0, address),
+        None => (14, file.slot, 0),
+    };
+    assert_eq!(given, expected);
+}

@@ -1,0 +1,160 @@
+//! Drawn disks with drawn requests, whole disks and damaged ones, and a count of which call gave which refusal.
+
+use crate::support::asking::{self, WRONG_LENGTHS};
+use crate::support::calls::{CALLS, CHANGES, Call, Request, refusal, slot};
+use crate::support::compare::{self, Left};
+use crate::support::damage::{self, Outcome};
+use crate::support::disks::{self, Disk};
+use crate::support::facts::Facts;
+use crate::support::geometry::IMAGE;
+use crate::support::margins::Margins;
+use crate::support::random::Random;
+use crate::support::settings::{Round, Rounds};
+use crate::support::tally::Tally;
+
+/// What all drawn requests go through.
+#[derive(Default)]
+struct Run {
+    lender: Margins,
+    tally: Tally,
+    disks: usize,
+}
+
+impl Run {
+    fn ask(&mut self, request: &Request) -> Left {
+        let left = compare::ask(request, &mut self.lender);
+        self.tally.count(request.call, left.answer);
+        left
+    }
+
+    fn check(&mut self, image: &[u8]) -> u64 {
+        self.disks += 1;
+        self.ask(&Request::new(Call::Check, image)).answer
+    }
+}
+
+#[test]
+fn every_call_answers_as_the_paper() {
+    let mut run = Run::default();
+    let parts: [fn(&mut Run) -> bool; 5] = [whole, damaged, much_damaged, wrong_lengths, histories];
+    let enough = parts.map(|part| part(&mut run));
+    let table = run.tally.table();
+    println!(
+        "{} disks, {} requests; how often each call gave each refusal:\n{table}",
+        run.disks,
+        run.tally.requests()
+    );
+    if let Some(file) = std::env::var_os("VARNUCHT_TABLE") {
+        std::fs::write(file, table + "\n").expect("the table can be written");
+    }
+    let missing = run.tally.missing();
+    if enough.contains(&false) {
+        println!("Too few rounds to reach every pair; missing: {missing:?}");
+        return;
+    }
+    assert!(missing.is_empty(), "never given: {missing:?}");
+}
+
+/// Disks that are accepted, several requests of every call on each.
+fn whole(run: &mut Run) -> bool {
+    let rounds = Rounds::new(1_000_000, 700);
+    for seed in rounds.seeds() {
+        let _round = Round(seed);
+        let random = &mut Random::new(seed);
+        let disk = disks::draw(random);
+        assert_eq!(run.check(&disk.image), 0, "a drawn disk is refused");
+        let facts = Facts::of(&disk.image);
+        for call in CALLS {
+            for _ in 0..3 {
+                run.ask(&asking::draw(call, &facts, random).on(&disk.image));
+            }
+        }
+    }
+    rounds.enough()
+}
+
+/// One damage on each disk, every sort of damage in turn.
+fn damaged(run: &mut Run) -> bool {
+    let all = damage::all();
+    let rounds = Rounds::new(2_000_000, 12 * all.len() as u64);
+    for seed in rounds.seeds() {
+        let _round = Round(seed);
+        let random = &mut Random::new(seed);
+        let damage = all[seed as usize % all.len()];
+        let (disk, outcome) = damage::one(damage, random);
+        on_damaged(run, &disk, outcome, damage.title, random);
+    }
+    rounds.enough()
+}
+
+/// Two damages or more on each disk: the order of the table decides.
+fn much_damaged(run: &mut Run) -> bool {
+    let rounds = Rounds::new(3_000_000, 400);
+    for seed in rounds.seeds() {
+        let _round = Round(seed);
+        let random = &mut Random::new(seed);
+        let (disk, outcome) = damage::several(random);
+        on_damaged(run, &disk, outcome, "several damages", random);
+    }
+    rounds.enough()
+}
+
+/// The check says what follows from the damage; every other call that looks at the directory refuses alike.
+fn on_damaged(run: &mut Run, disk: &Disk, outcome: Outcome, title: &str, random: &mut Random) {
+    let check = run.check(&disk.image);
+    let given = (refusal(check), slot(check));
+    match outcome {
+        Outcome::Open => {}
+        Outcome::Accepted => assert_eq!(given, (0, 0), "{title}: must be accepted"),
+        Outcome::Refused(number, slot) => assert_eq!(given, (number, slot), "{title}: another refusal follows"),
+    }
+    let facts = Facts::of(&disk.image);
+    for call in CALLS.into_iter().skip(1) {
+        let answer = run.ask(&asking::draw(call, &facts, random).on(&disk.image)).answer;
+        assert!(
+            check == 0 || call == Call::Sector || answer == check,
+            "{title}: {call:?} and check differ"
+        );
+    }
+}
+
+/// Images that are too short or too long.
+fn wrong_lengths(run: &mut Run) -> bool {
+    let rounds = Rounds::new(4_000_000, 2 * WRONG_LENGTHS.len() as u64);
+    for seed in rounds.seeds() {
+        let _round = Round(seed);
+        let random = &mut Random::new(seed);
+        let length = WRONG_LENGTHS[seed as usize % WRONG_LENGTHS.len()];
+        let mut disk = disks::draw(random);
+        let facts = Facts::of(&disk.image);
+        disk.image.resize(length, 0);
+        assert_eq!(run.check(&disk.image), 1, "{length} bytes");
+        for call in CALLS {
+            let answer = run.ask(&asking::draw(call, &facts, random).on(&disk.image)).answer;
+            assert_eq!(answer, 1, "{call:?} on {length} bytes");
+        }
+    }
+    rounds.enough()
+}
+
+/// Change after change on one disk, each on what the one before left.
+fn histories(run: &mut Run) -> bool {
+    let rounds = Rounds::new(5_000_000, 60);
+    for seed in rounds.seeds() {
+        let _round = Round(seed);
+        let random = &mut Random::new(seed);
+        let mut image = if random.one_in(3) {
+            vec![0; IMAGE]
+        } else {
+            disks::draw(random).image
+        };
+        for _ in 0..40 {
+            let call = if random.coin() { Call::Save } else { random.pick(&CHANGES) };
+            let asked = asking::draw(call, &Facts::of(&image), random);
+            let left = run.ask(&asked.on(&image));
+            image = left.image.unwrap_or(image);
+        }
+        assert_eq!(run.check(&image), 0, "accepted changes left a disk that is refused");
+    }
+    rounds.enough()
+}

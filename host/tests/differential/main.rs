@@ -1,0 +1,17 @@
+//! Every call of the C layer against the independent implementation of document 01 (`paper`): the same request to both, with
+//! equal copies of all buffers, and the answer and every buffer compared at return.
+//!
+//! - `draws`: drawn disks, whole and damaged, with drawn requests; counts which call gave which refusal.
+//! - `drawn`: the answers on a drawn disk are what was drawn, whatever `paper` says.
+//! - `edges`: each argument of each call at, below and above its boundaries, one after the other.
+//! - `sectors`: every drive, track and sector of the raw sector call.
+//!
+//! `VARNUCHT_SEED` and `VARNUCHT_ROUNDS` draw other tests, or a single one again.
+
+#[path = "../support/mod.rs"]
+mod support;
+
+mod drawn;
+mod draws;
+mod edges;
+mod sectors;

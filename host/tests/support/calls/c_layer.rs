@@ -1,0 +1,60 @@
+//! A request to the C layer: numbers, and slices as pointers and lengths.
+
+use super::Call;
+use varnucht::raw;
+
+/// A slice as the C layer takes it.
+#[derive(Clone, Copy, Debug)]
+pub struct Part {
+    pub front: *mut u8,
+    pub length: usize,
+}
+
+pub const NOTHING: Part = Part {
+    front: std::ptr::null_mut(),
+    length: 0,
+};
+
+/// Asks the C layer.
+///
+/// # Safety
+///
+/// Every part is readable over its length; those that the call changes are writable too and overlap no other.
+pub unsafe fn ask_c(call: Call, numbers: [u32; 3], parts: &[Part; 8]) -> u64 {
+    let [image, two, name, new, exec, info, body, out] = *parts;
+    let [a, b, c] = numbers;
+    let (i, il, n, nl, o, ol) = (image.front, image.length, name.front, name.length, out.front, out.length);
+    // Safety: the caller's promise is the one that every call asks.
+    unsafe {
+        match call {
+            Call::Check => raw::varnucht_check(i, il),
+            Call::List => raw::varnucht_list(i, il, o, ol),
+            Call::Read => raw::varnucht_read(i, il, n, nl, o, ol),
+            Call::Start => raw::varnucht_start(i, il, n, nl),
+            Call::Sector => raw::varnucht_sector(i, il, two.front, two.length, a, b, c),
+            Call::Save => raw::varnucht_save(
+                i,
+                il,
+                a,
+                n,
+                nl,
+                b,
+                c,
+                exec.front,
+                exec.length,
+                info.front,
+                info.length,
+                body.front,
+                body.length,
+                o,
+                ol,
+            ),
+            Call::Erase => raw::varnucht_erase(i, il, n, nl, o, ol),
+            Call::Rename => raw::varnucht_rename(i, il, n, nl, new.front, new.length, o, ol),
+            Call::Hide => raw::varnucht_hide(i, il, n, nl, o, ol),
+            Call::Show => raw::varnucht_show(i, il, n, nl, o, ol),
+            Call::Protect => raw::varnucht_protect(i, il, n, nl, o, ol),
+            Call::Release => raw::varnucht_release(i, il, n, nl, o, ol),
+        }
+    }
+}

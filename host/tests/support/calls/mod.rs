@@ -1,0 +1,129 @@
+//! One request, asked of the C layer and of `paper`. Both answer in the C layer's form,
+//! refusal + 256 × slot + 2^24 × value + 2^48 × free.
+
+mod by_paper;
+mod c_layer;
+mod packed;
+
+pub use by_paper::{Answer, ask_paper};
+pub use c_layer::{NOTHING, Part, ask_c};
+pub use packed::{free, refusal, slot, value};
+
+#[derive(Clone, Copy, Debug, PartialEq, Eq)]
+pub enum Call {
+    Check,
+    List,
+    Read,
+    Start,
+    Sector,
+    Save,
+    Erase,
+    Rename,
+    Hide,
+    Show,
+    Protect,
+    Release,
+}
+
+pub const CALLS: [Call; 12] = [
+    Call::Check,
+    Call::List,
+    Call::Read,
+    Call::Start,
+    Call::Sector,
+    Call::Save,
+    Call::Erase,
+    Call::Rename,
+    Call::Hide,
+    Call::Show,
+    Call::Protect,
+    Call::Release,
+];
+
+pub const CHANGES: [Call; 7] = [
+    Call::Save,
+    Call::Erase,
+    Call::Rename,
+    Call::Hide,
+    Call::Show,
+    Call::Protect,
+    Call::Release,
+];
+
+/// The slices that calls lend, as places in the arrays below.
+pub const IMAGE: usize = 0;
+pub const TWO: usize = 1;
+pub const NAME: usize = 2;
+pub const NEW: usize = 3;
+pub const EXEC: usize = 4;
+pub const INFO: usize = 5;
+pub const BODY: usize = 6;
+/// The output buffer of list and read, the list of sector numbers of a change.
+pub const OUT: usize = 7;
+pub const ROLES: [&str; 8] = [
+    "image",
+    "image of drive 2",
+    "name",
+    "new name",
+    "execution bytes",
+    "information",
+    "body",
+    "output",
+];
+
+impl Call {
+    pub fn is_change(self) -> bool {
+        CHANGES.contains(&self)
+    }
+
+    /// The slices that this call takes.
+    pub fn takes(self) -> &'static [usize] {
+        match self {
+            Call::Check => &[IMAGE],
+            Call::List => &[IMAGE, OUT],
+            Call::Read => &[IMAGE, NAME, OUT],
+            Call::Start => &[IMAGE, NAME],
+            Call::Sector => &[IMAGE, TWO],
+            Call::Save => &[IMAGE, NAME, EXEC, INFO, BODY, OUT],
+            Call::Rename => &[IMAGE, NAME, NEW, OUT],
+            _ => &[IMAGE, NAME, OUT],
+        }
+    }
+
+    /// Whether this call may change that slice.
+    pub fn changes(self, role: usize) -> bool {
+        role == OUT || role == IMAGE && self.is_change()
+    }
+}
+
+/// All that a call is given. What a call does not take stays empty.
+#[derive(Clone, Copy)]
+pub struct Request<'a> {
+    pub call: Call,
+    /// Save: kind, start page, offset. Sector: drive, track, sector.
+    pub numbers: [u32; 3],
+    pub slices: [&'a [u8]; 8],
+}
+
+impl<'a> Request<'a> {
+    pub fn new(call: Call, image: &'a [u8]) -> Request<'a> {
+        let mut slices: [&[u8]; 8] = [&[]; 8];
+        slices[IMAGE] = image;
+        Request {
+            call,
+            numbers: [0; 3],
+            slices,
+        }
+    }
+
+    pub fn with(mut self, role: usize, bytes: &'a [u8]) -> Request<'a> {
+        assert!(self.call.takes().contains(&role), "{:?} takes no {}", self.call, ROLES[role]);
+        self.slices[role] = bytes;
+        self
+    }
+
+    pub fn numbers(mut self, numbers: [u32; 3]) -> Request<'a> {
+        self.numbers = numbers;
+        self
+    }
+}

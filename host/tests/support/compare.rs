@@ -1,0 +1,139 @@
+//! The same request to the C layer and to `paper`, each with copies of its own of all buffers: equal answers, and every buffer
+//! equal at return, those too that are only read.
+
+use super::calls::{self, Answer, BODY, Call, IMAGE, OUT, Part, ROLES, Request, ask_c, ask_paper};
+
+/// A way to lend buffers to the C layer.
+pub trait Lend {
+    /// A copy of the bytes, for this role of a request.
+    fn lend(&mut self, role: usize, bytes: &[u8], may_change: bool) -> Part;
+    /// What stands in it now.
+    fn bytes(&self, role: usize) -> &[u8];
+    /// Whether the bytes around it are untouched.
+    fn around(&self, role: usize) -> bool;
+    /// Stands for slices that the call does not take.
+    fn nothing(&self) -> Part;
+}
+
+/// What a request left, the same on both sides.
+pub struct Left {
+    pub answer: u64,
+    /// None: unchanged, or the call does not change it.
+    pub image: Option<Vec<u8>>,
+    pub out: Vec<u8>,
+}
+
+/// Asks both and fails where they differ.
+pub fn ask(request: &Request, lender: &mut impl Lend) -> Left {
+    let answer = ask_lent(request, lender);
+    let paper = ask_paper(request);
+    assert!(answer == paper.packed, "{}", differ(request, answer, paper.packed));
+    form(request, answer);
+    for &role in request.call.takes() {
+        let old = request.slices[role];
+        let left = left(&paper, role, old);
+        same(
+            request,
+            role,
+            lender.bytes(role),
+            left,
+            "at return the C layer and the paper differ",
+        );
+        assert!(
+            lender.around(role),
+            "bytes around it are changed: {}\n{}",
+            ROLES[role],
+            tell(request)
+        );
+        if calls::refusal(answer) != 0 {
+            same(request, role, left, old, "a refused call changed a slice");
+        }
+    }
+    let image = if calls::refusal(answer) == 0 { paper.image } else { None };
+    Left {
+        answer,
+        image,
+        out: paper.out,
+    }
+}
+
+/// Asks the C layer alone, on lent copies.
+pub fn ask_lent(request: &Request, lender: &mut impl Lend) -> u64 {
+    let mut parts = [lender.nothing(); 8];
+    for &role in request.call.takes() {
+        parts[role] = lender.lend(role, request.slices[role], request.call.changes(role));
+    }
+    // Safety: every slice that the call takes is a copy of its own, readable, and writable where the call may change it.
+    unsafe { ask_c(request.call, request.numbers, &parts) }
+}
+
+fn left<'a>(paper: &'a Answer, role: usize, old: &'a [u8]) -> &'a [u8] {
+    match role {
+        OUT => &paper.out,
+        IMAGE => paper.image.as_deref().unwrap_or(old),
+        _ => old,
+    }
+}
+
+/// Accepted: the slot is 0. Refused: value and free are 0.
+fn form(request: &Request, answer: u64) {
+    let accepted = calls::refusal(answer) == 0;
+    let good = if accepted {
+        calls::slot(answer) == 0
+    } else {
+        calls::value(answer) == 0 && calls::free(answer) == 0
+    };
+    assert!(good, "the answer {} has no such form\n{}", read_out(answer), tell(request));
+}
+
+fn same(request: &Request, role: usize, one: &[u8], other: &[u8], fault: &str) {
+    if one == other {
+        return;
+    }
+    assert_eq!(one.len(), other.len());
+    let at = one.iter().zip(other).position(|(a, b)| a != b).expect("a byte differs");
+    panic!(
+        "{fault}: {} byte {at} is {} and {}\n{}",
+        ROLES[role],
+        one[at],
+        other[at],
+        tell(request)
+    );
+}
+
+fn differ(request: &Request, c: u64, paper: u64) -> String {
+    format!(
+        "the C layer answers {}, the paper {}\n{}",
+        read_out(c),
+        read_out(paper),
+        tell(request)
+    )
+}
+
+pub fn read_out(answer: u64) -> String {
+    let (refusal, slot) = (calls::refusal(answer), calls::slot(answer));
+    format!(
+        "refusal {refusal} slot {slot} value {} free {}",
+        calls::value(answer),
+        calls::free(answer)
+    )
+}
+
+/// The request in words; of long slices the length alone.
+pub fn tell(request: &Request) -> String {
+    let mut text = format!("{:?}", request.call);
+    if matches!(request.call, Call::Save | Call::Sector) {
+        text += &format!(" numbers {:?}", request.numbers);
+    }
+    for &role in request.call.takes() {
+        let bytes = request.slices[role];
+        let shown = role != BODY && bytes.len() <= 16;
+        let bytes = if shown {
+            format!("{bytes:?}")
+        } else {
+            format!("{} bytes", bytes.len())
+        };
+        text += &format!("; {} {bytes}", ROLES[role]);
+    }
+    text
+}

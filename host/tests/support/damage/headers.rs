@@ -1,0 +1,116 @@
+//! Damage to the nine bytes of a carried file and to what they must equal: number 11.
+
+use super::{Damage, Outcome};
+use crate::support::disks::Disk;
+use crate::support::fields;
+use crate::support::geometry::fills;
+use crate::support::random::Random;
+
+#[rustfmt::skip]
+pub const ALL: &[&Damage] = &[
+    &Damage { title: "header kind", own: true, apply: kind },
+    &Damage { title: "header kind with the marks of the slot", own: true, apply: kind_with_marks },
+    &Damage { title: "header remainder", own: true, apply: remainder },
+    &Damage { title: "header pages", own: true, apply: pages },
+    &Damage { title: "slot's kind to another carried one", own: true, apply: slot_kind },
+    &Damage { title: "slot's length to another that fits", own: true, apply: slot_length },
+    &Damage { title: "bits 14 and 15 of the slot's remainder", own: true, apply: slot_junk },
+    &Damage { title: "bits 14 and 15 of the header's remainder", own: true, apply: header_junk },
+    &Damage { title: "header offset, page and unused bytes", own: true, apply: unread },
+    &Damage { title: "the longest length that fits", own: true, apply: longest },
+];
+
+/// Changes one byte of the header of a carried file.
+fn header(disk: &mut Disk, index: usize, at: usize, change: impl FnOnce(u8) -> u8) -> Option<Outcome> {
+    let file = &disk.files[index];
+    let (slot, first) = (file.slot, file.chain[0]);
+    fields::is_carried(file.kind).then_some(())?;
+    let byte = &mut disk.sector_mut(first)[at];
+    let old = *byte;
+    *byte = change(old);
+    assert!(*byte != old, "nothing damaged");
+    Some(Outcome::Refused(11, slot))
+}
+
+fn kind(disk: &mut Disk, index: usize, random: &mut Random) -> Option<Outcome> {
+    header(disk, index, 0, |old| old ^ random.between(1, 255) as u8)
+}
+
+/// The first byte is compared whole: bits 6 and 7 count too.
+fn kind_with_marks(disk: &mut Disk, index: usize, random: &mut Random) -> Option<Outcome> {
+    header(disk, index, 0, |old| old ^ random.pick(&[64, 128, 192]))
+}
+
+fn remainder(disk: &mut Disk, index: usize, random: &mut Random) -> Option<Outcome> {
+    let bit = random.below(14);
+    header(disk, index, fields::HEADER_REMAINDER + bit / 8, |old| old ^ 1 << (bit % 8))
+}
+
+fn pages(disk: &mut Disk, index: usize, random: &mut Random) -> Option<Outcome> {
+    header(disk, index, fields::HEADER_PAGES, |old| old ^ random.between(1, 255) as u8)
+}
+
+fn slot_kind(disk: &mut Disk, index: usize, random: &mut Random) -> Option<Outcome> {
+    let file = &disk.files[index];
+    let (slot, old) = (file.slot, file.kind);
+    fields::is_carried(old).then_some(())?;
+    let kind = 16 + (old - 16 + random.between(1, 4) as u8) % 5;
+    disk.slot_mut(slot)[0] ^= old ^ kind;
+    Some(Outcome::Refused(11, slot))
+}
+
+fn slot_length(disk: &mut Disk, index: usize, random: &mut Random) -> Option<Outcome> {
+    let file = &disk.files[index];
+    fields::is_carried(file.kind).then_some(())?;
+    let (slot, old) = (file.slot, file.body.len());
+    let length = match random.below(3) {
+        0 if old > 0 => old - 1,
+        1 if old >= 16_384 => old - 16_384,
+        _ => random.between(0, fills(file.chain.len())),
+    };
+    set_length(disk.slot_mut(slot), length, random);
+    Some(if length == old {
+        Outcome::Accepted
+    } else {
+        Outcome::Refused(11, slot)
+    })
+}
+
+fn set_length(slot: &mut [u8], length: usize, random: &mut Random) {
+    slot[fields::PAGES] = (length / 16_384) as u8;
+    slot[fields::REMAINDER..fields::EXEC].copy_from_slice(&fields::remainder(length, random.byte()));
+}
+
+fn slot_junk(disk: &mut Disk, index: usize, random: &mut Random) -> Option<Outcome> {
+    let slot = disk.files[index].slot;
+    disk.slot_mut(slot)[fields::REMAINDER + 1] ^= random.pick(&[64, 128, 192]);
+    Some(Outcome::Accepted)
+}
+
+fn header_junk(disk: &mut Disk, index: usize, random: &mut Random) -> Option<Outcome> {
+    header(disk, index, fields::HEADER_REMAINDER + 1, |old| {
+        old ^ random.pick(&[64, 128, 192])
+    })?;
+    Some(Outcome::Accepted)
+}
+
+fn unread(disk: &mut Disk, index: usize, random: &mut Random) -> Option<Outcome> {
+    let first = disk.files[index].chain[0];
+    fields::is_carried(disk.files[index].kind).then_some(())?;
+    let sector = disk.sector_mut(first);
+    random.fill(&mut sector[fields::HEADER_OFFSET..fields::HEADER_PAGES]);
+    sector[fields::HEADER_PAGE] = random.byte();
+    Some(Outcome::Accepted)
+}
+
+/// Slot and header both give the length that fills the sectors to the last byte.
+fn longest(disk: &mut Disk, index: usize, random: &mut Random) -> Option<Outcome> {
+    let file = &disk.files[index];
+    fields::is_carried(file.kind).then_some(())?;
+    let (slot, first, length) = (file.slot, file.chain[0], fills(file.chain.len()));
+    set_length(disk.slot_mut(slot), length, random);
+    let sector = disk.sector_mut(first);
+    sector[fields::HEADER_PAGES] = (length / 16_384) as u8;
+    sector[fields::HEADER_REMAINDER..fields::HEADER_OFFSET].copy_from_slice(&fields::remainder(length, random.byte()));
+    Some(Outcome::Accepted)
+}

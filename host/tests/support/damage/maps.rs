@@ -1,0 +1,132 @@
+//! Damage to the map: numbers 5, 6, 8, and 10 where the chain leaves the map.
+
+use super::{Damage, Outcome};
+use crate::support::disks::Disk;
+use crate::support::fields;
+use crate::support::geometry::BITS;
+use crate::support::random::Random;
+
+#[rustfmt::skip]
+pub const ALL: &[&Damage] = &[
+    &Damage { title: "a map bit more", own: true, apply: bit_more },
+    &Damage { title: "a map bit less", own: true, apply: bit_less },
+    &Damage { title: "the first sector's bit moved", own: true, apply: first_moved },
+    &Damage { title: "a later sector's bit moved", own: false, apply: later_moved },
+    &Damage { title: "a bit and a count more", own: false, apply: counted_more },
+    &Damage { title: "a bit of an earlier file more", own: false, apply: shared_with_earlier },
+    &Damage { title: "a bit of a later file more", own: false, apply: shared_with_later },
+    &Damage { title: "a bit moved to an earlier file's", own: false, apply: moved_to_earlier },
+    &Damage { title: "the first address and its bit an earlier file's", own: false, apply: first_of_earlier },
+];
+
+fn bit_more(disk: &mut Disk, index: usize, random: &mut Random) -> Option<Outcome> {
+    let slot = disk.files[index].slot;
+    let bit = random.pick(&others(disk, index)?);
+    fields::set_bit(disk.slot_mut(slot), bit, true);
+    Some(Outcome::Refused(5, slot))
+}
+
+fn bit_less(disk: &mut Disk, index: usize, random: &mut Random) -> Option<Outcome> {
+    let slot = disk.files[index].slot;
+    let bit = random.pick(&disk.files[index].chain);
+    fields::set_bit(disk.slot_mut(slot), bit, false);
+    Some(Outcome::Refused(5, slot))
+}
+
+fn first_moved(disk: &mut Disk, index: usize, random: &mut Random) -> Option<Outcome> {
+    let to = random.pick(&free(disk)?);
+    let from = disk.files[index].chain[0];
+    Some(Outcome::Refused(6, moved(disk, index, from, to)))
+}
+
+fn later_moved(disk: &mut Disk, index: usize, random: &mut Random) -> Option<Outcome> {
+    let to = random.pick(&free(disk)?);
+    let from = later_bit(disk, index, random)?;
+    Some(Outcome::Refused(10, moved(disk, index, from, to)))
+}
+
+/// A free sector counted in that the chain never reaches: the last link is met too early.
+fn counted_more(disk: &mut Disk, index: usize, random: &mut Random) -> Option<Outcome> {
+    let bit = random.pick(&free(disk)?);
+    Some(Outcome::Refused(10, counted(disk, index, bit)))
+}
+
+fn shared_with_earlier(disk: &mut Disk, index: usize, random: &mut Random) -> Option<Outcome> {
+    let bit = bit_of_earlier(disk, index, random)?;
+    Some(Outcome::Refused(8, counted(disk, index, bit)))
+}
+
+fn shared_with_later(disk: &mut Disk, index: usize, random: &mut Random) -> Option<Outcome> {
+    if index + 1 == disk.files.len() {
+        return None;
+    }
+    let later = random.between(index + 1, disk.files.len() - 1);
+    let bit = random.pick(&disk.files[later].chain);
+    counted(disk, index, bit);
+    Some(Outcome::Refused(8, disk.files[later].slot))
+}
+
+fn moved_to_earlier(disk: &mut Disk, index: usize, random: &mut Random) -> Option<Outcome> {
+    let to = bit_of_earlier(disk, index, random)?;
+    let from = later_bit(disk, index, random)?;
+    Some(Outcome::Refused(8, moved(disk, index, from, to)))
+}
+
+/// A file whose chain begins in an earlier file's sector, with the map to fit.
+fn first_of_earlier(disk: &mut Disk, index: usize, random: &mut Random) -> Option<Outcome> {
+    let to = bit_of_earlier(disk, index, random)?;
+    let from = disk.files[index].chain[0];
+    let slot = moved(disk, index, from, to);
+    let at = crate::support::geometry::address(to);
+    disk.slot_mut(slot)[fields::FIRST..fields::MAP].copy_from_slice(&at);
+    Some(Outcome::Refused(8, slot))
+}
+
+/// One bit cleared and one set, so that the number stays. Gives the slot.
+fn moved(disk: &mut Disk, index: usize, from: usize, to: usize) -> usize {
+    let slot = disk.files[index].slot;
+    fields::set_bit(disk.slot_mut(slot), from, false);
+    fields::set_bit(disk.slot_mut(slot), to, true);
+    slot
+}
+
+/// One bit more set, and the count raised with it. Gives the slot.
+fn counted(disk: &mut Disk, index: usize, bit: usize) -> usize {
+    let slot = disk.files[index].slot;
+    let count = disk.files[index].chain.len() + 1;
+    fields::set_bit(disk.slot_mut(slot), bit, true);
+    fields::set_count(disk.slot_mut(slot), count);
+    slot
+}
+
+fn later_bit(disk: &Disk, index: usize, random: &mut Random) -> Option<usize> {
+    let chain = &disk.files[index].chain;
+    (chain.len() > 1).then(|| random.pick(&chain[1..]))
+}
+
+fn bit_of_earlier(disk: &Disk, index: usize, random: &mut Random) -> Option<usize> {
+    (index > 0).then(|| {
+        let earlier = random.below(index);
+        random.pick(&disk.files[earlier].chain)
+    })
+}
+
+/// The bits that are not this file's.
+fn others(disk: &Disk, index: usize) -> Option<Vec<usize>> {
+    let chain = &disk.files[index].chain;
+    some((0..BITS).filter(|bit| !chain.contains(bit)).collect())
+}
+
+/// The bits that are no file's.
+fn free(disk: &Disk) -> Option<Vec<usize>> {
+    let mut used = [false; BITS];
+    disk.files
+        .iter()
+        .flat_map(|file| &file.chain)
+        .for_each(|&bit| used[bit] = true);
+    some((0..BITS).filter(|&bit| !used[bit]).collect())
+}
+
+fn some(bits: Vec<usize>) -> Option<Vec<usize>> {
+    if bits.is_empty() { None } else { Some(bits) }
+}

@@ -1,0 +1,110 @@
+//! Faults put into a drawn disk, one for each field that the rules look at, with the refusal that the table and its order give
+//! for it; and changes beside those fields, which must stay accepted.
+
+mod bytes;
+mod chains;
+mod firsts;
+mod headers;
+mod maps;
+mod names;
+mod slots;
+
+use super::disks::{self, Disk};
+use super::random::Random;
+
+/// What the check must say of the damaged disk.
+#[derive(Clone, Copy, Debug, PartialEq, Eq)]
+pub enum Outcome {
+    Accepted,
+    /// Number and slot.
+    Refused(u8, usize),
+    /// Not known beforehand: only the comparison decides.
+    Open,
+}
+
+pub struct Damage {
+    pub title: &'static str,
+    /// It touches one file alone, and its outcome hangs on no other file.
+    pub own: bool,
+    /// Damages the file with this index; none, and nothing done, where that file does not allow it.
+    pub apply: fn(&mut Disk, usize, &mut Random) -> Option<Outcome>,
+}
+
+pub fn all() -> Vec<&'static Damage> {
+    [
+        slots::ALL,
+        names::ALL,
+        firsts::ALL,
+        maps::ALL,
+        chains::ALL,
+        headers::ALL,
+        bytes::ALL,
+    ]
+    .concat()
+}
+
+/// A drawn disk with this damage.
+pub fn one(damage: &Damage, random: &mut Random) -> (Disk, Outcome) {
+    for _ in 0..1_000 {
+        let mut disk = disks::draw(random);
+        if let Some((_, outcome)) = somewhere(damage, &mut disk, random) {
+            return (disk, outcome);
+        }
+    }
+    panic!("no drawn disk allows: {}", damage.title);
+}
+
+/// A drawn disk with two damages or more, so that the order decides between them.
+pub fn several(random: &mut Random) -> (Disk, Outcome) {
+    let all = all();
+    loop {
+        let mut disk = disks::draw(random);
+        let (first, second) = (random.pick(&all), random.pick(&all));
+        let Some((i, one)) = somewhere(first, &mut disk, random) else {
+            continue;
+        };
+        let Some((j, other)) = somewhere(second, &mut disk, random) else {
+            continue;
+        };
+        let mut outcome = if i != j && first.own && second.own {
+            earlier(one, other)
+        } else {
+            Outcome::Open
+        };
+        while random.one_in(3) {
+            if somewhere(random.pick(&all), &mut disk, random).is_some() {
+                outcome = Outcome::Open;
+            }
+        }
+        return (disk, outcome);
+    }
+}
+
+/// At the first file that allows it, from a drawn one on.
+fn somewhere(damage: &Damage, disk: &mut Disk, random: &mut Random) -> Option<(usize, Outcome)> {
+    let files = disk.files.len();
+    let from = if files == 0 { return None } else { random.below(files) };
+    (0..files)
+        .map(|i| (from + i) % files)
+        .find_map(|index| Some((index, (damage.apply)(disk, index, random)?)))
+}
+
+/// All slots for 2 to 9 come before all slots for 10 and 11; then the lowest slot, and at a slot the lowest number.
+fn earlier(one: Outcome, other: Outcome) -> Outcome {
+    let rank = |outcome: Outcome| match outcome {
+        Outcome::Refused(number, slot) => Some((number >= 10, slot, number)),
+        _ => None,
+    };
+    match (rank(one), rank(other)) {
+        _ if one == Outcome::Open || other == Outcome::Open => Outcome::Open,
+        (Some(a), Some(b)) => {
+            if a <= b {
+                one
+            } else {
+                other
+            }
+        }
+        (Some(_), None) => one,
+        _ => other,
+    }
+}

@@ -1,0 +1,115 @@
+//! Damage to kind, count and length: numbers 2, 4, 5, 7.
+
+use super::{Damage, Outcome};
+use crate::support::disks::Disk;
+use crate::support::fields;
+use crate::support::geometry::{BITS, fills};
+use crate::support::random::Random;
+
+#[rustfmt::skip]
+pub const ALL: &[&Damage] = &[
+    &Damage { title: "unknown kind", own: true, apply: unknown_kind },
+    &Damage { title: "kind not carried", own: true, apply: kind_not_carried },
+    &Damage { title: "hidden or protected turned", own: true, apply: marks },
+    &Damage { title: "erased", own: true, apply: erased },
+    &Damage { title: "count out of range", own: true, apply: count_outside },
+    &Damage { title: "count one more", own: true, apply: |disk, index, _| count_by(disk, index, 1) },
+    &Damage { title: "count one less", own: true, apply: |disk, index, _| count_by(disk, index, -1) },
+    &Damage { title: "count low byte first", own: true, apply: count_swapped },
+    &Damage { title: "length one too much", own: true, apply: too_long_by_one },
+    &Damage { title: "length far too much", own: true, apply: far_too_long },
+    &Damage { title: "bytes that no rule reads", own: true, apply: unread },
+];
+
+fn unknown_kind(disk: &mut Disk, index: usize, random: &mut Random) -> Option<Outcome> {
+    let slot = disk.files[index].slot;
+    let kind = loop {
+        let byte = random.byte();
+        if byte != 0 && !fields::is_known(byte & 63) {
+            break byte;
+        }
+    };
+    disk.slot_mut(slot)[0] = kind;
+    Some(Outcome::Refused(2, slot))
+}
+
+/// A carried kind made one that is only known: its header is looked at no more.
+fn kind_not_carried(disk: &mut Disk, index: usize, random: &mut Random) -> Option<Outcome> {
+    let slot = disk.files[index].slot;
+    let kind = random.pick(&[1, 5, 12, 21, 22, 23]);
+    let byte = &mut disk.slot_mut(slot)[0];
+    *byte = *byte & 192 | kind;
+    Some(Outcome::Accepted)
+}
+
+fn marks(disk: &mut Disk, index: usize, random: &mut Random) -> Option<Outcome> {
+    let slot = disk.files[index].slot;
+    disk.slot_mut(slot)[0] ^= random.pick(&[64, 128, 192]);
+    Some(Outcome::Accepted)
+}
+
+fn erased(disk: &mut Disk, index: usize, _: &mut Random) -> Option<Outcome> {
+    let slot = disk.files[index].slot;
+    disk.slot_mut(slot)[0] = 0;
+    Some(Outcome::Accepted)
+}
+
+fn count_outside(disk: &mut Disk, index: usize, random: &mut Random) -> Option<Outcome> {
+    let slot = disk.files[index].slot;
+    let count = random.pick(&[0, BITS + 1, BITS + 2, 2_048, 32_768, 65_535]);
+    fields::set_count(disk.slot_mut(slot), count);
+    Some(Outcome::Refused(4, slot))
+}
+
+fn count_by(disk: &mut Disk, index: usize, more: isize) -> Option<Outcome> {
+    let count = disk.files[index].chain.len().wrapping_add_signed(more);
+    miscounted(disk, index, count)
+}
+
+fn count_swapped(disk: &mut Disk, index: usize, _: &mut Random) -> Option<Outcome> {
+    let count = disk.files[index].chain.len();
+    let swapped = count % 256 * 256 + count / 256;
+    if swapped == count {
+        None
+    } else {
+        miscounted(disk, index, swapped)
+    }
+}
+
+/// Another count than the map has bits.
+fn miscounted(disk: &mut Disk, index: usize, count: usize) -> Option<Outcome> {
+    let slot = disk.files[index].slot;
+    fields::set_count(disk.slot_mut(slot), count);
+    Some(Outcome::Refused(if (1..=BITS).contains(&count) { 5 } else { 4 }, slot))
+}
+
+fn too_long_by_one(disk: &mut Disk, index: usize, random: &mut Random) -> Option<Outcome> {
+    let length = fills(disk.files[index].chain.len()) + 1;
+    too_long(disk, index, length, random)
+}
+
+fn far_too_long(disk: &mut Disk, index: usize, random: &mut Random) -> Option<Outcome> {
+    let least = fills(disk.files[index].chain.len()) + 1;
+    let length = random.between(least, 256 * 16_384 - 1);
+    too_long(disk, index, length, random)
+}
+
+fn too_long(disk: &mut Disk, index: usize, length: usize, random: &mut Random) -> Option<Outcome> {
+    let (slot, kind) = (disk.files[index].slot, disk.files[index].kind);
+    let bytes = disk.slot_mut(slot);
+    bytes[fields::PAGES] = (length / 16_384) as u8;
+    bytes[fields::REMAINDER..fields::EXEC].copy_from_slice(&fields::remainder(length, random.byte()));
+    Some(if fields::is_carried(kind) {
+        Outcome::Refused(7, slot)
+    } else {
+        Outcome::Accepted
+    })
+}
+
+/// Bytes 210 to 238 and 242 to 255: information, start, execution bytes, and those without a name.
+fn unread(disk: &mut Disk, index: usize, random: &mut Random) -> Option<Outcome> {
+    let slot = disk.files[index].slot;
+    random.fill(&mut disk.slot_mut(slot)[fields::MAP + fields::MAP_BYTES..fields::PAGES]);
+    random.fill(&mut disk.slot_mut(slot)[fields::EXEC..]);
+    Some(Outcome::Accepted)
+}

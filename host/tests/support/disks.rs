@@ -1,0 +1,165 @@
+//! Drawn disks that the rules accept, written byte by byte from document 01, with what was written kept beside the image.
+
+use super::fields;
+use super::geometry::{BITS, PAYLOAD, SECTOR, SLOT, SLOTS, address, bit_place, fills, slot_place};
+use super::names::{self, Name};
+use super::random::Random;
+use super::shapes::{Ground, Shape};
+
+#[derive(Clone)]
+pub struct File {
+    pub slot: usize,
+    pub kind: u8,
+    pub name: Name,
+    /// The map bits in the order of the chain.
+    pub chain: Vec<usize>,
+    /// Empty for a kind that is not carried.
+    pub body: Vec<u8>,
+}
+
+#[derive(Clone)]
+pub struct Disk {
+    pub image: Vec<u8>,
+    /// By rising slot.
+    pub files: Vec<File>,
+}
+
+pub fn draw(random: &mut Random) -> Disk {
+    let shape = Shape::draw(random);
+    of_shape(&shape, random)
+}
+
+pub fn of_shape(shape: &Shape, random: &mut Random) -> Disk {
+    let mut disk = Disk {
+        image: shape.ground.image(random),
+        files: Vec::new(),
+    };
+    let mut free = shape.free(random);
+    for &(slot, count) in &shape.files {
+        let chain = free.drain(..count).collect();
+        let file = disk.write(slot, chain, shape.ground, random);
+        disk.files.push(file);
+    }
+    for slot in 1..=SLOTS {
+        if disk.files.iter().all(|file| file.slot != slot) {
+            disk.rubbish(slot, random);
+        }
+    }
+    disk
+}
+
+impl Disk {
+    pub fn slot(&self, slot: usize) -> &[u8] {
+        &self.image[slot_place(slot)..][..SLOT]
+    }
+
+    pub fn slot_mut(&mut self, slot: usize) -> &mut [u8] {
+        &mut self.image[slot_place(slot)..][..SLOT]
+    }
+
+    pub fn sector_mut(&mut self, bit: usize) -> &mut [u8] {
+        &mut self.image[bit_place(bit)..][..SECTOR]
+    }
+
+    pub fn link(&mut self, bit: usize, next: [u8; 2]) {
+        self.sector_mut(bit)[PAYLOAD..].copy_from_slice(&next);
+    }
+
+    pub fn names(&self) -> Vec<Name> {
+        self.files.iter().map(|file| file.name).collect()
+    }
+
+    /// Free sectors: all that no file has.
+    pub fn free(&self) -> usize {
+        BITS - self.files.iter().map(|file| file.chain.len()).sum::<usize>()
+    }
+
+    fn write(&mut self, slot: usize, chain: Vec<usize>, ground: Ground, random: &mut Random) -> File {
+        let kind = if random.one_in(3) {
+            random.pick(&fields::KNOWN)
+        } else {
+            random.between(16, 20) as u8
+        };
+        let name = names::draw(random, &self.names());
+        let mut bytes = ground.bytes(SLOT, random);
+        bytes[0] = kind | random.byte() & (fields::HIDDEN | fields::PROTECTED);
+        bytes[fields::NAME..fields::COUNT].copy_from_slice(&name);
+        fields::set_count(&mut bytes, chain.len());
+        bytes[fields::FIRST..fields::MAP].copy_from_slice(&address(chain[0]));
+        for bit in 0..BITS {
+            fields::set_bit(&mut bytes, bit, false);
+        }
+        for &bit in &chain {
+            fields::set_bit(&mut bytes, bit, true);
+        }
+        start(&mut bytes, random);
+        let body = if fields::is_carried(kind) {
+            let length = length(chain.len(), random);
+            bytes[fields::PAGES] = (length / 16_384) as u8;
+            bytes[fields::REMAINDER..fields::EXEC].copy_from_slice(&fields::remainder(length, random.byte()));
+            self.carry(kind, &chain, length, random)
+        } else {
+            self.fill(&chain, &random.bytes(chain.len() * PAYLOAD));
+            Vec::new()
+        };
+        self.slot_mut(slot).copy_from_slice(&bytes);
+        File {
+            slot,
+            kind,
+            name,
+            chain,
+            body,
+        }
+    }
+
+    /// The nine bytes and the body of a carried file; its other payload is rubbish. Gives the body.
+    fn carry(&mut self, kind: u8, chain: &[usize], length: usize, random: &mut Random) -> Vec<u8> {
+        let mut payload = random.bytes(chain.len() * PAYLOAD);
+        payload[0] = kind;
+        payload[fields::HEADER_REMAINDER..fields::HEADER_OFFSET].copy_from_slice(&fields::remainder(length, random.byte()));
+        payload[fields::HEADER_PAGES] = (length / 16_384) as u8;
+        self.fill(chain, &payload);
+        payload[fields::HEADER..fields::HEADER + length].to_vec()
+    }
+
+    /// Payload and links along a chain.
+    fn fill(&mut self, chain: &[usize], payload: &[u8]) {
+        for (i, &bit) in chain.iter().enumerate() {
+            self.sector_mut(bit)[..PAYLOAD].copy_from_slice(&payload[i * PAYLOAD..][..PAYLOAD]);
+            self.link(bit, chain.get(i + 1).map_or([0, 0], |&next| address(next)));
+        }
+    }
+
+    /// An erased slot: byte 0 is 0, and behind it stands anything, a live slot's bytes too.
+    fn rubbish(&mut self, slot: usize, random: &mut Random) {
+        if random.one_in(3) && !self.files.is_empty() {
+            let from = slot_place(self.files[random.below(self.files.len())].slot);
+            self.image.copy_within(from..from + SLOT, slot_place(slot));
+        }
+        self.slot_mut(slot)[0] = 0;
+    }
+}
+
+/// Start page and offset of a slot: mostly inside, else at the edges or anywhere. Bits 5 to 7 of the page are anything.
+fn start(slot: &mut [u8], random: &mut Random) {
+    slot[fields::PAGE] = random.byte();
+    let offset = match random.below(4) {
+        0 => random.pick(&[0, 16_384, 32_767, 32_768, 49_151, 49_152, 65_535]),
+        1 => random.below(65_536),
+        _ => random.between(32_768, 49_151),
+    };
+    slot[fields::OFFSET..fields::PAGES].copy_from_slice(&(offset as u16).to_le_bytes());
+}
+
+/// The length of a body in so many sectors: full, one less, least for them, none, whole pages, or anything between.
+fn length(sectors: usize, random: &mut Random) -> usize {
+    let full = fills(sectors);
+    match random.below(7) {
+        0 => full,
+        1 => full - 1,
+        2 if sectors > 1 => fills(sectors - 1) + 1,
+        3 => 0,
+        4 => full - full % 16_384,
+        _ => random.between(0, full),
+    }
+}

@@ -1,0 +1,32 @@
+//! What the tests of the C layer share. Everything here is written from document 01 alone: neither the library nor the crate
+//! `paper` is used to draw a disk, so that a drawn disk is a third opinion.
+//!
+//! - `random`, `settings`: numbers from a seed; which seeds and how many rounds.
+//! - `geometry`, `fields`: where sectors and slots stand in an image; where the fields of a slot stand.
+//! - `names`, `disks`, `shapes`: drawn disks that the rules accept.
+//! - `damage`: one fault put into a drawn disk, with the refusal that follows from it.
+//! - `calls`: one request, asked of the C layer and of `paper`.
+//! - `compare`: the same request to both, with every buffer compared at return.
+//! - `margins`, `guarded`: two ways to lend the buffers to the C layer.
+//! - `facts`, `asking`, `wishes`: drawn requests that fit a disk.
+//! - `tally`: how often each call gave each refusal.
+
+// Every test program takes this whole folder and uses a part of it.
+#![allow(dead_code)]
+
+pub mod asking;
+pub mod calls;
+pub mod compare;
+pub mod damage;
+pub mod disks;
+pub mod facts;
+pub mod fields;
+pub mod geometry;
+pub mod guarded;
+pub mod margins;
+pub mod names;
+pub mod random;
+pub mod settings;
+pub mod shapes;
+pub mod tally;
+pub mod wishes;

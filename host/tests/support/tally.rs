@@ -1,0 +1,67 @@
+//! How often each call gave each refusal: which it must give at some time, and which it never may.
+
+use super::calls::{CALLS, Call, refusal};
+use std::fmt::Write;
+
+#[derive(Default)]
+pub struct Tally([[usize; 22]; 12]);
+
+/// The numbers that a call can give, by document 01's table; 0 for an accepted request.
+pub fn possible(call: Call) -> Vec<u8> {
+    let own: &[u8] = match call {
+        Call::Check => &[],
+        Call::List => &[20],
+        Call::Read => &[12, 13, 15, 20],
+        Call::Start => &[12, 13, 14, 15],
+        Call::Sector => return vec![0, 1, 21],
+        Call::Save => &[12, 13, 14, 16, 18, 19, 20],
+        Call::Erase => &[12, 15, 17, 20],
+        Call::Rename => &[12, 15, 16, 17, 20],
+        Call::Hide | Call::Show | Call::Protect | Call::Release => &[12, 15, 20],
+    };
+    (0..=11).chain(own.iter().copied()).collect()
+}
+
+impl Tally {
+    /// Counts an answer; fails where the call cannot give that number.
+    pub fn count(&mut self, call: Call, answer: u64) {
+        let number = refusal(answer);
+        assert!(possible(call).contains(&number), "{call:?} gave {number}, which it never may");
+        self.0[call as usize][usize::from(number)] += 1;
+    }
+
+    pub fn requests(&self) -> usize {
+        self.0.iter().flatten().sum()
+    }
+
+    /// The pairs that did not occur.
+    pub fn missing(&self) -> Vec<(Call, u8)> {
+        let pairs = CALLS
+            .into_iter()
+            .flat_map(|call| possible(call).into_iter().map(move |number| (call, number)));
+        pairs
+            .filter(|&(call, number)| self.0[call as usize][usize::from(number)] == 0)
+            .collect()
+    }
+
+    /// A row for each number, a column for each call; a dash where the call cannot give the number.
+    pub fn table(&self) -> String {
+        let mut text = String::from("No.");
+        for call in CALLS {
+            write!(text, "{:>8}", format!("{call:?}").to_lowercase()).expect("a string takes all");
+        }
+        for number in 0..=21 {
+            write!(text, "\n{number:>3}").expect("a string takes all");
+            for call in CALLS {
+                let count = self.0[call as usize][usize::from(number)];
+                let shown = if possible(call).contains(&number) {
+                    count.to_string()
+                } else {
+                    "-".into()
+                };
+                write!(text, "{shown:>8}").expect("a string takes all");
+            }
+        }
+        text
+    }
+}
