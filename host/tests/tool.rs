@@ -1,6 +1,8 @@
 //! The tool, run as a process, by subject. `tool/support.rs` is what the subjects share.
 #[path = "tool/commands.rs"]
 mod commands;
+#[path = "tool/flushes.rs"]
+mod flushes;
 #[path = "tool/input.rs"]
 mod input;
 #[path = "tool/lock.rs"]

@@ -82,13 +82,19 @@ fn the_readme_shows_a_program_that_runs() {
     let source = root().join("examples/files.c");
     let text = fs::read_to_string(&source).expect("the program");
     let readme = fs::read_to_string(root().join("README.md")).expect("the README");
-    assert!(readme.contains(&format!("```c\n{text}```\n")), "the README shows examples/files.c");
+    assert!(
+        readme.contains(&format!("```c\n{text}```\n")),
+        "the README shows examples/files.c"
+    );
     for language in BOTH {
         let folder = Folder::new(&format!("files-{language:?}"));
         let files = build(language, &["-O2"], std::slice::from_ref(&source), &folder, "files");
         let lines = String::from_utf8(done(run(&files, &[&root().join("samples/sample.mgt")]))).expect("text");
         assert_eq!(lines.lines().count(), 14, "{lines}");
-        assert!(lines.contains(" 2 TUNES        20 sectors\n") && lines.ends_with("\n1503 sectors free\n"), "{lines}");
+        assert!(
+            lines.contains(" 2 TUNES        20 sectors\n") && lines.ends_with("\n1503 sectors free\n"),
+            "{lines}"
+        );
         let blank = folder.write("blank", vec![0; IMAGE]);
         assert_eq!(done(run(&files, &[&blank])), b"1560 sectors free\n");
         let long = folder.write("long", vec![0; IMAGE + 1]);
