@@ -5,7 +5,7 @@ use crate::sides::{Side, ours, refusal, theirs, value};
 use std::hint::black_box;
 use std::time::{Duration, Instant};
 
-/// A round lasts about this long, so that the clock's own steps do not count.
+/// A round lasts at least this long, so that the clock's own steps do not count.
 const ROUND: Duration = Duration::from_micros(100);
 
 /// The time for a row, both sides together.

@@ -6,7 +6,7 @@ use std::time::Duration;
 
 pub fn print_head(timer: Duration) {
     println!("The proved library (ours) beside document 01 in plain Rust (paper), both built for release, in one process.");
-    println!("Microseconds for one call; ratio: ours / paper. The sides take turns; a round is about 100 us of calls.");
+    println!("Microseconds for one call; ratio: ours / paper. The sides take turns; a round is at least 100 us of calls.");
     println!("check, list, read and refused calls: many calls between two looks at the clock.");
     println!(
         "save and erase that are accepted: every call timed alone, less {} ns, the cost of an empty timed",
@@ -15,7 +15,10 @@ pub fn print_head(timer: Duration) {
     println!("region; the changed sectors are put back after each call, untimed.");
     println!("No buffer is cleared between calls, and both sides use the same image and buffer: the caches are warm.");
     println!("read and erase take the last file. Files have kind 19 and names of ten bytes that differ in the first byte;");
-    println!("with names alike they differ in the tenth byte alone. 'less one': the last file was erased before.");
+    println!(
+        "with 'names alike' they differ in the tenth byte alone. 'less one', 'erased': the last file was erased before,"
+    );
+    println!("so the save takes its slot and sectors.");
     println!();
     println!(
         "{:<12} {:<22} {:<10} {:>10} {:>10} {:>10} {:>10} {:>7} {:>7} {:>6}",

@@ -17,12 +17,14 @@ impl Map {
     pub const CLEAR: Map = Map { words: [0; WORDS] };
 
     pub fn from_bytes(bytes: &[u8; MAP_BYTES]) -> Map {
-        let mut padded = [0; WORDS * 8];
-        padded[..MAP_BYTES].copy_from_slice(bytes);
+        let (whole, rest) = bytes.as_chunks();
         let mut map = Map::CLEAR;
-        for (word, bytes) in map.words.iter_mut().zip(padded.as_chunks().0) {
+        for (word, bytes) in map.words.iter_mut().zip(whole) {
             *word = u64::from_le_bytes(*bytes);
         }
+        let mut last = [0; 8];
+        last[..rest.len()].copy_from_slice(rest);
+        map.words[whole.len()] = u64::from_le_bytes(last);
         map
     }
 

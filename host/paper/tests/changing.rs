@@ -47,6 +47,34 @@ fn a_saved_file_byte_by_byte() {
 }
 
 #[test]
+fn information_and_execution_bytes_are_cut_or_filled() {
+    let long: Vec<u8> = (1..=20).collect();
+    for (given, info, exec) in [
+        (0, 0, 0),
+        (2, 2, 2),
+        (3, 3, 3),
+        (4, 4, 3),
+        (11, 11, 3),
+        (12, 11, 3),
+        (20, 11, 3),
+    ] {
+        let mut image = blank();
+        let wish = Wish {
+            info: &long[..given],
+            exec: &long[..given],
+            ..wish(b"NEW", &[])
+        };
+        assert_eq!(paper::save(&mut image, &wish, &mut [0; 4]), Ok(2));
+        let mut expected = [0; 15];
+        expected[..info].copy_from_slice(&long[..info]);
+        assert_eq!(image[221..236], expected, "{given} bytes given");
+        let mut expected = [0, 0, 0, 255];
+        expected[..exec].copy_from_slice(&long[..exec]);
+        assert_eq!(image[242..246], expected, "{given} bytes given");
+    }
+}
+
+#[test]
 fn freed_slots_and_sectors_are_used_again() {
     let mut image = blank();
     for name in [&b"A"[..], b"B", b"C"] {

@@ -135,6 +135,16 @@ fn headers_are_compared() {
 }
 
 #[test]
+fn only_carried_kinds_have_a_length_and_a_header() {
+    let (mut image, places) = two_files();
+    image[239] = 255;
+    assert_eq!(paper::check(&image), refused(7, 1));
+    image[0] = 5;
+    image[places[0]] = 77;
+    assert_eq!(paper::check(&image), Ok(()));
+}
+
+#[test]
 fn the_directory_comes_before_the_chains() {
     let (mut image, places) = two_files();
     image[places[0] + 7] = 1;
