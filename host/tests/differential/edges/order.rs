@@ -2,19 +2,18 @@
 
 use super::expect;
 use crate::support::asking::Asked;
-use crate::support::calls::{self, Call};
-use crate::support::disks::Disk;
+use crate::support::calls::{self, Call, NAME, NEW, OUT};
+use crate::support::disks::{Disk, File};
 use crate::support::fields;
 use crate::support::geometry::{address, fills};
 
-/// A disk with three files of five sectors each, all carried.
+/// A disk with three files of five sectors each, all carried and none empty.
 fn disk() -> Disk {
-    let fits = |disk: &Disk| {
-        disk.files
-            .iter()
-            .all(|file| fields::is_carried(file.kind) && file.chain.len() == 5)
-    };
-    (40..).map(|seed| super::disk(seed, 3, 15)).find(fits).expect("one is found")
+    let fits = |file: &File| fields::is_carried(file.kind) && file.chain.len() == 5 && !file.body.is_empty();
+    (40..)
+        .map(|seed| super::disk(seed, 3, 15))
+        .find(|disk| disk.files.iter().all(fits))
+        .expect("one is found")
 }
 
 fn given(disk: &Disk, number: u8, index: usize) {
@@ -97,7 +96,7 @@ fn the_disk_before_the_request() {
     let mut disk = disk();
     let last = disk.files[2].clone();
     disk.sector_mut(last.chain[0])[0] ^= 1;
-    let takes_name = |call: &Call| call.takes().contains(&calls::NAME);
+    let takes_name = |call: &Call| call.takes().contains(&NAME);
     for call in calls::CALLS.into_iter().filter(takes_name).chain([Call::List]) {
         let left = expect(&Asked::new(call), &disk.image, 11);
         assert_eq!(calls::slot(left.answer), last.slot);
@@ -107,4 +106,44 @@ fn the_disk_before_the_request() {
         expect(&Asked::new(call), &disk.image, 12);
     }
     expect(&Asked::new(Call::List), &disk.image, 20);
+}
+
+/// Rename: all of 12, 15, 16, 17 and 20 that apply, mended one after the other.
+#[test]
+fn rows_of_a_rename() {
+    let mut disk = disk();
+    let file = disk.files[1].clone();
+    disk.slot_mut(file.slot)[0] |= fields::PROTECTED;
+    disk.slot_mut(file.slot)[fields::NAME..fields::COUNT].copy_from_slice(b"old name  ");
+    let mut asked = Asked::new(Call::Rename).with(NAME, *b"not there").with(NEW, *b"old name\n");
+    expect(&asked, &disk.image, 12);
+    asked = asked.with(NEW, *b"old name");
+    expect(&asked, &disk.image, 15);
+    asked = asked.with(NAME, *b"old name");
+    expect(&asked, &disk.image, 16);
+    asked = asked.with(NEW, *b"new name");
+    expect(&asked, &disk.image, 17);
+    disk.slot_mut(file.slot)[0] &= !fields::PROTECTED;
+    expect(&asked, &disk.image, 20);
+    expect(&asked.with(OUT, [0, 0]), &disk.image, 0);
+}
+
+/// Reading and start address: a kind that is not carried comes before the buffer and the offset; the buffer is the last.
+#[test]
+fn rows_of_read_and_start() {
+    let mut disk = disk();
+    let file = disk.files[1].clone();
+    let (read, start) = (
+        Asked::new(Call::Read).with(NAME, file.name),
+        Asked::new(Call::Start).with(NAME, file.name),
+    );
+    disk.slot_mut(file.slot)[fields::OFFSET + 1] = 0;
+    let marks = disk.slot(file.slot)[0] & 192;
+    disk.slot_mut(file.slot)[0] = marks | 21;
+    for asked in [&read, &start] {
+        assert_eq!(calls::slot(expect(asked, &disk.image, 13).answer), file.slot);
+    }
+    disk.slot_mut(file.slot)[0] = marks | file.kind;
+    expect(&read, &disk.image, 20);
+    assert_eq!(calls::slot(expect(&start, &disk.image, 14).answer), file.slot);
 }
