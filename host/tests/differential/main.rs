@@ -3,10 +3,11 @@
 //!
 //! - `draws`: drawn disks, whole and damaged, with drawn requests; counts which call gave which refusal.
 //! - `drawn`: the answers on a drawn disk are what was drawn, whatever `paper` says.
-//! - `edges`: each argument of each call at, below and above its boundaries, one after the other.
+//! - `edges`: each argument of each call and each field of a slot at, below and above its boundaries, one after the other.
 //! - `sectors`: every drive, track and sector of the raw sector call.
 //!
-//! `VARNUCHT_SEED` and `VARNUCHT_ROUNDS` draw other tests, or a single one again.
+//! `VARNUCHT_SEED` and `VARNUCHT_ROUNDS` draw other tests, or a single one again. `VARNUCHT_TABLE` names a file for the table
+//! of counts, which `--nocapture` shows too.
 
 #[path = "../support/mod.rs"]
 mod support;

@@ -5,6 +5,7 @@ mod arguments;
 mod bodies;
 mod buffers;
 mod names;
+mod order;
 mod slots;
 
 use crate::support::asking::Asked;
