@@ -6,7 +6,7 @@ ghost use Prim.Native.Nat.{_+_, _≤_, _<_};
 ghost use lib.ListN.{length};
 ghost use Rattle.buffers.specs.Bytes.{put};
 ghost use Rattle.refusals.specs.Order.{refuse};
-ghost use Rattle.refusals.specs.Answers.{numberOf, outcomeOf, refused};
+ghost use Rattle.refusals.specs.Answers.{outcomeOf};
 ghost use Rattle.directory.specs.Places.{slotAt, dirSector};
 ghost use Rattle.plans.specs.Change.{erase, rename, mark, hide, show, protect, release, marked, allBetween, usable};
 ghost use Rattle.plans.specs.Plan.{changed, change};
@@ -16,7 +16,6 @@ use directory::Found;
 use files::Lookup;
 use refusals::Answer;
 use refusals::Reason;
-use refusals::Refused;
 use refusals::Verdict;
 
 // The number of the sector that slot `i`, counted from 0, lies in.
@@ -56,12 +55,6 @@ pub fn is_usable(name: &[u8]) -> bool
     buffers::byte_at(name, 0) != 32
 }
 
-fn no(reason: Reason, slot: usize) -> Answer
-    ensures { λ r. ⌜ outcomeOf r ≡ refused (refuse (numberOf reason) slot) ⌝ }
-{
-    Answer::No(Refused { reason, slot })
-}
-
 // Puts bytes at place `o` of slot `i`.
 fn put_in_slot(image: &mut [u8], i: usize, o: usize, y: &[u8])
     requires { ⌜ Place (now image) i o ⌝ }
@@ -84,7 +77,7 @@ fn touch(image: &mut [u8], i: usize, o: usize, y: &[u8], list: &mut [u16]) -> An
     ensures { λ r. ⌜ changed (outcomeOf r) (now (image .exit)) (now (list .exit)) ≡ settled (touching (now (image .entry)) i o (now (y .entry))) (now (image .entry)) (now (list .entry)) ⌝ }
 {
     if list.len() < 1 {
-        return no(Reason::BufferTooShort, 0);
+        return refusals::no(Reason::BufferTooShort, 0);
     }
     put_in_slot(image, i, o, y);
     put_number(list, dir_sector(i));
@@ -97,7 +90,7 @@ fn touch_unprotected(image: &mut [u8], i: usize, o: usize, y: &[u8], list: &mut 
     ensures { λ r. ⌜ changed (outcomeOf r) (now (image .exit)) (now (list .exit)) ≡ settled (unprotected (now (image .entry)) i o (now (y .entry))) (now (image .entry)) (now (list .entry)) ⌝ }
 {
     if slots::is_protected(directory::slot_at(image, i)) {
-        return no(Reason::FileProtected, i + 1);
+        return refusals::no(Reason::FileProtected, i + 1);
     }
     touch(image, i, o, y, list)
 }
@@ -118,7 +111,7 @@ fn rename_at(image: &mut [u8], i: usize, new: &[u8], list: &mut [u16]) -> Answer
     ensures { λ r. ⌜ changed (outcomeOf r) (now (image .exit)) (now (list .exit)) ≡ settled (renaming (now (image .entry)) i (now (new .entry))) (now (image .entry)) (now (list .entry)) ⌝ }
 {
     match directory::find(image, new) {
-        Found::At(j) => no(Reason::NameTaken, j + 1),
+        Found::At(j) => refusals::no(Reason::NameTaken, j + 1),
         Found::Nothing => touch_unprotected(image, i, 1, &slots::padded_name(new), list),
     }
 }
@@ -131,14 +124,14 @@ pub fn rename(image: &mut [u8], name: &[u8], new: &[u8], list: &mut [u16]) -> An
         Verdict::Unsound(r) => Answer::No(r),
         Verdict::Sound => {
             if !slots::is_askable(name) {
-                return no(Reason::NameNotUsable, 0);
+                return refusals::no(Reason::NameNotUsable, 0);
             }
             if !is_usable(new) {
-                return no(Reason::NameNotUsable, 0);
+                return refusals::no(Reason::NameNotUsable, 0);
             }
             match directory::find(image, name) {
                 Found::At(i) => rename_at(image, i, new, list),
-                Found::Nothing => no(Reason::NameNotFound, 0),
+                Found::Nothing => refusals::no(Reason::NameNotFound, 0),
             }
         }
     }

@@ -1,7 +1,7 @@
 // The calls that read an accepted disk: its listing, a file's body, a file's start address.
 ghost use mathlib.Core.Path.{_≡_};
 ghost use mathlib.Core.Bool.{true};
-ghost use Prim.Native.Nat.{ℕ, _*_, _≤_, _<_};
+ghost use Prim.Native.Nat.{_*_, _≤_, _<_};
 ghost use lib.ListN.{length};
 ghost use Rattle.buffers.specs.Bytes.{put};
 ghost use Rattle.refusals.specs.Order.{refuse};
@@ -51,12 +51,6 @@ fn list_into(dir: &[u8], end: usize, buf: &mut [u8])
     }
 }
 
-fn no(reason: Reason, slot: usize) -> Answer
-    ensures { λ r. ⌜ outcomeOf r ≡ refused (refuse (numberOf reason) slot) ⌝ }
-{
-    Answer::No(Refused { reason, slot })
-}
-
 // Lists the files of an accepted disk, as many as `files`, whose used map is `used`.
 fn list_accepted(image: &[u8], used: UsedMap, files: usize, buf: &mut [u8]) -> Answer
     requires { ⌜ Accepted (now image) used × (files ≡ liveAmong (directory (now image)) slots) ⌝ }
@@ -64,7 +58,7 @@ fn list_accepted(image: &[u8], used: UsedMap, files: usize, buf: &mut [u8]) -> A
 {
     let end = 258 * files;
     if buf.len() < end {
-        return no(Reason::BufferTooShort, 0);
+        return refusals::no(Reason::BufferTooShort, 0);
     }
     list_into(image, end, buf);
     Answer::Done(files, directory::free_of(used))
@@ -119,14 +113,14 @@ fn start_at(s: &[u8], slot: usize) -> Answer
     ensures { λ r. ⌜ outcomeOf r ≡ startAt slot (now (s .entry)) ⌝ }
 {
     if !slots::is_carried(slots::kind_of(s)) {
-        return no(Reason::KindNotCarried, slot);
+        return refusals::no(Reason::KindNotCarried, slot);
     }
     let offset = slots::offset_of(s);
     if offset < 32768 {
-        return no(Reason::StartOutOfRange, slot);
+        return refusals::no(Reason::StartOutOfRange, slot);
     }
     if 49151 < offset {
-        return no(Reason::StartOutOfRange, slot);
+        return refusals::no(Reason::StartOutOfRange, slot);
     }
     Answer::Done(slots::page_of(s) * 16384 + offset - 16384, 0)
 }
@@ -167,11 +161,11 @@ fn read_at(image: &[u8], s: &[u8], slot: usize, buf: &mut [u8]) -> Answer
     ensures { λ r. ⌜ out (outcomeOf r) (now (buf .exit)) ≡ readAt slot (fileOf (now (image .entry)) (now (s .entry))) (now (buf .entry)) ⌝ }
 {
     if !slots::is_carried(slots::kind_of(s)) {
-        return no(Reason::KindNotCarried, slot);
+        return refusals::no(Reason::KindNotCarried, slot);
     }
     let len = slots::length_of(s);
     if buf.len() < len {
-        return no(Reason::BufferTooShort, 0);
+        return refusals::no(Reason::BufferTooShort, 0);
     }
     copy_body(image, s, buf);
     Answer::Done(len, 0)

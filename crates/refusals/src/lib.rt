@@ -1,7 +1,9 @@
 // The table of refusals: why a call refuses, and the slot it was found at.
 ghost use mathlib.Core.Path.{_≡_};
 ghost use Prim.Native.Nat.{_≤_};
-ghost use Rattle.refusals.specs.Answers.{numberOf};
+ghost use mathlib.Core.Option.{some};
+ghost use Rattle.refusals.specs.Order.{refuse};
+ghost use Rattle.refusals.specs.Answers.{numberOf, replyOf, outcomeOf, refused};
 
 // The rows of the table, in its order: the first is number 1.
 pub enum Reason {
@@ -73,4 +75,18 @@ pub fn number_of(reason: Reason) -> usize
         Reason::BufferTooShort => 20,
         Reason::NoSuchSector => 21,
     }
+}
+
+// An answer that refuses.
+pub fn no(reason: Reason, slot: usize) -> Answer
+    ensures { λ r. ⌜ outcomeOf r ≡ refused (refuse (numberOf reason) slot) ⌝ }
+{
+    Answer::No(Refused { reason, slot })
+}
+
+// A verdict that refuses.
+pub fn unsound(reason: Reason, slot: usize) -> Verdict
+    ensures { λ r. ⌜ replyOf r ≡ some (refuse (numberOf reason) slot) ⌝ }
+{
+    Verdict::Unsound(Refused { reason, slot })
 }

@@ -1,7 +1,6 @@
 // Saving a file: its data sectors along a chain of free bits, then its slot, and the list of the sectors written.
 ghost use mathlib.Core.Path.{_≡_};
 ghost use mathlib.Core.List.{_++_, map};
-ghost use mathlib.Core.Option.{some};
 ghost use Prim.Native.Nat.{_*_, _≤_, _<_};
 ghost use lib.ListN.{length, drop, take};
 ghost use Rattle.buffers.specs.Bytes.{put, tab};
@@ -266,36 +265,24 @@ fn write_file(
     buffers::copy_into(image, i / 20 * 10240 + i % 20 * 256, &slot);
 }
 
-fn no(reason: Reason) -> Answer
-    ensures { λ r. ⌜ outcomeOf r ≡ refused (refuse (numberOf reason) 0) ⌝ }
-{
-    Answer::No(Refused { reason, slot: 0 })
-}
-
-fn unsound(reason: Reason) -> Verdict
-    ensures { λ r. ⌜ replyOf r ≡ some (refuse (numberOf reason) 0) ⌝ }
-{
-    Verdict::Unsound(Refused { reason, slot: 0 })
-}
-
 // Rows 12, 13 and 14, which go by the arguments alone.
 fn asked_rows(start: Start, name: &[u8]) -> Verdict
     ensures { λ r. ⌜ replyOf r ≡ askedReply start (now (name .entry)) ⌝ }
 {
     if !changes::is_usable(name) {
-        return unsound(Reason::NameNotUsable);
+        return refusals::unsound(Reason::NameNotUsable, 0);
     }
     if !slots::is_carried(start.kind) {
-        return unsound(Reason::KindNotCarried);
+        return refusals::unsound(Reason::KindNotCarried, 0);
     }
     if 31 < start.page {
-        return unsound(Reason::StartOutOfRange);
+        return refusals::unsound(Reason::StartOutOfRange, 0);
     }
     if start.offset < 32768 {
-        return unsound(Reason::StartOutOfRange);
+        return refusals::unsound(Reason::StartOutOfRange, 0);
     }
     if 49151 < start.offset {
-        return unsound(Reason::StartOutOfRange);
+        return refusals::unsound(Reason::StartOutOfRange, 0);
     }
     Verdict::Sound
 }
@@ -355,10 +342,10 @@ fn save_at(
 {
     let n = (body.len() + 518) / 510;
     if directory::free_of(used) < n {
-        return no(Reason::TooFewSectors);
+        return refusals::no(Reason::TooFewSectors, 0);
     }
     if list.len() <= n {
-        return no(Reason::BufferTooShort);
+        return refusals::no(Reason::BufferTooShort, 0);
     }
     let map = used.bytes;
     pick_bits(&map, n, list);

@@ -1,16 +1,13 @@
 // One slot of the directory: its fields, its name, and rows 2 to 7 of the table. A slot is 256 bytes; of a shorter
 // slice the missing bytes count as 0.
 ghost use mathlib.Core.Path.{_≡_};
-ghost use Prim.Native.Nat.{ℕ, _+_, _*_, _≤_, _<_};
+ghost use Prim.Native.Nat.{_+_, _*_, _≤_, _<_};
 ghost use Rattle.buffers.specs.Bytes.{part};
-ghost use mathlib.Core.Option.{some};
-ghost use Rattle.refusals.specs.Order.{refuse};
-ghost use Rattle.refusals.specs.Answers.{replyOf, numberOf};
+ghost use Rattle.refusals.specs.Answers.{replyOf};
 ghost use Rattle.slots.specs.Slot.{isLive, hidden, protected, kindOf, known, carried, nameOf, countOf, firstOf, mapOf, pageOf, offsetOf, pagesOf, remainderOf, facts, lengthOf};
 ghost use Rattle.slots.specs.Name.{sameName, askable, padded, keyOf};
 ghost use Rattle.slots.specs.Rows.{ownReply};
 use refusals::Reason;
-use refusals::Refused;
 use refusals::Verdict;
 
 pub fn is_live(s: &[u8]) -> bool
@@ -163,40 +160,34 @@ pub fn padded_name(name: &[u8]) -> [u8; 10]
     filled
 }
 
-fn unsound(reason: Reason, slot: usize) -> Verdict
-    ensures { λ r. ⌜ replyOf r ≡ some (refuse (numberOf reason) slot) ⌝ }
-{
-    Verdict::Unsound(Refused { reason, slot })
-}
-
 // Rows 2 to 7 at a live slot, with no directory track beyond the four.
 pub fn own_rows(s: &[u8], slot: usize) -> Verdict
     ensures { λ r. ⌜ replyOf r ≡ ownReply 0 slot (now (s .entry)) ⌝ }
 {
     let kind = kind_of(s);
     if !is_known(kind) {
-        return unsound(Reason::KindUnknown, slot);
+        return refusals::unsound(Reason::KindUnknown, slot);
     }
     if buffers::byte_at(s, 1) == 0 {
-        return unsound(Reason::NameMissing, slot);
+        return refusals::unsound(Reason::NameMissing, slot);
     }
     let count = count_of(s);
     if count < 1 {
-        return unsound(Reason::CountOutOfRange, slot);
+        return refusals::unsound(Reason::CountOutOfRange, slot);
     }
     if 1560 < count {
-        return unsound(Reason::CountOutOfRange, slot);
+        return refusals::unsound(Reason::CountOutOfRange, slot);
     }
     let map = map_of(s);
     if maps::bits_of(map) != count {
-        return unsound(Reason::BitsDiffer, slot);
+        return refusals::unsound(Reason::BitsDiffer, slot);
     }
     if !maps::has_bit(map, first_of(s)) {
-        return unsound(Reason::FirstNotOwn, slot);
+        return refusals::unsound(Reason::FirstNotOwn, slot);
     }
     if is_carried(kind) {
         if 510 * count < 9 + length_of(s) {
-            return unsound(Reason::LengthTooGreat, slot);
+            return refusals::unsound(Reason::LengthTooGreat, slot);
         }
     }
     Verdict::Sound
