@@ -3,6 +3,8 @@
 mod changing;
 #[path = "api/reading.rs"]
 mod reading;
+#[path = "support/table.rs"]
+mod table;
 #[path = "api/texts.rs"]
 mod texts;
 #[path = "api/types.rs"]

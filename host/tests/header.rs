@@ -8,36 +8,13 @@ mod compilers;
 mod declarations;
 #[path = "header/example.rs"]
 mod example;
+#[path = "support/table.rs"]
+mod table;
 
 use compilers::{BOTH, Folder, Language, build, compile, link, part, root, try_compile};
 use std::fs;
 use std::process::Command;
-
-/// The words of document 01's table, from number 1 on.
-const WORDS: [&str; 21] = [
-    "the image is not 819,200 bytes",
-    "the kind is not known",
-    "the first name byte is 0",
-    "the count is not 1 to 1,560",
-    "the map's set bits are not as many as the count",
-    "the first address is not a data sector, or its bit is clear",
-    "carried kind, and 510 × count is below 9 + length",
-    "the map shares a bit with an earlier live slot",
-    "the ten name bytes equal an earlier live slot's",
-    "the chain is broken",
-    "carried kind, and the header's first byte (whole), remainder (mod 16,384) or pages differ from the slot's kind, \
-     remainder, pages",
-    "the name is not usable",
-    "the kind asked for (save) or found (read, start address) is not carried",
-    "start page above 31, or offset outside 32,768 to 49,151 (save, start address)",
-    "no live slot has the name",
-    "a live slot has the new name",
-    "protected (erase, rename)",
-    "no slot has byte 0 zero (save)",
-    "fewer free sectors than the save takes",
-    "a lent output buffer is too short",
-    "no such drive, track or sector",
-];
+use table::TABLE;
 
 /// The parts of the program that checks the header from inside.
 const CHECKS: [&str; 7] = [
@@ -158,7 +135,7 @@ fn the_words_are_the_papers() {
         let lines: Vec<&str> = text.lines().collect();
         assert_eq!(lines.len(), 256);
         assert_eq!(lines[0], "0 accepted");
-        for (number, words) in (1..).zip(WORDS) {
+        for (number, words) in (1..).zip(TABLE) {
             assert_eq!(lines[number], format!("{number} {words}"));
         }
         for (number, line) in lines.iter().enumerate().skip(22) {

@@ -2,7 +2,7 @@
 
 use paper::{Refused, Wish};
 use std::hint::black_box;
-use varnucht::raw;
+use varnucht::calls;
 
 /// The calls that are measured.
 #[derive(Clone, Copy)]
@@ -17,11 +17,11 @@ pub struct Side {
 /// The proved library. The compiler does not see which functions these are.
 pub fn ours() -> Side {
     black_box(Side {
-        check: our_check,
-        list: our_list,
-        read: our_read,
+        check: |image| calls::check(image).number(),
+        list: |image, out| calls::list(image, out).number(),
+        read: |image, name, out| calls::read(image, name, out).number(),
         save: our_save,
-        erase: our_erase,
+        erase: |image, name, list| calls::erase(image, name, list).number(),
     })
 }
 
@@ -57,60 +57,16 @@ pub fn value(word: u64) -> usize {
     (word >> 24 & 0xff_ffff) as usize
 }
 
-// Each of these hands over whole slices. Those that may change are borrowed alone, so they overlap no other.
-
-fn our_check(image: &[u8]) -> u64 {
-    unsafe { raw::varnucht_check(image.as_ptr(), image.len()) }
-}
-
-fn our_list(image: &[u8], out: &mut [u8]) -> u64 {
-    unsafe { raw::varnucht_list(image.as_ptr(), image.len(), out.as_mut_ptr(), out.len()) }
-}
-
-fn our_read(image: &[u8], name: &[u8], out: &mut [u8]) -> u64 {
-    unsafe {
-        raw::varnucht_read(
-            image.as_ptr(),
-            image.len(),
-            name.as_ptr(),
-            name.len(),
-            out.as_mut_ptr(),
-            out.len(),
-        )
-    }
-}
-
+/// A save of the library with the same wish.
 fn our_save(image: &mut [u8], wish: &Wish, list: &mut [u8]) -> u64 {
-    unsafe {
-        raw::varnucht_save(
-            image.as_mut_ptr(),
-            image.len(),
-            wish.kind,
-            wish.name.as_ptr(),
-            wish.name.len(),
-            wish.page,
-            wish.offset,
-            wish.exec.as_ptr(),
-            wish.exec.len(),
-            wish.info.as_ptr(),
-            wish.info.len(),
-            wish.body.as_ptr(),
-            wish.body.len(),
-            list.as_mut_ptr(),
-            list.len(),
-        )
-    }
-}
-
-fn our_erase(image: &mut [u8], name: &[u8], list: &mut [u8]) -> u64 {
-    unsafe {
-        raw::varnucht_erase(
-            image.as_mut_ptr(),
-            image.len(),
-            name.as_ptr(),
-            name.len(),
-            list.as_mut_ptr(),
-            list.len(),
-        )
-    }
+    let wish = calls::Wish {
+        kind: wish.kind,
+        name: wish.name,
+        page: wish.page,
+        offset: wish.offset,
+        execution: wish.exec,
+        information: wish.info,
+        body: wish.body,
+    };
+    calls::save(image, &wish, list).number()
 }

@@ -1,39 +1,15 @@
 //! Every refusal prints document 01's words, and every one of them is met.
+use super::table::TABLE;
 use super::*;
 use std::collections::HashSet;
 use varnucht::{Answer, LONGEST_BODY, Refusal, Track, calls};
-
-/// Document 01's table, copied from it once more.
-const PAPER: [&str; 21] = [
-    "the image is not 819,200 bytes",
-    "the kind is not known",
-    "the first name byte is 0",
-    "the count is not 1 to 1,560",
-    "the map's set bits are not as many as the count",
-    "the first address is not a data sector, or its bit is clear",
-    "carried kind, and 510 × count is below 9 + length",
-    "the map shares a bit with an earlier live slot",
-    "the ten name bytes equal an earlier live slot's",
-    "the chain is broken",
-    "carried kind, and the header's first byte (whole), remainder (mod 16,384) or pages differ from the slot's kind, remainder, pages",
-    "the name is not usable",
-    "the kind asked for (save) or found (read, start address) is not carried",
-    "start page above 31, or offset outside 32,768 to 49,151 (save, start address)",
-    "no live slot has the name",
-    "a live slot has the new name",
-    "protected (erase, rename)",
-    "no slot has byte 0 zero (save)",
-    "fewer free sectors than the save takes",
-    "a lent output buffer is too short",
-    "no such drive, track or sector",
-];
 
 #[test]
 fn every_number_prints_with_and_without_a_slot() {
     for number in 1..=255u8 {
         let refusal = Refusal::from_number(number).expect("0 alone is no refusal");
         assert_eq!(refusal.number(), number);
-        let words = PAPER
+        let words = TABLE
             .get(usize::from(number) - 1)
             .copied()
             .unwrap_or("a refusal that is not in the table");
@@ -52,7 +28,7 @@ fn every_number_prints_with_and_without_a_slot() {
 fn every_refusal_is_met() {
     let mut met = Vec::new();
     for (number, slot, refused) in provoked() {
-        let words = PAPER[usize::from(number) - 1];
+        let words = TABLE[usize::from(number) - 1];
         let at = if slot == 0 {
             String::new()
         } else {
