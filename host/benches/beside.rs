@@ -7,6 +7,9 @@
 mod clock;
 #[path = "beside/disks.rs"]
 mod disks;
+#[allow(dead_code)]
+#[path = "../tests/support/geometry.rs"]
+mod geometry;
 #[path = "beside/rows.rs"]
 mod rows;
 #[path = "beside/sides.rs"]

@@ -39,7 +39,7 @@ pub fn part_at(s: &[u8], at: usize, n: usize) -> &[u8]
     &s[at..end]
 }
 
-// All of `from`, put at a place of `out` where it fits: one loop of plain stores, which the compiler makes a block copy.
+// All of `from`, put at a place of `out` where it fits: one loop of plain stores, which the compiler makes a loop of wide ones.
 fn copy(out: &mut [u8], at: usize, from: &[u8])
     requires { ⌜ at + length (now from) ≤ length (now out) ⌝ }
     ensures { λ _. ⌜ now (out .exit) ≡ put (now (out .entry)) at (now (from .entry)) ⌝ }

@@ -1,14 +1,16 @@
 -- Laws of a file's sectors, and of the sectors that its links lead to.
-use Prim.Native.Nat.{ℕ, zero, suc, _-_, _≤_, _<_}
-use mathlib.Core.Path.{_≡_, refl, sym, ap, _∙_, fun-ext}
+use Prim.Native.Nat.{ℕ, zero, suc, _+_, _-_, _≤_, _<_}
+use mathlib.Core.Path.{_≡_, refl, sym, ap, ap₂, _∙_, fun-ext}
 use mathlib.Core.Bool.{Bool, true, false, not, cond, _&&_, _||_, true≢false, false≢true}
 use mathlib.Core.List.{List, []}
 use mathlib.Core.Logic.{⊎-elim}
 use native.Mathlib.Omega.{arith}
 use borrow.Author.Tests.{ne-eqb, eqb-false, not-false}
 use lib.Dec.{eqb}
-use lib.ListN.{length}
-use Rattle.buffers.proofs.Lists.{below-or-not, length-part}
+use lib.ListN.{length, getD}
+use Rattle.buffers.specs.Bytes.{part}
+use Rattle.buffers.proofs.Lists.{below-or-not, length-part, part-at}
+use Rattle.geometry.specs.Disk.{bitOf}
 use Rattle.maps.specs.Bits.{has}
 use Rattle.maps.proofs.Laws.{has-past}
 use Rattle.slots.specs.Slot.{Facts, mapOf}
@@ -46,6 +48,11 @@ pub map-small : (s : List ℕ) (b : ℕ) → has (mapOf s) b ≡ true → b < 15
 map-small s b h = has-small (mapOf s) b (omega (arith, length-part 15 195 s)) h
 
 -- ---- along the links
+
+-- the link of the sector at a place, read off the image
+pub link-at : (d : List ℕ) (a t u : ℕ) → t ≡ getD d (a + 510) 0 → u ≡ getD d (a + 511) 0 → bitOf t u ≡ nextOf (part a 512 d)
+unfolding nextOf
+link-at d a t u e f = ap₂ bitOf (e ∙ sym (part-at a 512 d 510 (omega arith))) (f ∙ sym (part-at a 512 d 511 (omega arith)))
 
 taken : (a b x : Bool) → cond (a && not b) x true ≡ false → (a ≡ true) × (b ≡ false) × (x ≡ false)
 taken true false x e = (refl, refl, e)

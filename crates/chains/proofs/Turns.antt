@@ -1,35 +1,42 @@
 -- The chain as the code follows it, from place to place; and what rows 10 and 11 then answer.
-use Prim.Native.Nat.{ℕ, suc, _+_, _-_, _≤_, _<_}
-use mathlib.Core.Path.{_≡_, refl, sym, ap, ap₂, _∙_}
+use Prim.Native.Nat.{ℕ, suc, _+_, _-_, _%_, _≤_, _<_}
+use mathlib.Core.Path.{_≡_, refl, sym, ap, _∙_}
 use mathlib.Core.Bool.{Bool, true, false, not, cond, _&&_, and-false}
 use mathlib.Core.List.{List}
 use mathlib.Core.Option.{none, some}
 use native.Mathlib.Omega.{arith}
 use lib.ListN.{getD}
 use Rattle.buffers.specs.Bytes.{part}
-use Rattle.buffers.proofs.Lists.{length-part, part-at}
+use Rattle.buffers.proofs.Lists.{length-part}
 use Rattle.geometry.specs.Disk.{imageSize, bitOf, placeOrEnd}
-use Rattle.geometry.proofs.Laws.{place-or-end, place-inside}
+use Rattle.geometry.proofs.Laws.{data-bit, bit-data, place-or-end, place-inside, place-next}
 use Rattle.maps.specs.Bits.{has}
 use Rattle.refusals.specs.Order.{refuse}
 use Rattle.slots.specs.Slot.{facts, kindOf, carried, firstOf, countOf, mapOf}
 use Rattle.chains.specs.File.{sectorsOf, fileOf}
 use Rattle.chains.specs.Chain.{nextOf, isLast, broken, headerDiffers, laterReply, linked}
-use Rattle.chains.proofs.Laws.{sectors-own, map-small, chain-steps}
+use Rattle.chains.proofs.Laws.{sectors-own, map-small, link-at, chain-steps}
 use Rattle.chains.proofs.Ring.{roams, strays-roams}
 
--- before a turn, at the sector of a bit: the chain is broken exactly where what is left of it strays
-pub record Walked (d s : List ℕ) (left at : ℕ) : Type 0 where
-  pub bit : ℕ
+-- before a turn, at a bit's sector: the chain is broken exactly where what is left of it strays
+pub record Walked (d s : List ℕ) (left bit at : ℕ) : Type 0 where
   pub own : has (mapOf s) bit ≡ true
   pub place : at ≡ placeOrEnd bit
   pub rest : broken (facts s) (sectorsOf d s) ≡ roams (mapOf s) (sectorsOf d s) (left - 1) bit
 
 -- the place lies in the image
-pub walked-inside : (d s : List ℕ) (left at : ℕ) → Walked d s left at → at < imageSize
-walked-inside d s left at w =
-    let h = map-small s (w .bit) (w .own) in
-    omega (arith, w .place, place-or-end (w .bit) h, place-inside (w .bit) h)
+pub walked-inside : (d s : List ℕ) (left bit at : ℕ) → Walked d s left bit at → (bit < 1560) × (at < imageSize)
+walked-inside d s left bit at w =
+    let h = map-small s bit (w .own) in
+    (h, omega (arith, w .place, place-or-end bit h, place-inside bit h))
+
+-- a link to the next sector of the track
+pub beside : (b a c t u : ℕ) → b < 1560 → a ≡ placeOrEnd b → c < 1560 → c ≡ bitOf t u → c ≡ b + 1 → (u ≡ 1 → ⊥) → a + 512 ≡ placeOrEnd c
+beside b a c t u h p i q n m =
+    let k = data-bit t u (bit-data t u (omega arith)) in
+    let e : c ≡ suc b = omega arith in
+    let z : 1 ≤ suc b % 10 = omega (arith, k .sector, m) in
+    omega (arith, p, place-or-end b h, place-next b (omega arith) z, ap placeOrEnd e, place-or-end (suc b) (omega arith))
 
 -- what a test of the map that the code holds says of the slot's
 pub in-map : (m s : List ℕ) (c : ℕ) {t v : Bool} → m ≡ mapOf s → t ≡ has m c → t ≡ v → has (mapOf s) c ≡ v
@@ -44,47 +51,42 @@ module _ (d s : List ℕ) where
   unfolding broken facts
   outside b e h = rw (← e, h)
 
-  pub start : (b n a : ℕ) → b ≡ firstOf s → n ≡ countOf s → a ≡ placeOrEnd b → has (mapOf s) b ≡ true → Walked d s n a
+  pub start : (b n a : ℕ) → b ≡ firstOf s → n ≡ countOf s → a ≡ placeOrEnd b → has (mapOf s) b ≡ true → Walked d s n b a
   unfolding broken facts
   start b n a e f g h =
       record {
-        bit = b;
         own = h;
         place = g;
         rest = rw (← e, h, ← f) (strays-roams (mapOf s) (sectorsOf d s) (omega (arith, length-part 15 195 s)) (n - 1) b h);
       }
 
   -- the part that the code takes is the bit's sector
-  here : (h : List ℕ) (left a : ℕ) (w : Walked d s left a) → h ≡ part a 512 d → sectorsOf d s (w .bit) ≡ h
-  here h left a w e = read (w .bit) h (w .own) (e ∙ ap (λ (x : ℕ). part x 512 d) (w .place))
+  here : (h : List ℕ) (left b a : ℕ) → Walked d s left b a → h ≡ part a 512 d → sectorsOf d s b ≡ h
+  here h left b a w e = read b h (w .own) (e ∙ ap (λ (x : ℕ). part x 512 d) (w .place))
 
-  pub end : (h : List ℕ) (left a : ℕ) → Walked d s left a → left ≤ 1 → h ≡ part a 512 d → broken (facts s) (sectorsOf d s) ≡ not (isLast h)
+  pub end : (h : List ℕ) (left b a : ℕ) → Walked d s left b a → left ≤ 1 → h ≡ part a 512 d → broken (facts s) (sectorsOf d s) ≡ not (isLast h)
   unfolding roams
-  end h left a w l e =
+  end h left b a w l e =
       let k : left - 1 ≡ 0 = omega arith in
-      w .rest ∙ ap (λ (m : ℕ). roams (mapOf s) (sectorsOf d s) m (w .bit)) k ∙ ap (λ (x : List ℕ). not (isLast x)) (here h left a w e)
+      w .rest ∙ ap (λ (m : ℕ). roams (mapOf s) (sectorsOf d s) m b) k ∙ ap (λ (x : List ℕ). not (isLast x)) (here h left b a w e)
 
 -- a turn: the link of the sector is t, u, which is bit c
 module _
-    (d s : List ℕ) (left a t u c : ℕ) (w : Walked d s left a) (more : 1 < left)
+    (d s : List ℕ) (left b a t u c : ℕ) (w : Walked d s left b a) (more : 1 < left)
     (track : t ≡ getD d (a + 510) 0) (sector : u ≡ getD d (a + 511) 0) (leads : c ≡ bitOf t u) where
-  next : c ≡ nextOf (part a 512 d)
-  unfolding nextOf
-  next = leads ∙ ap₂ bitOf (track ∙ sym (part-at a 512 d 510 (omega arith))) (sector ∙ sym (part-at a 512 d 511 (omega arith)))
-
   turn : broken (facts s) (sectorsOf d s) ≡ cond (has (mapOf s) c) (roams (mapOf s) (sectorsOf d s) (left - 1 - 1) c) true
   unfolding roams
   turn =
       let k : left - 1 ≡ suc (left - 1 - 1) = omega arith in
-      let q : nextOf (sectorsOf d s (w .bit)) ≡ c = ap nextOf (here d s (part a 512 d) left a w refl) ∙ sym next in
-      w .rest ∙ ap (λ (m : ℕ). roams (mapOf s) (sectorsOf d s) m (w .bit)) k
+      let q : nextOf (sectorsOf d s b) ≡ c = ap nextOf (here d s (part a 512 d) left b a w refl) ∙ sym (leads ∙ link-at d a t u track sector) in
+      w .rest ∙ ap (λ (m : ℕ). roams (mapOf s) (sectorsOf d s) m b) k
       ∙ ap (λ (x : ℕ). cond (has (mapOf s) x) (roams (mapOf s) (sectorsOf d s) (left - 1 - 1) x) true) q
 
   pub strays-off : has (mapOf s) c ≡ false → true ≡ broken (facts s) (sectorsOf d s)
   strays-off i = sym (turn ∙ rw i)
 
-  pub walked : (e : ℕ) → has (mapOf s) c ≡ true → e ≡ placeOrEnd (bitOf t u) → Walked d s (left - 1) e
-  walked e i f = record { bit = c; own = i; place = f ∙ ap placeOrEnd (sym leads); rest = turn ∙ rw i }
+  pub walked : (e : ℕ) → has (mapOf s) c ≡ true → e ≡ placeOrEnd c → Walked d s (left - 1) c e
+  walked e i f = record { own = i; place = f; rest = turn ∙ rw i }
 
 -- ---- the rows
 

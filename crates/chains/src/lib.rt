@@ -1,32 +1,25 @@
 // The chain of a file: rows 10 and 11 of the table at one slot.
 ghost use mathlib.Core.Path.{_≡_};
-ghost use Prim.Native.Nat.{_≤_};
+ghost use Prim.Native.Nat.{_<_};
 ghost use Rattle.buffers.specs.Bytes.{part};
-ghost use Rattle.geometry.specs.Disk.{placeOrEnd};
+ghost use Rattle.geometry.specs.Disk.{bitOf, placeOrEnd};
 ghost use Rattle.refusals.specs.Answers.{replyOf};
 ghost use Rattle.slots.specs.Slot.{facts};
 ghost use Rattle.chains.specs.File.{fileOf, sectorsOf};
-ghost use Rattle.chains.specs.Chain.{nextOf, isLast, broken, headerDiffers, laterReply};
+ghost use Rattle.chains.specs.Chain.{isLast, broken, headerDiffers, laterReply};
 use refusals::Reason;
 use refusals::Refused;
 use refusals::Verdict;
 
 // The 512 bytes of a map bit's sector, uncopied; none where there is no such bit.
-pub fn sector_at(image: &[u8], bit: usize) -> &[u8]
+fn sector_at(image: &[u8], bit: usize) -> &[u8]
     ensures { λ r. ⌜ now r ≡ part (placeOrEnd bit) 512 (now (image .entry)) ⌝ }
 {
     buffers::part_at(image, geometry::bit_place(bit), 512)
 }
 
-// The map bit that a sector's link leads to: 1,560 where it names no data sector.
-pub fn next_of(sector: &[u8]) -> usize
-    ensures { λ r. ⌜ (r ≡ nextOf (now (sector .entry))) × (r ≤ 1560) ⌝ }
-{
-    geometry::bit_or_end(buffers::num_at(sector, 510), buffers::num_at(sector, 511))
-}
-
 // Whether a sector's link is 0, 0.
-pub fn is_last(sector: &[u8]) -> bool
+fn is_last(sector: &[u8]) -> bool
     ensures { λ r. ⌜ r ≡ isLast (now (sector .entry)) ⌝ }
 {
     if buffers::byte_at(sector, 510) == 0 {
@@ -36,25 +29,41 @@ pub fn is_last(sector: &[u8]) -> bool
     }
 }
 
+// The place of a link's sector, bit `next`, where the sector that has the link is bit `bit` and lies at `at`. Most links lead
+// to the next sector of the track, whose place does not hang on the link: the walk can run ahead of what it reads.
+fn place_after(bit: usize, at: usize, next: usize, track: usize, number: usize) -> usize
+    requires { ⌜ (bit < 1560) × (at ≡ placeOrEnd bit) × (next < 1560) × (next ≡ bitOf track number) ⌝ }
+    ensures { λ r. ⌜ r ≡ placeOrEnd next ⌝ }
+{
+    if next == bit + 1 {
+        if number != 1 {
+            return at + 512;
+        }
+    }
+    geometry::data_place(track, number)
+}
+
 // Row 10: whether the chain is broken. A sector that comes twice is on a ring, and no sector of a ring has the link 0, 0:
-// so the sectors passed need not be kept. The next sector's place comes from the link itself, not from its bit.
+// so the sectors passed need not be kept.
 fn chain_broken(image: &[u8], s: &[u8]) -> bool
     ensures { λ r. ⌜ r ≡ broken (facts (now (s .entry))) (sectorsOf (now (image .entry)) (now (s .entry))) ⌝ }
 {
     let map = slots::map_of(s);
-    let first = slots::first_of(s);
-    if !maps::has_bit(map, first) {
+    let mut bit = slots::first_of(s);
+    if !maps::has_bit(map, bit) {
         return true;
     }
     let mut left = slots::count_of(s);
-    let mut at = geometry::bit_place(first);
+    let mut at = geometry::bit_place(bit);
     while 1 < left {
         let track = buffers::num_at(image, at + 510);
         let number = buffers::num_at(image, at + 511);
-        if !maps::has_bit(map, geometry::bit_or_end(track, number)) {
+        let next = geometry::bit_or_end(track, number);
+        if !maps::has_bit(map, next) {
             return true;
         }
-        at = geometry::data_place(track, number);
+        at = place_after(bit, at, next, track, number);
+        bit = next;
         left -= 1;
     }
     !is_last(buffers::part_at(image, at, 512))

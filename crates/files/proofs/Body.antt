@@ -6,14 +6,14 @@ use mathlib.Core.List.{List, []}
 use native.Mathlib.Omega.{arith}
 use lib.ListN.{length, getD}
 use Rattle.buffers.specs.Bytes.{tab, part, put}
-use Rattle.buffers.proofs.Lists.{length-tab, tab-of, part-long, part-at, length-put, tab-add, put-append, put-none}
-use Rattle.geometry.specs.Disk.{bitPlace, placeOrEnd}
+use Rattle.buffers.proofs.Lists.{length-tab, tab-of, part-long, part-at, part-part, length-put, tab-add, put-append, put-none}
+use Rattle.geometry.specs.Disk.{imageSize, bitOf, placeOrEnd}
 use Rattle.geometry.proofs.Laws.{place-inside, place-or-end}
 use Rattle.maps.specs.Bits.{has}
 use Rattle.slots.specs.Slot.{mapOf, firstOf, facts, lengthOf}
 use Rattle.chains.specs.File.{sectorsOf, fileOf}
 use Rattle.chains.specs.Chain.{nextOf, linked, bodyByte, body}
-use Rattle.chains.proofs.Laws.{sectors-own, map-small, linked-own}
+use Rattle.chains.proofs.Laws.{sectors-own, map-small, link-at, linked-own}
 use Rattle.files.specs.Steps.{Readable}
 
 -- ---- one run after another
@@ -27,34 +27,34 @@ put-run d a n f e q =
 
 -- ---- the runs of a body
 
--- after some sectors: `done` of the body's `len` bytes are put to the front of buf, and byte `from` of bit b's sector is the next
-pub record Copied (d s buf : List ℕ) (len b from done : ℕ) (e : List ℕ) : Type 0 where
+-- after some sectors: `done` of the body's `len` bytes are put to the front of buf, and the next is byte `from` of the sector at `at`
+pub record Copied (d s buf : List ℕ) (len at from done : ℕ) (e : List ℕ) : Type 0 where
   pub turns : ℕ
   pub long : len ≡ lengthOf (facts s)
   pub far : done ≤ len
   pub inside : from < 510
   pub next : done < len → 9 + done ≡ 510 * turns + from
-  pub bit : b ≡ linked (sectorsOf d s) (facts s .first) turns
+  pub place : at ≡ placeOrEnd (linked (sectorsOf d s) (facts s .first) turns)
   pub copied : e ≡ put buf 0 (tab done (bodyByte (fileOf d s)))
 
-pub nothing-yet : (d s buf : List ℕ) (len b : ℕ) → len ≡ lengthOf (facts s) → b ≡ firstOf s → Copied d s buf len b 9 0 buf
+pub nothing-yet : (d s buf : List ℕ) (len b at : ℕ) → len ≡ lengthOf (facts s) → b ≡ firstOf s → at ≡ placeOrEnd b → Copied d s buf len at 9 0 buf
 unfolding linked tab facts
-nothing-yet d s buf len b l e = record {
+nothing-yet d s buf len b at l f p = record {
   turns = 0;
   long = l;
   far = omega arith;
   inside = omega arith;
   next = λ h. omega arith;
-  bit = e;
+  place = p ∙ ap placeOrEnd f;
   copied = put-none buf 0 [];
 }
 
-pub same-long : {d s buf : List ℕ} {len b from done : ℕ} {e : List ℕ} → Copied d s buf len b from done e → length e ≡ length buf
-same-long {d} {s} {buf} {len} {b} {from} {done} w = ap length (w .copied) ∙ length-put buf 0 (tab done (bodyByte (fileOf d s)))
+pub same-long : {d s buf : List ℕ} {len at from done : ℕ} {e : List ℕ} → Copied d s buf len at from done e → length e ≡ length buf
+same-long {d} {s} {buf} {len} {at} {from} {done} w = ap length (w .copied) ∙ length-put buf 0 (tab done (bodyByte (fileOf d s)))
 
-pub all-of-it : (d s buf : List ℕ) (len b from done : ℕ) (e : List ℕ) → Copied d s buf len b from done e → len ≤ done → e ≡ put buf 0 (body (fileOf d s))
+pub all-of-it : (d s buf : List ℕ) (len at from done : ℕ) (e : List ℕ) → Copied d s buf len at from done e → len ≤ done → e ≡ put buf 0 (body (fileOf d s))
 unfolding body fileOf
-all-of-it d s buf len b from done e w h =
+all-of-it d s buf len at from done e w h =
     let q : done ≡ lengthOf (facts s) = omega arith in
     w .copied ∙ ap (λ (n : ℕ). put buf 0 (tab n (bodyByte (fileOf d s)))) q
 
@@ -72,41 +72,43 @@ module _ (d s : List ℕ) (r : Readable d s) where
   unfolding facts
   own t h = linked-own (facts s) (sectorsOf d s) (r .chain) t h
 
-  module _ (buf : List ℕ) (len b from done : ℕ) (e : List ℕ) (w : Copied d s buf len b from done e) (more : done < len) where
-    mine : has (mapOf s) b ≡ true
-    mine = rw (w .bit) (own (w .turns) (omega (arith, w .next more)))
+  module _ (buf : List ℕ) (len at from done : ℕ) (e : List ℕ) (w : Copied d s buf len at from done e) (more : done < len) where
+    -- the bit of the sector that the code has come to
+    abbrev bit : ℕ
+    bit = linked (sectorsOf d s) (facts s .first) (w .turns)
 
-    small : b < 1560
-    small = map-small s b mine
+    mine : has (mapOf s) bit ≡ true
+    mine = own (w .turns) (omega (arith, w .next more, r .fits, w .long))
 
-    -- what the code reads is the file's sector
-    sector-is : (sector : List ℕ) → sector ≡ part (placeOrEnd b) 512 d → sector ≡ sectorsOf d s b
-    sector-is sector p = p ∙ ap (λ (a : ℕ). part a 512 d) (place-or-end b small) ∙ sym (sectors-own d s b mine)
+    small : bit < 1560
+    small = map-small s bit mine
 
-    sector-long : length (sectorsOf d s b) ≡ 512
-    sector-long = ap length (sectors-own d s b mine) ∙ part-long (bitPlace b) 512 d (omega (arith, place-inside b small))
+    pub at-inside : at + 512 ≤ imageSize
+    at-inside = omega (arith, w .place, place-or-end bit small, place-inside bit small)
+
+    sector-is : sectorsOf d s bit ≡ part at 512 d
+    sector-is = sectors-own d s bit mine ∙ ap (λ (a : ℕ). part a 512 d) (sym (w .place ∙ place-or-end bit small))
 
     -- the run of the body that it holds
-    run-is : (n : ℕ) → n ≤ 510 - from → part from n (sectorsOf d s b) ≡ tab n (λ j. bodyByte (fileOf d s) (done + j))
+    run-is : (n : ℕ) → n ≤ 510 - from → part (at + from) n d ≡ tab n (λ j. bodyByte (fileOf d s) (done + j))
     run-is n h =
-        tab-of n (λ j. bodyByte (fileOf d s) (done + j)) (part from n (sectorsOf d s b))
-        (part-long from n (sectorsOf d s b) (omega (arith, sector-long)))
+        tab-of n (λ j. bodyByte (fileOf d s) (done + j)) (part (at + from) n d)
+        (part-long (at + from) n d (omega (arith, at-inside, r .long, w .inside)))
         (λ k l.
-        part-at from n (sectorsOf d s b) k l
-        ∙ ap (λ (c : ℕ). getD (sectorsOf d s c) (from + k) 0) (w .bit)
+        ap (λ (x : List ℕ). getD x k 0) (sym (part-part at 512 from n d (omega (arith, w .inside))) ∙ ap (part from n) (sym sector-is))
+        ∙ part-at from n (sectorsOf d s bit) k l
         ∙ sym (body-at (w .turns) (from + k) (done + k) (omega (arith, w .next more)) (omega arith)))
 
-    pub turn : (sector : List ℕ) (n : ℕ) (run : List ℕ) (e′ : List ℕ) (b′ : ℕ) → sector ≡ part (placeOrEnd b) 512 d
-        → n ≡ min (510 - from) (len - done) → run ≡ part from n sector → e′ ≡ put e done run → b′ ≡ nextOf sector
-        → Copied d s buf len b′ 0 (done + n) e′
+    pub turn : (t u n : ℕ) (run e′ : List ℕ) (at′ : ℕ) → t ≡ getD d (at + 510) 0 → u ≡ getD d (at + 511) 0
+        → n ≡ min (510 - from) (len - done) → run ≡ part (at + from) n d → e′ ≡ put e done run → at′ ≡ placeOrEnd (bitOf t u)
+        → Copied d s buf len at′ 0 (done + n) e′
     unfolding linked
-    turn sector n run e′ b′ p q g u v = record {
+    turn t u n run e′ at′ p q m g v z = record {
       turns = suc (w .turns);
       long = w .long;
       far = omega arith;
       inside = omega arith;
       next = λ (l : done + n < len). omega (arith, w .next more);
-      bit = v ∙ ap nextOf (sector-is sector p ∙ ap (sectorsOf d s) (w .bit));
-      copied = u ∙ ap (put e done) (g ∙ ap (part from n) (sector-is sector p) ∙ run-is n (omega arith))
-          ∙ put-run buf done n (bodyByte (fileOf d s)) e (w .copied);
+      place = z ∙ ap placeOrEnd (link-at d at t u p q ∙ ap nextOf (sym sector-is));
+      copied = v ∙ ap (put e done) (g ∙ run-is n (omega arith)) ∙ put-run buf done n (bodyByte (fileOf d s)) e (w .copied);
     }

@@ -136,22 +136,24 @@ pub fn start(image: &[u8], name: &[u8]) -> Answer
 }
 
 // Copies the body of slot `s` along its links to the front of `buf`: a run of at most 510 bytes from each sector, and
-// from the first only those past the header's nine.
+// from the first only those past the header's nine. The next sector's place comes from the link itself, and before the
+// copy, so that the one need not wait for the other.
 fn copy_body(image: &[u8], s: &[u8], buf: &mut [u8])
     requires { ⌜ Readable (now image) (now s) ⌝ }
     ensures { λ _. ⌜ now (buf .exit) ≡ put (now (buf .entry)) 0 (body (fileOf (now (image .entry)) (now (s .entry)))) ⌝ }
 {
     let len = slots::length_of(s);
-    let mut b = slots::first_of(s);
+    let mut at = geometry::bit_place(slots::first_of(s));
     let mut from: usize = 9;
     let mut done: usize = 0;
     while done < len {
-        let sector = chains::sector_at(image, b);
+        let track = buffers::num_at(image, at + 510);
+        let number = buffers::num_at(image, at + 511);
         let n = buffers::lesser(510 - from, len - done);
-        buffers::copy_into(buf, done, buffers::part_at(sector, from, n));
-        done += n;
+        buffers::copy_into(buf, done, buffers::part_at(image, at + from, n));
+        at = geometry::data_place(track, number);
         from = 0;
-        b = chains::next_of(sector);
+        done += n;
     }
 }
 

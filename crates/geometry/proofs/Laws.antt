@@ -3,7 +3,7 @@
 use mathlib.Core.Path.{_≡_, refl, _∙_, sym, ap}
 use mathlib.Core.Bool.{true, false, cond}
 use mathlib.Core.Logic.{_⊎_, inl, inr, ⊎-elim}
-use Prim.Native.Nat.{ℕ, _+_, _-_, _*_, _/_, _%_, _≤_, _<_}
+use Prim.Native.Nat.{ℕ, suc, _+_, _-_, _*_, _/_, _%_, _≤_, _<_}
 use native.Mathlib.Omega.{arith}
 use borrow.Author.Tests.{lt-ltb, le-ltb, ltb-true}
 use lib.Dec.{ltb}
@@ -181,6 +181,12 @@ place-or-end b h = rw (lt-ltb b 1560 h)
 pub place-end : (b : ℕ) → 1560 ≤ b → placeOrEnd b ≡ imageSize
 unfolding placeOrEnd
 place-end b h = rw (le-ltb b 1560 h)
+
+-- The next bit's place, where it is not the first of a track.
+pub place-next : (b : ℕ) → suc b < 1560 → 1 ≤ suc b % 10 → bitPlace (suc b) ≡ bitPlace b + 512
+place-next b h m =
+    ⊎-elim (λ (l : suc b < 760). omega (arith, number-first b (omega arith), number-first (suc b) l))
+    (λ (l : 760 ≤ suc b). omega (arith, number-second b (omega arith) (omega arith), number-second (suc b) l h)) (split (suc b) 760)
 
 -- The same from the track and the sector.
 pub data-or-end : (t s : ℕ) → isData t s ≡ true → placeOrEnd (bitOf t s) ≡ placeOf t s

@@ -1,10 +1,13 @@
-//! The disks of the benchmark, all made by `paper::save` and `paper::erase`.
+//! The disks of the benchmark, made by `paper::save` and `paper::erase`; in one the sectors of the file are then shuffled.
 
+use crate::geometry::{address, bit_place};
 use paper::Wish;
 use std::rc::Rc;
 
 /// The longest body that a blank disk takes: 1,560 sectors.
 pub const LONGEST: usize = 795_591;
+
+const SECTORS: usize = 1_560;
 
 /// Room for the numbers of the longest list.
 pub const LIST_BYTES: usize = 2 * 1_561;
@@ -35,6 +38,35 @@ pub fn seventy_eight() -> Disk {
 
 pub fn one() -> Disk {
     made("1 x 795,591", 1, LONGEST, unlike)
+}
+
+/// The disk of one file with its sectors in a drawn order: some half of the links lead to the next sector, which a guess
+/// at the next place finds, and the rest anywhere.
+pub fn scattered() -> Disk {
+    let Disk { image: whole, last, .. } = one();
+    let drawn = body(SECTORS);
+    let mut runs: Vec<Vec<usize>> = vec![];
+    for bit in 0..SECTORS {
+        match runs.last_mut() {
+            Some(run) if drawn[bit] < 128 => run.push(bit),
+            _ => runs.push(vec![bit]),
+        }
+    }
+    runs.sort_by_key(|run| drawn[run[0]]);
+    let order = runs.concat();
+    let mut image = whole.to_vec();
+    image[13..15].copy_from_slice(&address(order[0]));
+    for (turn, &bit) in order.iter().enumerate() {
+        let (from, to) = (bit_place(turn), bit_place(bit));
+        image[to..to + 510].copy_from_slice(&whole[from..from + 510]);
+        let link = order.get(turn + 1).map_or([0, 0], |&next| address(next));
+        image[to + 510..to + 512].copy_from_slice(&link);
+    }
+    Disk {
+        title: "1 x 795,591, scattered",
+        image: image.into(),
+        last,
+    }
 }
 
 /// The disk with its last file erased.

@@ -24,7 +24,7 @@ pub struct Row {
 /// Every row, in the order of the table.
 pub fn all() -> Vec<Row> {
     let (blank, eighty, seventy_eight, one) = (disks::blank(), disks::eighty(), disks::seventy_eight(), disks::one());
-    let eighty_alike = disks::eighty_alike();
+    let (eighty_alike, scattered) = (disks::eighty_alike(), disks::scattered());
     let disks = [&blank, &eighty, &seventy_eight, &one];
     let row = |disk: &Disk, work, refusal| Row {
         disk: disk.clone(),
@@ -32,9 +32,10 @@ pub fn all() -> Vec<Row> {
         refusal,
     };
     let mut rows = vec![];
-    rows.extend([&blank, &eighty, &eighty_alike, &seventy_eight, &one].map(|disk| row(disk, Work::Check, 0)));
+    rows.extend([&blank, &eighty, &eighty_alike, &seventy_eight, &one, &scattered].map(|disk| row(disk, Work::Check, 0)));
     rows.extend(disks.map(|disk| row(disk, Work::List, 0)));
     rows.extend(disks.map(|disk| row(disk, Work::Read, if disk.title == blank.title { 15 } else { 0 })));
+    rows.push(row(&scattered, Work::Read, 0));
     rows.extend(saves(&blank, &eighty, &seventy_eight, &one));
     rows.extend(disks.map(|disk| row(disk, Work::Erase, if disk.title == blank.title { 15 } else { 0 })));
     rows

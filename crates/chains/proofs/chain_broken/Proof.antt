@@ -3,16 +3,17 @@ use mathlib.Core.Path.{sym, ap, _∙_}
 use mathlib.Core.Bool.{not}
 use native.Mathlib.Omega.{arith}
 use borrow.Author.Tests.{not-true, not-false}
+use Rattle.chains.proofs.Laws.{map-small}
 use Rattle.chains.proofs.Turns.{Walked, walked-inside, in-map, outside, start, strays-off, walked, end}
 use borrow.Author.Needs.{needs}
 use Rattle.chains.proofs.chain_broken.Statement.{statement}
 use Rattle.chains.proofs.chain_broken.Tie as tie
 
 abbrev Inv-loop : tie.InvT-loop
-Inv-loop image s map first left₀ at₀ left at = Walked image s left at
+Inv-loop image s map bit₀ left₀ at₀ bit left at = Walked image s left bit at
 
 abbrev μ-loop : tie.MeasureT-loop
-μ-loop image s map first left₀ at₀ left at = left
+μ-loop image s map bit₀ left₀ at₀ bit left at = left
 
 map-of-requires : tie.Need-map-of-requires Inv-loop μ-loop
 map-of-requires c κs = search needs
@@ -42,13 +43,13 @@ loop-holds c =
     start _ _ _ _ _ (f .first-of .ensures .0) (n .count-of .ensures .0) (c .bit-place .ensures) (in-map _ _ _ (f .before .map-of .ensures) (e .before .has-bit .ensures) (not-false _ (e .if1 .left)))
 
 add-num-at : tie.Need-add-num-at Inv-loop μ-loop
-add-num-at c = omega (arith, walked-inside _ _ _ _ (c .before .loop .inv))
+add-num-at c = omega (arith, walked-inside _ _ _ _ _ (c .before .loop .inv) .1)
 
 num-at-requires : tie.Need-num-at-requires Inv-loop μ-loop
 num-at-requires c κs = search needs
 
 add-num-at-2 : tie.Need-add-num-at-2 Inv-loop μ-loop
-add-num-at-2 c = omega (arith, walked-inside _ _ _ _ (c .before .before .loop .inv))
+add-num-at-2 c = omega (arith, walked-inside _ _ _ _ _ (c .before .before .loop .inv) .1)
 
 num-at-requires-2 : tie.Need-num-at-requires-2 Inv-loop μ-loop
 num-at-requires-2 c κs = search needs
@@ -65,11 +66,15 @@ returns-2 c =
     let k = n .before in
     let i = k .before .before in
     let l = i .before in
-    strays-off _ _ _ _ _ _ _ (l .loop .inv) (i .loop-test .taken) (k .before .num-at .ensures .0) (k .num-at2 .ensures .0) (n .bit-or-end .ensures .0)
+    strays-off _ _ _ _ _ _ _ _ (l .loop .inv) (i .loop-test .taken) (k .before .num-at .ensures .0) (k .num-at2 .ensures .0) (n .bit-or-end .ensures .0)
     (in-map _ _ _ (l .before .before .before .before .before .before .map-of .ensures) (c .before .has-bit2 .ensures) (not-true _ (c .if2 .taken)))
 
-data-place-requires : tie.Need-data-place-requires Inv-loop μ-loop
-data-place-requires c κs = search needs
+place-after-requires : tie.Need-place-after-requires Inv-loop μ-loop
+place-after-requires c κs =
+    let n = c .before .before in
+    let l = n .before .before .before .before in
+    let m = in-map _ _ _ (l .before .before .before .before .before .before .map-of .ensures) (c .before .has-bit2 .ensures) (not-false _ (c .if2 .left)) in
+    (walked-inside _ _ _ _ _ (l .loop .inv) .0, l .loop .inv .place, map-small _ _ m, n .bit-or-end .ensures .0)
 
 sub-left : tie.Need-sub-left Inv-loop μ-loop
 sub-left c = search needs
@@ -84,9 +89,9 @@ loop-again c =
     let k = n .before in
     let i = k .before .before in
     let l = i .before in
-    walked _ _ _ _ _ _ _ (l .loop .inv) (i .loop-test .taken) (k .before .num-at .ensures .0) (k .num-at2 .ensures .0) (n .bit-or-end .ensures .0) _
+    walked _ _ _ _ _ _ _ _ (l .loop .inv) (i .loop-test .taken) (k .before .num-at .ensures .0) (k .num-at2 .ensures .0) (n .bit-or-end .ensures .0) _
     (in-map _ _ _ (l .before .before .before .before .before .before .map-of .ensures) (e .before .has-bit2 .ensures) (not-false _ (e .if2 .left)))
-    (c .data-place .ensures)
+    (c .place-after .ensures)
 
 part-at-requires : tie.Need-part-at-requires Inv-loop μ-loop
 part-at-requires c κs = search needs
@@ -97,7 +102,7 @@ is-last-requires c κs = search needs
 returns-3 : tie.Need-returns-3 Inv-loop μ-loop
 returns-3 c =
     let a = c .before .before in
-    ap not (c .is-last .ensures) ∙ sym (end _ _ _ _ _ (a .before .loop .inv) (a .loop-test .left) (c .before .part-at .ensures))
+    ap not (c .is-last .ensures) ∙ sym (end _ _ _ _ _ _ (a .before .loop .inv) (a .loop-test .left) (c .before .part-at .ensures))
 
 pub chain-broken-spec : {M : Type 1} → statement M
 chain-broken-spec =
@@ -119,7 +124,7 @@ chain-broken-spec =
     bit-or-end-requires
     has-bit-requires-2
     returns-2
-    data-place-requires
+    place-after-requires
     sub-left
     loop-less
     loop-again
