@@ -1,0 +1,239 @@
+// What changes a disk: save, erase, rename and the marks.
+use crate::disks;
+use crate::lines;
+use refusals::Answer;
+
+// Number `k` of a list, 0 past its end.
+fn listed_at(list: &[u16], k: usize) -> usize {
+    if k < list.len() {
+        return list[k] as usize;
+    }
+    0
+}
+
+// How many sectors a change names, and the front of its list as it then is.
+fn told(answer: Answer, list: &[u16]) {
+    match answer {
+        Answer::Done(n, _) => {
+            lines::number(b"sectors ", n);
+            lines::number(b", list ", listed_at(list, 0));
+            lines::number(b" ", listed_at(list, 1));
+            lines::number(b" ", listed_at(list, 2));
+            lines::say(b"\n");
+        }
+        Answer::No(r) => lines::refused(r),
+    }
+}
+
+fn saved(what: &[u8], image: &mut [u8], name: &[u8], body: &[u8], list: &mut [u16]) {
+    lines::title(b"save of ", what);
+    let answer = saves::save(image, 19, name, 29, 32768, b"", b"", body, list);
+    told(answer, list);
+}
+
+fn saved_at(
+    what: &[u8],
+    image: &mut [u8],
+    kind: usize,
+    page: usize,
+    offset: usize,
+    list: &mut [u16],
+) {
+    lines::title(b"save of ", what);
+    let answer = saves::save(image, kind, b"FILE X", page, offset, b"", b"", b"", list);
+    told(answer, list);
+}
+
+fn erased(image: &mut [u8], name: &[u8], list: &mut [u16]) {
+    lines::title(b"erase of ", name);
+    let answer = changes::erase(image, name, list);
+    told(answer, list);
+}
+
+fn renamed(image: &mut [u8], name: &[u8], new: &[u8], list: &mut [u16]) {
+    lines::title(b"rename of ", name);
+    lines::title(b"to ", new);
+    let answer = changes::rename(image, name, new, list);
+    told(answer, list);
+}
+
+fn protected(image: &mut [u8], name: &[u8], list: &mut [u16]) {
+    lines::title(b"protect of ", name);
+    let answer = changes::protect(image, name, list);
+    told(answer, list);
+}
+
+fn released(image: &mut [u8], name: &[u8], list: &mut [u16]) {
+    lines::title(b"release of ", name);
+    let answer = changes::release(image, name, list);
+    told(answer, list);
+}
+
+fn hidden(image: &mut [u8], name: &[u8], list: &mut [u16]) {
+    lines::title(b"hide of ", name);
+    let answer = changes::hide(image, name, list);
+    told(answer, list);
+}
+
+fn shown(image: &mut [u8], name: &[u8], list: &mut [u16]) {
+    lines::title(b"show of ", name);
+    let answer = changes::show(image, name, list);
+    told(answer, list);
+}
+
+// The largest body that a disk holds, and the next.
+fn largest(image: &mut [u8], body: &[u8], list: &mut [u16]) {
+    saved(
+        b"795592 bytes",
+        image,
+        b"BIG",
+        buffers::part_at(body, 0, 795592),
+        list,
+    );
+    saved(
+        b"795591 bytes",
+        image,
+        b"BIG",
+        buffers::part_at(body, 0, 795591),
+        list,
+    );
+    saved(b"no bytes on a full disk", image, b"FILE A", b"", list);
+}
+
+// The same read back, and erased.
+fn largest_back(image: &mut [u8], buf: &mut [u8], list: &mut [u16]) {
+    lines::read(b"BIG", image, b"BIG", buf);
+    lines::started(b"BIG", image, b"BIG");
+    erased(image, b"BIG", list);
+    lines::read(b"BIG", image, b"BIG", buf);
+    lines::listed(b"the disk", image, buf);
+}
+
+fn small(image: &mut [u8], body: &[u8], list: &mut [u16]) {
+    saved(
+        b"501 bytes",
+        image,
+        b"FILE A",
+        buffers::part_at(body, 0, 501),
+        list,
+    );
+    saved(
+        b"502 bytes",
+        image,
+        b"FILE B",
+        buffers::part_at(body, 0, 502),
+        list,
+    );
+    saved(b"a name that is live", image, b"FILE B", b"", list);
+    lines::checked(b"two files saved", image);
+}
+
+fn unfit_names(image: &mut [u8], list: &mut [u16]) {
+    saved(b"a name from a space", image, b" FILE", b"", list);
+    saved(b"a name of 11 bytes", image, b"ELEVENBYTES", b"", list);
+    renamed(image, b"FILE A", b" FILE C", list);
+}
+
+fn unfit(image: &mut [u8], list: &mut [u16]) {
+    saved_at(b"kind 21", image, 21, 0, 32768, list);
+    saved_at(b"page 32", image, 16, 32, 32768, list);
+    saved_at(b"offset 49152", image, 16, 0, 49152, list);
+}
+
+// One number fewer than a save names.
+fn short_list(image: &mut [u8]) {
+    let mut list = [7u16; 1];
+    saved(
+        b"no bytes with a list of 1",
+        image,
+        b"FILE X",
+        b"",
+        &mut list,
+    );
+    lines::number(b"the list: ", listed_at(&list, 0));
+    lines::say(b"\n");
+}
+
+fn taken(image: &mut [u8], list: &mut [u16]) {
+    renamed(image, b"FILE A", b"FILE C", list);
+    renamed(image, b"FILE A", b"FILE B", list);
+    renamed(image, b"FILE B", b"FILE B", list);
+}
+
+fn kept(image: &mut [u8], list: &mut [u16]) {
+    protected(image, b"FILE A", list);
+    erased(image, b"FILE A", list);
+    taken(image, list);
+}
+
+fn marks(image: &mut [u8], list: &mut [u16]) {
+    protected(image, b"FILE A", list);
+    released(image, b"FILE A", list);
+    hidden(image, b"FILE B", list);
+    shown(image, b"FILE B", list);
+}
+
+// What an erased file held is used again: its slot, and its sector before the next that is free.
+fn used_again(image: &mut [u8], body: &[u8], list: &mut [u16]) {
+    renamed(image, b"FILE A", b"FILE C", list);
+    erased(image, b"FILE A", list);
+    erased(image, b"FILE C", list);
+    saved(
+        b"502 bytes",
+        image,
+        b"FILE D",
+        buffers::part_at(body, 0, 502),
+        list,
+    );
+}
+
+// A file in every slot that is free, the names AA to HJ.
+fn fill(image: &mut [u8], list: &mut [u16]) {
+    let mut i: u8 = 0;
+    while i < 80 {
+        let name = [65 + i / 10, 65 + i % 10];
+        saves::save(image, 16, &name, 0, 32768, b"", b"", b"", list);
+        i += 1;
+    }
+}
+
+fn every_slot(image: &mut [u8], buf: &mut [u8], list: &mut [u16]) {
+    fill(image, list);
+    lines::listed(b"a disk of 80 files", image, buf);
+    saved(b"one file more", image, b"FILE X", b"", list);
+}
+
+fn changes_made(image: &mut [u8], body: &[u8], buf: &mut [u8]) {
+    let mut list = [0u16; 1561];
+    largest(image, body, &mut list);
+    largest_back(image, buf, &mut list);
+    small(image, body, &mut list);
+}
+
+fn changes_refused(image: &mut [u8]) {
+    let mut list = [0u16; 8];
+    unfit_names(image, &mut list);
+    unfit(image, &mut list);
+    short_list(image);
+    kept(image, &mut list);
+}
+
+fn changes_more(image: &mut [u8], body: &[u8], buf: &mut [u8]) {
+    let mut list = [0u16; 8];
+    marks(image, &mut list);
+    used_again(image, body, &mut list);
+    lines::read(b"FILE D", image, b"FILE D", buf);
+    every_slot(image, buf, &mut list);
+}
+
+// What changes a disk.
+pub(crate) fn changed_disk() {
+    let mut image = disks::blank();
+    let mut body = disks::blank();
+    let mut buf = disks::blank();
+    buffers::copy_into(&mut body, 0, b"HEAD");
+    buffers::copy_into(&mut body, 501, b"MIDDLE!");
+    changes_made(&mut image, &body, &mut buf);
+    changes_refused(&mut image);
+    changes_more(&mut image, &body, &mut buf);
+}
