@@ -27,5 +27,9 @@ int main(int argc, char **argv) {
                varnucht_entry_sectors(entry));
     }
     printf("%u sectors free\n", varnucht_free(answer));
+    if (ferror(stdout) || fflush(stdout) != 0) {
+        perror("files: standard output");
+        return 2;
+    }
     return 0;
 }

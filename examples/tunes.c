@@ -73,7 +73,8 @@ static int read_file(size_t image_len, const char *name) {
     if (refused("read", answer)) {
         return 1;
     }
-    return fwrite(body, 1, varnucht_value(answer), stdout) != varnucht_value(answer);
+    fwrite(body, 1, varnucht_value(answer), stdout);
+    return 0;
 }
 
 /* Writes the sectors of a list to the image's file: in order, each whole, each flushed before the next. */
@@ -112,9 +113,11 @@ int main(int argc, char **argv) {
     if (loaded < 0 || refused("check", varnucht_check(image, len))) {
         return 1;
     }
-    switch (argc) {
-    case 2: return list(len);
-    case 3: return read_file(len, argv[2]);
-    default: return save(argv[1], len, argv[2], argv[3]);
+    int failed = argc == 2 ? list(len) : argc == 3 ? read_file(len, argv[2]) : save(argv[1], len, argv[2], argv[3]);
+    /* What was printed counts only when it has left the program. */
+    if (ferror(stdout) || fflush(stdout) != 0) {
+        perror("standard output");
+        return 1;
     }
+    return failed;
 }

@@ -14,12 +14,22 @@ use std::fmt;
 ///
 /// Every change of an accepted disk leaves an accepted disk, which is proved. So no call here is refused 1 to 11.
 ///
-/// A clone copies the image: 819,200 bytes.
-#[derive(Clone, Debug, PartialEq, Eq)]
+/// Two disks are equal where their images are. A clone copies the image: 819,200 bytes.
+#[derive(Clone, Debug)]
 pub struct Disk {
     image: Image,
     listing: Listing,
+    /// Whether every change since it was opened was written by [`Sectors::write_to`].
+    written: bool,
 }
+
+impl PartialEq for Disk {
+    fn eq(&self, other: &Disk) -> bool {
+        self.image == other.image
+    }
+}
+
+impl Eq for Disk {}
 
 impl Disk {
     /// Opens a disk: checks the image and lists it. Refused 2 to 11 with the slot; the error hands the image back.
@@ -38,7 +48,11 @@ impl Disk {
     /// ```
     pub fn open(image: Image) -> Result<Disk, Unsound> {
         match Listing::of(&image) {
-            Ok(listing) => Ok(Disk { image, listing }),
+            Ok(listing) => Ok(Disk {
+                image,
+                listing,
+                written: true,
+            }),
             Err(refused) => Err(Unsound { image, refused }),
         }
     }
@@ -88,7 +102,7 @@ impl Disk {
         // An accepted change leaves an accepted disk, so this is not refused. If it were, nothing would be written anywhere,
         // and every later call would be refused by the library.
         self.listing = Listing::of(&self.image)?;
-        Ok(Sectors::new(&self.image, &list, done.value))
+        Ok(Sectors::new(&self.image, &mut self.written, &list, done.value))
     }
 
     /// Makes a change on a copy, and tells which sectors it would write. This disk stays as it is. Refused as the

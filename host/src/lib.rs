@@ -14,7 +14,8 @@
 //! tell: is there a file of that name (15), is the new name free (16), is the file protected (17), is there a slot (18), are
 //! there sectors (19), does the file have a body (13) and a start address (14).
 //!
-//! The types are a convenience. Every request still goes to the library, and every decision is its answer.
+//! The types are a convenience. They refuse by the library's own numbers, and tests show that each draws the line where the
+//! library does; what a type lets through still goes to the library, and what it answers is what counts.
 //!
 //! So these do not compile. An image that was not checked cannot be read:
 //!
@@ -62,7 +63,9 @@
 //!
 //! A change answers with the [`Sectors`] that it altered, in the order in which they are to be written. Wherever that
 //! writing is cut short, the file holds the old disk until the last sector is written, and the new one from then on:
-//! [`Sectors::write_to`] does it, and waits for each sector to reach the disk before it goes on to the next.
+//! [`Sectors::write_to`] does it, and waits for each sector to reach the disk before it goes on to the next. If a write fails,
+//! the disk in memory is ahead of the file: write the same sectors again, or open the disk anew from the file. A later change
+//! is not written before that.
 //!
 //! ```
 //! use std::fs::File;

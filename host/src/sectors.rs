@@ -13,7 +13,8 @@ pub(crate) const LIST_LENGTH: usize = 2 * (DATA_SECTORS + 1);
 ///
 /// The change is made in memory. A copy of the disk elsewhere follows when these sectors are written there, in this order:
 /// cut short anywhere, that copy is still the old disk to every call until the last one is written. As long as this value is
-/// kept, the disk can take no other change.
+/// kept, the disk can take no other change. Whoever writes with [`iter`](Sectors::iter) must leave out no change: the sectors
+/// of the next build on it. [`write_to`](Sectors::write_to) sees to that.
 ///
 /// ```
 /// use varnucht::{CarriedKind, Disk, Image, NewFile, NewName, Start};
@@ -56,12 +57,17 @@ pub(crate) const LIST_LENGTH: usize = 2 * (DATA_SECTORS + 1);
 pub struct Sectors<'d> {
     image: &'d Image,
     numbers: Vec<SectorNumber>,
+    written: &'d mut bool,
+    skipped: bool,
 }
 
 impl<'d> Sectors<'d> {
     /// The first `many` numbers of a list that a change filled. The library names no number above 1,599; such a one would
     /// be no sector of the image and is left out.
-    pub(crate) fn new(image: &'d Image, list: &[u8], many: u32) -> Sectors<'d> {
+    ///
+    /// `written` says whether all changes of the disk before this one were written, and from now on whether this one is too.
+    pub(crate) fn new(image: &'d Image, written: &'d mut bool, list: &[u8], many: u32) -> Sectors<'d> {
+        let skipped = !std::mem::replace(written, false);
         let many = usize::try_from(many).unwrap_or(usize::MAX);
         let pairs = list.as_chunks().0.iter().take(many);
         Sectors {
@@ -69,6 +75,8 @@ impl<'d> Sectors<'d> {
             numbers: pairs
                 .filter_map(|pair| SectorNumber::new(u16::from_le_bytes(*pair)))
                 .collect(),
+            written,
+            skipped,
         }
     }
 
@@ -91,15 +99,45 @@ impl<'d> Sectors<'d> {
     /// `progress` with how many are written and how many there are.
     ///
     /// A file is a [`Store`]. It must hold the disk as it was before the change; lock it, so that nobody else writes there.
-    /// Where a write fails the rest is not tried: the error says how far it came and what that means.
-    pub fn write_to(&self, store: &mut impl Store, mut progress: impl FnMut(usize, usize)) -> Result<(), WriteError> {
+    /// Where a write fails the rest is not tried: the error says how far it came and what that means. It may be tried again.
+    ///
+    /// Where an earlier change of this disk was not written whole, by this function, nothing is written: the store does not
+    /// hold the disk that this change was made on, and its sectors alone could make it one that no call accepts.
+    ///
+    /// ```
+    /// use varnucht::{Change, Disk, Image, WriteError};
+    /// # use varnucht::{CarriedKind, NewFile, NewName, SECTOR_LENGTH, SectorNumber, Start, Store};
+    /// # struct Nowhere;
+    /// # impl Store for Nowhere {
+    /// #     fn write_sector(&mut self, _: SectorNumber, _: &[u8; SECTOR_LENGTH]) -> std::io::Result<()> {
+    /// #         panic!("it is not asked to")
+    /// #     }
+    /// # }
+    /// # let mut store = Nowhere;
+    /// # let mut disk = Disk::open(Image::blank())?;
+    /// # let name = NewName::new("TUNES")?;
+    /// # let file = NewFile::new(CarriedKind::Code, name, Start::new(1, 32_768)?, b"la la la");
+    /// let _ = disk.save(&file)?; // in memory alone
+    /// let error = disk.hide(&name.name())?.write_to(&mut store, |_, _| {}).unwrap_err();
+    /// assert!(matches!(error, WriteError::Skipped));
+    ///
+    /// // A disk opened anew counts as stored: here its whole image would have to be.
+    /// let disk = Disk::open(disk.into_image())?;
+    /// # let _ = disk;
+    /// # Ok::<(), Box<dyn std::error::Error>>(())
+    /// ```
+    pub fn write_to(&mut self, store: &mut impl Store, mut progress: impl FnMut(usize, usize)) -> Result<(), WriteError> {
+        if self.skipped {
+            return Err(WriteError::Skipped);
+        }
         let of = self.numbers.len();
         for (written, (number, bytes)) in self.iter().enumerate() {
             store
                 .write_sector(number, bytes)
-                .map_err(|error| WriteError { written, of, error })?;
+                .map_err(|error| WriteError::Stopped { written, of, error })?;
             progress(written + 1, of);
         }
+        *self.written = true;
         Ok(())
     }
 }

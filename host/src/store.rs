@@ -21,32 +21,43 @@ impl Store for File {
     }
 }
 
-/// A change whose sectors could not all be written.
+/// A change whose sectors are not all written.
+///
+/// Then the disk in memory is ahead of the store. Write the same sectors again, or open the disk anew from the store; a later
+/// change of this disk would name sectors that build on what is missing there, and [`write_to`](crate::Sectors::write_to)
+/// does not write it.
 #[derive(Debug)]
-pub struct WriteError {
-    /// How many were written before the one that failed.
-    pub written: usize,
-    /// How many there are.
-    pub of: usize,
-    /// Why the next could not be written.
-    pub error: io::Error,
+pub enum WriteError {
+    /// A sector could not be written, and the rest was not tried.
+    Stopped {
+        /// How many were written before the one that failed.
+        written: usize,
+        /// How many there are.
+        of: usize,
+        /// Why the next could not be written.
+        error: io::Error,
+    },
+    /// Nothing was written, because the sectors of an earlier change of this disk were not.
+    Skipped,
 }
 
 impl WriteError {
     /// Whether the sector that failed was the last. Before it only free sectors were written, so the old disk is as it was.
     /// The last one holds the directory: where it failed it may have been written or not.
     pub fn at_last(&self) -> bool {
-        self.written + 1 >= self.of
+        matches!(self, WriteError::Stopped { written, of, .. } if written + 1 >= *of)
     }
 }
 
 impl fmt::Display for WriteError {
     fn fmt(&self, f: &mut fmt::Formatter<'_>) -> fmt::Result {
-        write!(
-            f,
-            "{} of {} sectors were written, and then: {}. ",
-            self.written, self.of, self.error
-        )?;
+        let WriteError::Stopped { written, of, error } = self else {
+            return f.write_str(
+                "nothing was written, because an earlier change of this disk was not. \
+                 What is stored is the disk before that one: open it anew",
+            );
+        };
+        write!(f, "{written} of {of} sectors were written, and then: {error}. ")?;
         f.write_str(match self.at_last() {
             false => "The old disk is still there and reads as before",
             true => "The directory's sector was the one that failed, and may hold the old bytes or the new: check the disk",
@@ -56,6 +67,9 @@ impl fmt::Display for WriteError {
 
 impl Error for WriteError {
     fn source(&self) -> Option<&(dyn Error + 'static)> {
-        Some(&self.error)
+        match self {
+            WriteError::Stopped { error, .. } => Some(error),
+            WriteError::Skipped => None,
+        }
     }
 }

@@ -50,12 +50,12 @@ fn slot_place(slot: usize) -> usize {
     (slot - 1) / 20 * 10_240 + (slot - 1) % 20 * 256
 }
 
-/// A disk with a file of two sectors in each of slots 1 and 2.
+/// A disk with a file of two sectors in each of slots 1 and 2, opened as from a file.
 fn pair() -> Disk {
     let mut disk = blank();
     save(&mut disk, &code("ONE", &body(1_000)));
     save(&mut disk, &code("TWO", &body(900)));
-    disk
+    Disk::open(disk.into_image()).expect("it is sound")
 }
 
 /// The pair with some bytes of slot 2 changed.

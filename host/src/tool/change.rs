@@ -20,7 +20,7 @@ pub fn perform<'a>(given: &Given, done: &str, what: &str, change: impl FnOnce() 
     }
     let (mut file, mut disk) = source::changing(given)?;
     let change = change().map_err(refused)?;
-    let sectors = disk.change(&change).map_err(refused)?;
+    let mut sectors = disk.change(&change).map_err(refused)?;
     let mut progress = Progress::new();
     let written = sectors.write_to(&mut file, |written, of| progress.step(written, of));
     drop(progress);

@@ -2,7 +2,7 @@
 use super::*;
 use std::fs::{self, File};
 use std::io;
-use varnucht::{Change, LONGEST_BODY, SECTOR_LENGTH, Store};
+use varnucht::{Change, LONGEST_BODY, SECTOR_LENGTH, Store, WriteError};
 
 /// A disk in memory, and a file that follows it.
 struct Followed {
@@ -107,7 +107,7 @@ impl Store for Failing {
 fn a_save_that_fails_leaves_the_old_disk() {
     let (old, long) = (pair(), body(20_000));
     let mut disk = old.clone();
-    let sectors = disk.save(&code("LONG", &long)).unwrap();
+    let mut sectors = disk.save(&code("LONG", &long)).unwrap();
     let of = sectors.numbers().len();
     assert_eq!(of, 41);
     for left in 0..of {
@@ -116,7 +116,8 @@ fn a_save_that_fails_leaves_the_old_disk() {
             left,
         };
         let failed = sectors.write_to(&mut store, |_, _| {}).unwrap_err();
-        assert_eq!((failed.written, failed.of, failed.at_last()), (left, of, left + 1 == of));
+        assert!(matches!(failed, WriteError::Stopped { written, of: all, .. } if (written, all) == (left, of)));
+        assert_eq!(failed.at_last(), left + 1 == of);
         assert!(
             failed
                 .to_string()
@@ -133,6 +134,78 @@ fn a_save_that_fails_leaves_the_old_disk() {
     };
     sectors.write_to(&mut store, |_, _| {}).expect("it takes them all");
     assert!(&store.image == disk.image());
+}
+
+/// After a failed write a later change of the same disk writes nothing, because its sectors build on those that are missing;
+/// the same sectors written again make it good.
+#[test]
+fn no_change_is_written_over_a_missing_one() {
+    let (old, long) = (pair(), body(20_000));
+    for left in [0, 2, 40] {
+        let mut disk = old.clone();
+        let mut store = Failing {
+            image: old.image().clone(),
+            left,
+        };
+        let mut sectors = disk.save(&code("LONG", &long)).unwrap();
+        sectors.write_to(&mut store, |_, _| {}).unwrap_err();
+        if left == 2 {
+            store.left = 100;
+            sectors.write_to(&mut store, |_, _| {}).expect("the same again");
+            disk.hide(&name("ONE"))
+                .unwrap()
+                .write_to(&mut store, |_, _| {})
+                .expect("the next");
+            assert!(&store.image == disk.image());
+            continue;
+        }
+        store.left = 100;
+        let cut = store.image.clone();
+        for change in [Change::Hide(name("ONE")), Change::Erase(name("TWO"))] {
+            let skipped = disk.change(&change).unwrap().write_to(&mut store, |_, _| {}).unwrap_err();
+            assert!(matches!(skipped, WriteError::Skipped) && !skipped.at_last());
+            assert!(skipped.to_string().starts_with("nothing was written"), "{skipped}");
+            assert!(store.image == cut, "nothing is written");
+        }
+        // What is stored is a disk, and goes on when it is opened.
+        let mut disk = Disk::open(store.image.clone()).expect("it is sound");
+        disk.hide(&name("ONE"))
+            .unwrap()
+            .write_to(&mut store, |_, _| {})
+            .expect("it takes it");
+        assert!(&store.image == disk.image());
+    }
+}
+
+/// A change that nobody wrote counts as missing, a refused one does not.
+#[test]
+fn a_change_in_memory_alone_is_missing_in_the_file() {
+    let mut disk = pair();
+    let mut store = Failing {
+        image: disk.image().clone(),
+        left: 100,
+    };
+    disk.hide(&name("THREE")).unwrap_err();
+    disk.hide(&name("ONE"))
+        .unwrap()
+        .write_to(&mut store, |_, _| {})
+        .expect("none is missing");
+    let _ = disk.try_change(&Change::Erase(name("ONE"))).unwrap();
+    disk.show(&name("ONE"))
+        .unwrap()
+        .write_to(&mut store, |_, _| {})
+        .expect("a trial is no change");
+    drop(disk.protect(&name("ONE")).unwrap());
+    let mut copy = disk.clone();
+    for disk in [&mut disk, &mut copy] {
+        let skipped = disk
+            .release(&name("ONE"))
+            .unwrap()
+            .write_to(&mut store, |_, _| {})
+            .unwrap_err();
+        assert!(matches!(skipped, WriteError::Skipped));
+    }
+    assert!(&store.image == pair().image());
 }
 
 /// A refused change alters nothing, and the disk goes on as before.

@@ -161,6 +161,30 @@ fn the_example_says_refusals_in_words() {
     }
 }
 
+/// Where what they print is lost, the examples do not say that all is well.
+#[test]
+fn a_full_device_is_no_success() {
+    for language in BOTH {
+        let folder = Folder::new(&format!("full-{language:?}"));
+        let tunes = example(language, &folder);
+        let source = root().join("examples/files.c");
+        let files = build(language, &["-O2"], &[source], &folder, "files");
+        let sample = root().join("samples/sample.mgt");
+        let onto_full = |program: &Path, arguments: &[&Path]| {
+            let full = fs::File::options().write(true).open("/dev/full").expect("the full device");
+            let output = Command::new(program).args(arguments).stdout(full).output().expect("it runs");
+            (
+                output.status.code(),
+                String::from_utf8_lossy(&output.stderr).contains("standard output: "),
+            )
+        };
+        assert_eq!(onto_full(&files, &[&sample]), (Some(2), true));
+        assert_eq!(onto_full(&tunes, &[&sample]), (Some(1), true));
+        assert_eq!(onto_full(&tunes, &[&sample, Path::new("TUNES")]), (Some(1), true));
+        assert_eq!(onto_full(&tunes, &[&sample, Path::new("AUTO")]), (Some(1), true));
+    }
+}
+
 /// The example writes the sectors that the save names, in that order, each whole and flushed before the next. `watch.c`
 /// stands between it and the system and says each write and flush.
 #[test]
