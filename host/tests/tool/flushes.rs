@@ -1,23 +1,8 @@
 //! The sectors of a change go to the file one by one, in the order that it names them, each whole and flushed before the next.
 //! `watch.c`, loaded in front of the system's library, notes what the tool writes and when it flushes.
-use crate::support::{Folder, TOOL, body, disk, on};
+use crate::support::{Folder, TOOL, body, disk, library, on};
 use std::fs;
-use std::path::Path;
 use std::process::Command;
-
-/// Compiles the watcher.
-fn watcher(folder: &Folder) -> std::path::PathBuf {
-    let library = folder.path("watch.so");
-    let source = Path::new(env!("CARGO_MANIFEST_DIR")).join("tests/tool/watch.c");
-    let output = Command::new("cc")
-        .args(["-shared", "-fPIC", "-O1", "-o"])
-        .args([&library, &source])
-        .arg("-ldl")
-        .output()
-        .expect("the compiler `cc` is needed for this test");
-    assert!(output.status.success(), "{}", String::from_utf8_lossy(&output.stderr));
-    library
-}
 
 /// The sector numbers that a dry run prints.
 fn named(printed: &str) -> Vec<usize> {
@@ -35,7 +20,7 @@ fn named(printed: &str) -> Vec<usize> {
 #[test]
 fn each_sector_is_flushed_before_the_next() {
     let folder = Folder::new();
-    let watch = watcher(&folder);
+    let watch = library(&folder, "watch.c");
     let image = folder.image(&disk(&[("OLD", 3_000), ("KEPT", 600)]));
     let file = folder.file("file", &body(20_000));
     let file = file.to_str().expect("a path in text");
