@@ -322,6 +322,8 @@ fn help_and_version() {
         assert!(one.done().starts_with(&format!("varnucht {command} IMAGE")));
         assert_eq!(run([command, "--help"]).done(), one.done());
         assert!(one.text().contains("\n  3  something could not be read or written\n"));
+        let only_reads = ["check", "list", "map", "read", "sector"].contains(&command);
+        assert_eq!(one.text().contains("\nIMAGE may be a pipe, "), only_reads, "{command}");
         assert!(
             one.text()
                 .lines()
