@@ -13,5 +13,7 @@ mod map;
 mod names;
 #[path = "tool/support.rs"]
 mod support;
+#[path = "tool/terminal.rs"]
+mod terminal;
 #[path = "tool/writing.rs"]
 mod writing;

@@ -1,10 +1,13 @@
-//! The sample disk: the script makes it anew, byte for byte, and the tool prints of it what is kept beside it.
+//! The sample disk: the script makes it anew, byte for byte, and the tool prints of it what is kept beside it. The lines for
+//! the shell in the README, run as they are printed.
 #[path = "tool/support.rs"]
 mod support;
 
+use std::env;
+use std::ffi::OsString;
 use std::fs;
-use std::path::PathBuf;
-use std::process::Command;
+use std::path::{Path, PathBuf};
+use std::process::{Command, Stdio};
 use support::*;
 use varnucht::Name;
 
@@ -69,4 +72,45 @@ fn the_bodies_read_back() {
     );
     assert_eq!((marks("DRAFT"), marks("TEMP")), (None, None));
     println!("{} files", kinds.len());
+}
+
+/// The lines of the README's block for the shell.
+fn shell_lines() -> Vec<String> {
+    let readme = fs::read_to_string(Path::new(env!("CARGO_MANIFEST_DIR")).join("../README.md")).expect("the README");
+    let (_, after) = readme.split_once("\n## From the shell\n").expect("it has the section");
+    // A block of a later section is another.
+    let section = after.split("\n## ").next().unwrap_or_default();
+    let block = section.lines().skip_while(|line| *line != "```sh").skip(1);
+    block
+        .take_while(|line| *line != "```")
+        .filter(|line| !line.is_empty())
+        .map(String::from)
+        .collect()
+}
+
+/// PATH with the tool's folder in front.
+fn path_to_tool() -> OsString {
+    let tool = Path::new(TOOL).parent().expect("the tool is in a folder").to_path_buf();
+    let others = env::var_os("PATH").unwrap_or_default();
+    env::join_paths([tool].into_iter().chain(env::split_paths(&others))).expect("a path of folders")
+}
+
+#[test]
+fn the_readmes_lines_run_as_they_are_printed() {
+    let folder = Folder::new();
+    folder.file("tunes.bin", &body(10_000));
+    let lines = shell_lines();
+    assert!(!lines.is_empty(), "the README has no lines for the shell");
+    for line in &lines {
+        let mut shell = Command::new("sh");
+        shell
+            .args(["-c", line])
+            .current_dir(folder.path(""))
+            .env("PATH", path_to_tool());
+        let run = Run::of(shell.stdin(Stdio::null()).output().expect("the shell runs"));
+        assert_eq!((run.status, run.err.as_str()), (0, ""), "{line}");
+    }
+    assert!(fs::read(folder.path("copy.bin")).expect("the copy is there") == body(10_000));
+    assert_eq!(folder.names(), ["copy.bin", "new.mgt", "tunes.bin"]);
+    println!("{} lines", lines.len());
 }

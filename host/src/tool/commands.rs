@@ -96,6 +96,9 @@ const SAFE: &str = "The sectors are written in the order that keeps the disk sou
 to the disk before the next: cut short anywhere, IMAGE holds the old disk
 until the last one is written. IMAGE is locked meanwhile.";
 
+/// What is said of IMAGE where it is only read.
+const PIPE: &str = "IMAGE may be a pipe, read to its end: one that nobody writes to is waited for.";
+
 /// What is said of a save.
 const START: &str = "The usual start, page 1 and offset 32768, is address 32768.";
 
@@ -121,7 +124,7 @@ pub const COMMANDS: &[Command] = &[
         places: &["IMAGE"],
         options: &[&NO_WAIT],
         brief: "tell whether a disk is sound",
-        more: &["Prints `accepted`, or says which slot is wrong and why."],
+        more: &["Prints `accepted`, or says which slot is wrong and why.", PIPE],
         run: check::run,
     },
     Command {
@@ -129,8 +132,11 @@ pub const COMMANDS: &[Command] = &[
         places: &["IMAGE"],
         options: &[&NO_WAIT],
         brief: "list the files, hidden ones too",
-        more: &["Marks: `h` hidden, `p` protected. Length and start address are given for the
-kinds that have them, 16 to 20."],
+        more: &[
+            "Marks: `h` hidden, `p` protected. Length and start address are given for the
+kinds that have them, 16 to 20.",
+            PIPE,
+        ],
         run: list::run,
     },
     Command {
@@ -138,8 +144,11 @@ kinds that have them, 16 to 20."],
         places: &["IMAGE"],
         options: &[&COLOR, &NO_WAIT],
         brief: "draw the 1,600 sectors and whose they are",
-        more: &["A column is a track and a row a sector, 1 to 10; the first side is above the
-second. Each file has a sign, and the signs are named below."],
+        more: &[
+            "A column is a track and a row a sector, 1 to 10; the first side is above the
+second. Each file has a sign, and the signs are named below.",
+            PIPE,
+        ],
         run: map::run,
     },
     Command {
@@ -147,7 +156,7 @@ second. Each file has a sign, and the signs are named below."],
         places: &["IMAGE", "NAME"],
         options: &[&OUTPUT, &FORCE, &NO_WAIT],
         brief: "give a file's body",
-        more: &[NAMES],
+        more: &[PIPE, NAMES],
         run: read::run,
     },
     Command {
@@ -176,7 +185,7 @@ second. Each file has a sign, and the signs are named below."],
         places: &["IMAGE", "TRACK", "SECTOR"],
         options: &[&NO_WAIT],
         brief: "dump one raw sector; no directory is checked",
-        more: &["Tracks are 0 to 79 and 128 to 207, sectors 1 to 10.", NUMBERS],
+        more: &["Tracks are 0 to 79 and 128 to 207, sectors 1 to 10.", NUMBERS, PIPE],
         run: dump::run,
     },
     Command {

@@ -1,6 +1,6 @@
 //! `sector`: one raw sector in hexadecimal.
 use super::failure::{Failure, Outcome};
-use super::output;
+use super::output::{self, shown};
 use super::source;
 use super::values;
 use super::words::Given;
@@ -12,7 +12,8 @@ pub fn run(given: &Given) -> Outcome {
     let sector = values::number(given, given.word(2))?;
     let image = source::image(given)?;
     let text = dump(&image, track, sector);
-    let what = format!("track {track}, sector {sector}");
+    // The words as they were typed: a number that is too large counts as another.
+    let what = format!("track {}, sector {}", shown(given.word(1)), shown(given.word(2)));
     output::print(text.map_err(|refused| Failure::refused(given.word(0), &what, refused))?)
 }
 

@@ -23,6 +23,11 @@ fn replace(path: &OsStr, bytes: &[u8], force: bool) -> io::Result<()> {
         Ok(older) if !older.is_file() => File::options().write(true).open(path)?.write_all(bytes),
         // Where the path is a link, the file that it leads to is replaced and not the link.
         Ok(older) => put(&fs::canonicalize(path)?, bytes, Some(&older)),
+        // Neither is a link replaced that leads to no file.
+        Err(error) if force && Path::new(path).is_symlink() => Err(match error.kind() {
+            ErrorKind::NotFound => io::Error::other("it is a link that leads nowhere"),
+            _ => error,
+        }),
         Err(_) => put(Path::new(path), bytes, None),
     }
 }

@@ -34,7 +34,7 @@ impl fmt::Display for AskedName {
 }
 
 /// A number, decimal or after `0x` hexadecimal. One too large for 32 bits counts as the largest: it is out of every range
-/// that a number is asked for, just the same.
+/// that a number is asked for, just the same. So a message shows the word and not the number.
 pub fn number(given: &Given, word: &OsStr) -> Result<u32, Failure> {
     let text = word.to_str().unwrap_or_default();
     let (digits, base) = text.strip_prefix("0x").map_or((text, 10), |hex| (hex, 16));

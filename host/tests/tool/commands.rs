@@ -283,10 +283,14 @@ fn sector_dumps_any_image() {
         ("208", "1"),
         ("4", "0"),
         ("4", "11"),
+        ("0x50", "01"),
         ("4294967295", "1"),
-        ("99999999999", "1"),
+        ("4294967296", "1"),
+        ("99999999999999", "1"),
+        ("4", "0xFFFFFFFFFFFFFFFF"),
     ] {
-        on("sector", &image, [track, sector]).fails(1, "refusal 21: no such drive, track or sector\n");
+        let said = format!("disk.mgt: track {track}, sector {sector}: refusal 21: no such drive, track or sector\n");
+        on("sector", &image, [track, sector]).fails(1, &said);
     }
     for words in [["x", "1"], ["1", ""], ["1.5", "1"], ["0x", "1"], ["+1", "1"]] {
         on("sector", &image, words).fails(2, "is not a number");
@@ -318,6 +322,8 @@ fn help_and_version() {
         assert!(one.done().starts_with(&format!("varnucht {command} IMAGE")));
         assert_eq!(run([command, "--help"]).done(), one.done());
         assert!(one.text().contains("\n  3  something could not be read or written\n"));
+        let only_reads = ["check", "list", "map", "read", "sector"].contains(&command);
+        assert_eq!(one.text().contains("\nIMAGE may be a pipe, "), only_reads, "{command}");
         assert!(
             one.text()
                 .lines()

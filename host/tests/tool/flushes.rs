@@ -1,22 +1,23 @@
 //! The sectors of a change go to the file one by one, in the order that it names them, each whole and flushed before the next.
-//! `watch.c`, loaded in front of the system's library, notes what the tool writes and when it flushes.
-use crate::support::{Folder, TOOL, body, disk, on};
+//! A file that the tool makes is whole and flushed before it has its name. `watch.c`, loaded in front of the system's library,
+//! notes what the tool writes, when it flushes, and when it names a file.
+use crate::support::{Folder, Run, body, disk, library, on, tool};
 use std::fs;
 use std::path::Path;
-use std::process::Command;
 
-/// Compiles the watcher.
-fn watcher(folder: &Folder) -> std::path::PathBuf {
-    let library = folder.path("watch.so");
-    let source = Path::new(env!("CARGO_MANIFEST_DIR")).join("tests/tool/watch.c");
-    let output = Command::new("cc")
-        .args(["-shared", "-fPIC", "-O1", "-o"])
-        .args([&library, &source])
-        .arg("-ldl")
-        .output()
-        .expect("the compiler `cc` is needed for this test");
-    assert!(output.status.success(), "{}", String::from_utf8_lossy(&output.stderr));
-    library
+/// Runs the tool in the folder with these words, and gives what the watcher noted too.
+fn watched(folder: &Folder, watch: &Path, words: &[&str]) -> (Run, String) {
+    let notes = folder.path("notes");
+    let mut command = tool(words);
+    command
+        .current_dir(folder.path(""))
+        .env("LD_PRELOAD", watch)
+        .env("WATCH", &notes);
+    let run = Run::of(command.output().expect("the tool runs"));
+    // Where nothing is noted there is no file.
+    let noted = fs::read_to_string(&notes).unwrap_or_default();
+    let _ = fs::remove_file(&notes);
+    (run, noted)
 }
 
 /// The sector numbers that a dry run prints.
@@ -35,7 +36,7 @@ fn named(printed: &str) -> Vec<usize> {
 #[test]
 fn each_sector_is_flushed_before_the_next() {
     let folder = Folder::new();
-    let watch = watcher(&folder);
+    let watch = library(&folder, "watch.c");
     let image = folder.image(&disk(&[("OLD", 3_000), ("KEPT", 600)]));
     let file = folder.file("file", &body(20_000));
     let file = file.to_str().expect("a path in text");
@@ -52,19 +53,38 @@ fn each_sector_is_flushed_before_the_next() {
         let planned = on(command, &image, words.iter().copied().chain(["--dry-run"]));
         let sectors = named(planned.done());
         assert_eq!(sectors.len(), if command == "save" { 41 } else { 1 }, "{command}");
-        let notes = folder.path(command);
-        let mut watched = Command::new(TOOL);
-        watched.arg(command).arg(&image).args(words);
-        let output = watched
-            .env("LD_PRELOAD", &watch)
-            .env("WATCH", &notes)
-            .output()
-            .expect("the tool runs");
-        assert!(output.status.success(), "{}", String::from_utf8_lossy(&output.stderr));
+        let words: Vec<&str> = [command, "disk.mgt"].into_iter().chain(words.iter().copied()).collect();
+        let (run, noted) = watched(&folder, &watch, &words);
+        run.done();
         let expected: String = sectors
             .iter()
             .map(|sector| format!("write 512 at {}\nflush\n", 512 * sector))
             .collect();
-        assert_eq!(fs::read_to_string(&notes).expect("the notes"), expected, "{command}");
+        assert_eq!(noted, expected, "{command}");
     }
+}
+
+/// A loss of power leaves such a file whole, or leaves what was there before.
+#[test]
+fn a_made_file_is_flushed_before_it_has_its_name() {
+    let folder = Folder::new();
+    let watch = library(&folder, "watch.c");
+    folder.image(&disk(&[("TUNES", 20_000)]));
+    folder.file("older", b"older");
+    let made = [
+        ("blank new.mgt", "new.mgt", vec![0; 819_200]),
+        ("read disk.mgt TUNES -o new", "new", body(20_000)),
+        ("read disk.mgt TUNES -o another --force", "another", body(20_000)),
+        ("read disk.mgt TUNES -o older --force", "older", body(20_000)),
+    ];
+    for (line, name, bytes) in made {
+        let (run, noted) = watched(&folder, &watch, &line.split(' ').collect::<Vec<_>>());
+        assert_eq!((run.status, run.err.as_str()), (0, ""), "{line}");
+        let expected = format!("write {} at 0\nflush\nname {name}\n", bytes.len());
+        assert_eq!(noted, expected, "{line}");
+        assert!(fs::read(folder.path(name)).unwrap() == bytes, "{line}");
+    }
+    let (run, noted) = watched(&folder, &watch, &["read", "disk.mgt", "TUNES", "-o", "older"]);
+    run.fails(3, "it is there already");
+    assert_eq!(noted, "");
 }

@@ -16,15 +16,6 @@ fn signs(map: &str) -> Vec<char> {
     (0..1_600).filter_map(SectorNumber::new).map(sign).collect()
 }
 
-/// What a terminal shows of a text with colours.
-fn plain(text: &str) -> String {
-    let mut parts = text.split("\x1b[");
-    let first = parts.next().unwrap_or_default().to_string();
-    parts.fold(first, |shown, part| {
-        shown + part.split_once('m').expect("a colour ends in m").1
-    })
-}
-
 #[test]
 fn every_sector_has_its_sign() {
     let folder = Folder::new();

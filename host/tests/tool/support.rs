@@ -155,6 +155,29 @@ pub fn fed<S: AsRef<OsStr>>(words: impl IntoIterator<Item = S>, input: &[u8]) ->
     Run::of(child.wait_with_output().expect("the tool ends"))
 }
 
+/// Compiles a file of C beside the tests to a library that can be loaded in front of the system's.
+pub fn library(folder: &Folder, source: &str) -> PathBuf {
+    let library = folder.path(source).with_extension("so");
+    let source = Path::new(env!("CARGO_MANIFEST_DIR")).join("tests/tool").join(source);
+    let output = Command::new("cc")
+        .args(["-shared", "-fPIC", "-O1", "-o"])
+        .args([&library, &source])
+        .arg("-ldl")
+        .output()
+        .expect("the compiler `cc` is needed for this test");
+    assert!(output.status.success(), "{}", String::from_utf8_lossy(&output.stderr));
+    library
+}
+
+/// What a terminal shows of a text with colours.
+pub fn plain(text: &str) -> String {
+    let mut parts = text.split("\x1b[");
+    let first = parts.next().unwrap_or_default().to_string();
+    parts.fold(first, |shown, part| {
+        shown + part.split_once('m').expect("a colour ends in m").1
+    })
+}
+
 /// No more words.
 pub const NONE: [&str; 0] = [];
 

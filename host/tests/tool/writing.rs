@@ -338,3 +338,26 @@ fn an_older_file_stays_where_writing_fails() {
     assert_eq!(fs::metadata(&older).unwrap().mode() & 0o777, 0o600, "and so do its rights");
     assert!(Disk::open(Image::from_bytes(fs::read(&image).unwrap()).unwrap()).is_ok());
 }
+
+/// A link that leads to no file stays, forced or not, and what it leads to is not made.
+#[test]
+fn a_link_that_leads_nowhere_stays() {
+    let folder = Folder::new();
+    let image = folder.image(&disk(&[("ONE", 10)]));
+    let (link, circle) = (folder.path("link"), folder.path("circle"));
+    std::os::unix::fs::symlink("nothing", &link).unwrap();
+    std::os::unix::fs::symlink("circle", &circle).unwrap();
+    let read = |path: &Path, force: &[&str]| {
+        let words = ["ONE", "-o", path.to_str().unwrap()];
+        on("read", &image, words.iter().chain(force))
+    };
+    read(&link, &["--force"]).fails(3, "link: it is a link that leads nowhere\n");
+    read(&circle, &["--force"]).fails(3, "circle: Too many levels of symbolic links");
+    for path in [&link, &circle] {
+        read(path, &[]).fails(3, ": it is there already, and stays as it is\n");
+        on("blank", path, NONE).fails(3, ": it is there already, and stays as it is\n");
+    }
+    assert_eq!(fs::read_link(&link).unwrap(), Path::new("nothing"));
+    assert_eq!(fs::read_link(&circle).unwrap(), Path::new("circle"));
+    assert_eq!(folder.names(), ["circle", "disk.mgt", "link"]);
+}
