@@ -10,6 +10,9 @@ mod disks;
 #[allow(dead_code)]
 #[path = "../tests/support/geometry.rs"]
 mod geometry;
+#[allow(dead_code)]
+#[path = "../tests/support/random.rs"]
+mod random;
 #[path = "beside/rows.rs"]
 mod rows;
 #[path = "beside/sides.rs"]

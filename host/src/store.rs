@@ -53,8 +53,8 @@ impl fmt::Display for WriteError {
     fn fmt(&self, f: &mut fmt::Formatter<'_>) -> fmt::Result {
         let WriteError::Stopped { written, of, error } = self else {
             return f.write_str(
-                "nothing was written, because an earlier change of this disk was not. \
-                 What is stored is the disk before that one: open it anew",
+                "nothing was written, because an earlier change of this disk was not written whole. \
+                 Open the disk anew from where it is stored",
             );
         };
         write!(f, "{written} of {of} sectors were written, and then: {error}. ")?;

@@ -24,7 +24,7 @@ pub record Walked (d s : List ℕ) (left bit at : ℕ) : Type 0 where
   pub place : at ≡ placeOrEnd bit
   pub rest : broken (facts s) (sectorsOf d s) ≡ roams (mapOf s) (sectorsOf d s) (left - 1) bit
 
--- the place lies in the image
+-- the bit is one that a map has, and its place lies in the image
 pub walked-inside : (d s : List ℕ) (left bit at : ℕ) → Walked d s left bit at → (bit < 1560) × (at < imageSize)
 walked-inside d s left bit at w =
     let h = map-small s bit (w .own) in

@@ -136,8 +136,7 @@ pub fn start(image: &[u8], name: &[u8]) -> Answer
 }
 
 // Copies the body of slot `s` along its links to the front of `buf`: a run of at most 510 bytes from each sector, and
-// from the first only those past the header's nine. The next sector's place comes from the link itself, and before the
-// copy, so that the one need not wait for the other.
+// from the first only those past the header's nine. The next sector's place comes from the link itself, not from its bit.
 fn copy_body(image: &[u8], s: &[u8], buf: &mut [u8])
     requires { ⌜ Readable (now image) (now s) ⌝ }
     ensures { λ _. ⌜ now (buf .exit) ≡ put (now (buf .entry)) 0 (body (fileOf (now (image .entry)) (now (s .entry)))) ⌝ }

@@ -1,6 +1,7 @@
 //! The disks of the benchmark, made by `paper::save` and `paper::erase`; in one the sectors of the file are then shuffled.
 
 use crate::geometry::{address, bit_place};
+use crate::random::Random;
 use paper::Wish;
 use std::rc::Rc;
 
@@ -44,15 +45,17 @@ pub fn one() -> Disk {
 /// at the next place finds, and the rest anywhere.
 pub fn scattered() -> Disk {
     let Disk { image: whole, last, .. } = one();
-    let drawn = body(SECTORS);
+    let mut random = Random::new(1);
     let mut runs: Vec<Vec<usize>> = vec![];
     for bit in 0..SECTORS {
         match runs.last_mut() {
-            Some(run) if drawn[bit] < 128 => run.push(bit),
+            Some(run) if random.coin() => run.push(bit),
             _ => runs.push(vec![bit]),
         }
     }
-    runs.sort_by_key(|run| drawn[run[0]]);
+    for end in (1..runs.len()).rev() {
+        runs.swap(end, random.below(end + 1));
+    }
     let order = runs.concat();
     let mut image = whole.to_vec();
     image[13..15].copy_from_slice(&address(order[0]));
