@@ -22,7 +22,10 @@ use Rattle.directory.specs.Directory.{held, directory, seen}
 use Rattle.directory.proofs.Places.{slots-count, slot-front, slot-sector, slots-apart, data-all, dir-not-data, slot-data-apart}
 use Rattle.directory.proofs.Live.{directory-some, directory-live, directory-dead, directory-past}
 use Rattle.disk.specs.Look.{Look, look, slotsOf, extra}
+use Rattle.disk.specs.Check.{checkDisk}
+use Rattle.disk.specs.Sound.{Sound}
 use Rattle.disk.proofs.Look.{look-some, look-none, look-agree}
+use Rattle.disk.proofs.Sound.{sound}
 use Rattle.steps.specs.Sectors.{sector}
 use Rattle.steps.specs.Steps.{Inside}
 use Rattle.steps.proofs.Steps.{put-other}
@@ -33,6 +36,28 @@ use Rattle.plans.specs.Plan.{upd, entryOf}
 pub slots-some : (l : Look) (i : ℕ) (f : File) → l .files i ≡ some f → slotsOf l i ≡ some (f .bytes)
 unfolding slotsOf
 slots-some l i f e = ap (held none (λ f. some (f .bytes))) e
+
+-- the file in a live slot of a look's directory
+pub slot-file : (l : Look) (i : ℕ) (s : List ℕ) → slotsOf l i ≡ some s → (f : File) × (l .files i ≡ some f) × (f .bytes ≡ s)
+unfolding slotsOf
+slot-file l i s e = by (l .files i) refl e
+  where
+    by : (o : Option File) → l .files i ≡ o → held none (λ f. some (f .bytes)) o ≡ some s → (f : File) × (l .files i ≡ some f) × (f .bytes ≡ s)
+    by none q w = absurd (Option·some-ne-none s (sym w))
+    by (some f) q w = (f, q, Option·some-injective (f .bytes) s w)
+
+pub slot-none : (l : Look) (i : ℕ) → slotsOf l i ≡ none → l .files i ≡ none
+unfolding slotsOf
+slot-none l i e = by (l .files i) refl e
+  where
+    by : (o : Option File) → l .files i ≡ o → held none (λ f. some (f .bytes)) o ≡ none → l .files i ≡ none
+    by none q w = q
+    by (some f) q w = absurd (Option·some-ne-none (f .bytes) w)
+
+-- an accepted disk is sound
+pub disk-sound : (d : List ℕ) → checkDisk d ≡ none → Sound (look d)
+unfolding checkDisk
+disk-sound d ok = sound (look d) ok
 
 module _ (l : Look) (i : ℕ) (o : Option File) where
   pub upd-same : upd l i o .files i ≡ o

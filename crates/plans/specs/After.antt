@@ -57,7 +57,7 @@ pub record AfterErase (d n new : List ℕ) : Type 0 where
   -- the name is refused 15
   pub gone : Gone new n
   -- "So freed sectors and slots are used again."
-  pub freed : (b : ℕ) → has (mapOf (file .bytes)) b ≡ true → freeBit (look new) b ≡ true
+  pub freed : (b : ℕ) → has (mapOf (file .bytes)) b ≡ true → freeBit 0 (directory new) b ≡ true
   pub more : free 0 (directory new) ≡ free 0 (directory d) + countOf (file .bytes)
 
 -- "Rename changes bytes 1 to 10"

@@ -11,7 +11,7 @@ use Rattle.buffers.specs.Bytes.{any}
 use Rattle.refusals.specs.Order.{Refusal, refuse}
 use Rattle.slots.specs.Slot.{protected, carried, nameOf}
 use Rattle.slots.specs.Name.{sameName, askable, padded}
-use Rattle.directory.specs.Places.{slots}
+use Rattle.directory.specs.Places.{slotCount, slots}
 use Rattle.directory.specs.Directory.{held}
 use Rattle.directory.specs.Survey.{free}
 use Rattle.directory.specs.Find.{find}
@@ -55,7 +55,7 @@ slotNamed l n = held 0 suc (find (slotsOf l) n)
 
 -- a slot has byte 0 zero
 unfoldable pub someFree : Look → Bool
-someFree l = any slots (λ i. held true (λ s. false) (slotsOf l i))
+someFree l = any (slotCount (extra l)) (λ i. held true (λ s. false) (slotsOf l i))
 
 -- start page above 31, or offset outside 32,768 to 49,151
 abbrev pub startOutside : ℕ → ℕ → Bool
