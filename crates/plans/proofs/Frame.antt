@@ -1,5 +1,5 @@
 -- What bytes put into one slot, or into one data sector, change of a look, and what they leave.
-use Prim.Native.Nat.{ℕ, _+_, _≤_, _<_}
+use Prim.Native.Nat.{ℕ, _+_, _*_, _≤_, _<_}
 use mathlib.Core.Path.{_≡_, refl, sym, ap, ap₂, _∙_, fun-ext}
 use mathlib.Core.Bool.{Bool, true, false, cond, _&&_}
 use mathlib.Core.List.{List}
@@ -174,12 +174,11 @@ module _ (d : List ℕ) (z : length d ≡ imageSize) (i : ℕ) (h : i < slots) (
   new = put d (slotAt i + o) y
 
   -- as a step's bytes in the slot's sector
-  pub inside-slot : Inside (length d) (dirSector i) (record { place = slotAt i + o; bytes = y })
-  inside-slot = record {
-    low = omega (arith, slot-sector i);
-    high = omega (arith, slot-sector i);
-    fits = omega (arith, slot-front i h);
-  }
+  pub inside-slot : Inside (dirSector i) (record { place = slotAt i + o; bytes = y })
+  inside-slot = record { low = omega (arith, slot-sector i); high = omega (arith, slot-sector i) }
+
+  pub there-slot : dirSector i * 512 + 512 ≤ length d
+  there-slot = omega (arith, slot-sector i, slot-front i h)
 
   pub slot-new : slotBytes (put d (slotAt i + o) y) i ≡ put (slotBytes d i) o y
   slot-new = part-put-inside d (slotAt i) 256 o y (omega (arith, slot-front i h)) k
@@ -192,7 +191,7 @@ module _ (d : List ℕ) (z : length d ≡ imageSize) (i : ℕ) (h : i < slots) (
 
   pub data-stays : (b : ℕ) → b < 1560 → sectorAt (put d (slotAt i + o) y) b ≡ sectorAt d b
   data-stays b l =
-      put-other (length d) (dirSector i) (record { place = slotAt i + o; bytes = y }) d inside-slot (bitNumber b)
+      put-other (dirSector i) (record { place = slotAt i + o; bytes = y }) d inside-slot (bitNumber b)
       (dir-not-data 0 b i (omega arith) (data-all b l) (omega (arith, slots-count)))
 
   files-stay : (s : List ℕ) → fileOf new s ≡ fileOf d s
@@ -222,15 +221,18 @@ module _ (d : List ℕ) (z : length d ≡ imageSize) (c : ℕ) (hc : c < 1560) (
   after = put d (bitPlace c) x
 
   -- as a step's bytes
-  pub inside-data : Inside (length d) (bitNumber c) (record { place = bitPlace c; bytes = x })
-  inside-data = record { low = omega arith; high = omega arith; fits = omega (arith, place-inside c hc) }
+  pub inside-data : Inside (bitNumber c) (record { place = bitPlace c; bytes = x })
+  inside-data = record { low = omega arith; high = omega arith }
+
+  pub there-data : bitNumber c * 512 + 512 ≤ length d
+  there-data = omega (arith, place-inside c hc)
 
   pub sector-new : sectorAt (put d (bitPlace c) x) c ≡ x
   sector-new = ap (λ (n : ℕ). part (bitPlace c) n after) (sym hx) ∙ part-put d (bitPlace c) x (omega (arith, place-inside c hc))
 
   -- by sector numbers, and by map bits
   pub number-else : (t : ℕ) → (t ≡ bitNumber c → ⊥) → sector (put d (bitPlace c) x) t ≡ sector d t
-  number-else = put-other (length d) (bitNumber c) (record { place = bitPlace c; bytes = x }) d inside-data
+  number-else = put-other (bitNumber c) (record { place = bitPlace c; bytes = x }) d inside-data
 
   pub sector-else : (b : ℕ) → b < 1560 → (b ≡ c → ⊥) → sectorAt (put d (bitPlace c) x) b ≡ sectorAt d b
   sector-else b hb n = number-else (bitNumber b) (λ q. n (number-injective b c hb hc q))
