@@ -12,17 +12,14 @@ use refusals::Reason;
 use refusals::Refused;
 use refusals::Verdict;
 
-// Rows 10 and 11 at all slots, of which `files` are live: past the last of them there is none to look at.
+// Rows 10 and 11 at all slots, of which `files` are live: past the last of these there is none to look at.
 fn all_chains(image: &[u8], files: usize) -> Verdict
     requires { ⌜ files ≡ liveAmong (directory (now image)) slots ⌝ }
     ensures { λ r. ⌜ replyOf r ≡ sweep slots (chainAt (look (now (image .entry)))) ⌝ }
 {
     let mut seen: usize = 0;
     let mut i: usize = 0;
-    while i < 80 {
-        if files <= seen {
-            return Verdict::Sound;
-        }
+    while seen < files {
         let s = directory::slot_at(image, i);
         i += 1;
         if slots::is_live(s) {

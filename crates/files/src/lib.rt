@@ -38,10 +38,7 @@ fn list_into(dir: &[u8], end: usize, buf: &mut [u8])
 {
     let mut at: usize = 0;
     let mut i: usize = 0;
-    while i < 80 {
-        if end <= at {
-            return;
-        }
+    while at < end {
         let s = directory::slot_at(dir, i);
         i += 1;
         if slots::is_live(s) {

@@ -11,9 +11,8 @@ use lib.Bits.{bitXor}
 use lib.Dec.{eqb}
 use lib.ListN.{length, getD, drop, replicate, length-append, length-replicate, getD-replicate, drop-of-length-le, List·getD-append}
 use lib.Seq.{drop-cons, getD-append-add, ext-getD, take-all}
-use Rattle.buffers.specs.Bytes.{part, put}
+use Rattle.buffers.specs.Bytes.{part, put, wordOr}
 use Rattle.buffers.proofs.Lists.{length-put, length-part, part-at, put-in, put-after, below-or-not}
-use Rattle.maps.specs.Bits.{wordOr}
 use Rattle.slots.specs.Name.{sameName, padded, keyOf}
 
 pub same-refl : (xs : List ℕ) → sameName xs xs ≡ true
