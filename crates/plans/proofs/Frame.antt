@@ -18,7 +18,7 @@ use Rattle.slots.specs.Slot.{isLive, mapOf}
 use Rattle.chains.specs.File.{File, sectorAt, sectorsOf, fileOf}
 use Rattle.chains.proofs.Laws.{map-small, sectors-own, file-agree}
 use Rattle.directory.specs.Places.{slots, slotAt, slotBytes, dirSector}
-use Rattle.directory.specs.Directory.{held, directory, seen}
+use Rattle.directory.specs.Directory.{held, slotsRead, seen, directory}
 use Rattle.directory.proofs.Places.{slots-count, slot-front, slot-sector, slots-apart, data-all, dir-not-data, slot-data-apart}
 use Rattle.directory.proofs.Live.{directory-some, directory-live, directory-dead, directory-past}
 use Rattle.disk.specs.Look.{Look, look, slotsOf, extra}
@@ -153,7 +153,7 @@ look-entry d i h = by (isLive (slotBytes d i)) refl
 
 -- an image with the same bytes in a slot says the same of it
 directory-stays : (d e : List ℕ) (j : ℕ) → slotBytes e j ≡ slotBytes d j → directory e j ≡ directory d j
-unfolding directory seen
+unfolding directory seen slotsRead
 directory-stays d e j q = ap (λ (s : List ℕ). cond (ltb j slots && isLive s) (some s) none) q
 
 -- ---- bytes put inside one slot
