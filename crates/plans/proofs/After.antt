@@ -14,10 +14,11 @@ use lib.ListN.{length, getD}
 use Rattle.buffers.specs.Bytes.{tab, put}
 use Rattle.buffers.proofs.Lists.{below-or-not, length-put, part-at, put-in, put-before, put-after}
 use Rattle.buffers.proofs.Counts.{count-cong, any-cong, any-some, none-any}
+use Rattle.buffers.proofs.Tests.{and-both}
 use Rattle.geometry.specs.Disk.{bitOf}
+use Rattle.refusals.specs.Order.{refuse}
 use Rattle.maps.specs.Bits.{has, bitsOf, join}
 use Rattle.maps.proofs.Laws.{bits-le, bits-join, has-join, none-share}
-use Rattle.refusals.specs.Order.{refuse}
 use Rattle.slots.specs.Slot.{isLive, hidden, protected, kindOf, nameOf, countOf, mapOf, facts, lengthOf}
 use Rattle.slots.specs.Name.{sameName, askable, padded}
 use Rattle.slots.specs.Rows.{dataCount}
@@ -35,7 +36,6 @@ use Rattle.disk.specs.Look.{Look, look, slotsOf, extra}
 use Rattle.disk.specs.Check.{checkDisk}
 use Rattle.disk.specs.Sound.{Known, Sound}
 use Rattle.disk.proofs.Look.{look-slots}
-use Rattle.disk.proofs.Rows.{and-both}
 use Rattle.files.specs.Calls.{noFile, fileAt}
 use Rattle.files.proofs.Named.{lookup-none}
 use Rattle.files.proofs.Reading.{read-barred}

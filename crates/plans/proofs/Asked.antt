@@ -9,9 +9,9 @@ use native.Mathlib.Omega.{arith}
 use borrow.Author.Tests.{le-leb}
 use lib.Dec.{leb, ltb}
 use lib.ListN.{length}
-use Rattle.refusals.specs.Order.{Refusal, refuse, Reply, _else_, row}
+use Rattle.refusals.specs.Order.{Refusal, refuse, Reply, _else_, row, SlotRow}
 use Rattle.refusals.specs.Answers.{Outcome, done, refused, unless, filled}
-use Rattle.refusals.proofs.First.{else-some}
+use Rattle.refusals.proofs.First.{else-some, firstRow, row-else, row-first, first-row}
 use Rattle.slots.specs.Slot.{kindOf, carried, facts, lengthOf, pageOf, offsetOf}
 use Rattle.slots.specs.Name.{askable}
 use Rattle.chains.specs.File.{File}
@@ -24,34 +24,11 @@ use Rattle.disk.proofs.Look.{look-slots}
 use Rattle.disk.proofs.Examined.{accepted-size}
 use Rattle.files.specs.Calls.{noFile, fileAt, fileNamed, entries, notCarried, outOfRange, listLook, readReply, readLook, startReply, startLook, listing, reading, starting}
 use Rattle.files.proofs.Listed.{entries-long}
-use Rattle.plans.specs.Refused.{SlotRow, FirstOf, someNamed, slotNamed, startOutside, row12, row15, row20}
+use Rattle.plans.specs.Refused.{someNamed, slotNamed, startOutside, row12, row15, row20}
 use Rattle.plans.specs.Asked.{foundRow13, foundRow14, listRows, readRows, startRows, RefusesBy, by-check, by-row}
 use Rattle.plans.proofs.Refused.{some-named, none-named, outside-is}
 
 -- ---- the first row that holds, as a reply
-
-abbrev firstRow : List SlotRow → Reply
-firstRow [] = none
-firstRow (r ∷ rs) = cond (r .holds) (some (refuse (r .number) (r .slot))) (firstRow rs)
-
--- one row, and then what is refused after it
-row-else : (n s : ℕ) (t : Bool) (q : Reply) → row n s t else q ≡ cond t (some (refuse n s)) q
-row-else n s true q = refl
-row-else n s false q = refl
-
--- it is the refusal of a row that holds and has none before it, and only such a one
-row-first : (rs : List SlotRow) (r : Refusal) → firstRow rs ≡ some r → FirstOf r rs
-row-first [] r e = absurd (Option·some-ne-none r (sym e))
-row-first (x ∷ rs) r e = by (x .holds) refl e (row-first rs r)
-  where
-    by : (t : Bool) → x .holds ≡ t → cond t (some (refuse (x .number) (x .slot))) (firstRow rs) ≡ some r
-        → (firstRow rs ≡ some r → FirstOf r rs) → FirstOf r (x ∷ rs)
-    by true q w k = let z : _≡_ {A = Refusal} (refuse (x .number) (x .slot)) r = cc in inl (q, z)
-    by false q w k = inr (q, k w)
-
-first-row : (rs : List SlotRow) (r : Refusal) → FirstOf r rs → firstRow rs ≡ some r
-first-row [] r f = absurd f
-first-row (x ∷ rs) r f = ⊎-elim (λ a. rw (a .0) (ap some (a .1))) (λ a. rw (a .0) (first-row rs r (a .1))) f
 
 filled-outcome : (q : Reply) (o : Outcome) (x buf : List ℕ) → unless q o ≡ filled q o x buf .outcome
 filled-outcome none o x buf = refl

@@ -9,7 +9,8 @@ use native.Mathlib.Omega.{arith}
 use borrow.Author.Tests.{ltb-true, ltb-false, lt-ltb, le-ltb, eqb-true, eq-eqb, not-true, not-false}
 use lib.Dec.{eqb, ltb}
 use lib.ListN.{getD}
-use Rattle.refusals.specs.Order.{Refusal, refuse, _else_}
+use Rattle.buffers.proofs.Tests.{or-neither}
+use Rattle.refusals.specs.Order.{Refusal, refuse, _else_, SlotRow, FirstOf}
 use Rattle.slots.specs.Slot.{protected, carried, nameOf}
 use Rattle.slots.specs.Rows.{dataCount}
 use Rattle.chains.specs.File.{File, sectorsOf}
@@ -25,7 +26,7 @@ use Rattle.files.specs.Calls.{noFile, fileAt, fileNamed}
 use Rattle.plans.specs.Change.{Wish, Mark, save, erase, rename, mark, usable}
 use Rattle.plans.specs.Saving.{lowestSlot}
 use Rattle.plans.specs.Plan.{stopped, run}
-use Rattle.plans.specs.Refused.{SlotRow, FirstOf, someNamed, slotNamed, someFree, startOutside, row18, row19, row20, changeRows, Refuses, by-check, by-row, Accepts}
+use Rattle.plans.specs.Refused.{someNamed, slotNamed, someFree, startOutside, row18, row19, row20, changeRows, Refuses, by-check, by-row, Accepts}
 use Rattle.plans.specs.Accepted.{Named, Fresh, Unprotected, Allowed, Renames, Empty, NoSlot, Asked, many, freeSectors, Savable}
 use Rattle.plans.proofs.Frame.{disk-sound, entry-live, entry-dead, holds, look-entry}
 use Rattle.plans.proofs.Named.{fresh-find, find-fresh, found-here}
@@ -213,10 +214,6 @@ pub free-sectors : (d : List ℕ) → free (extra (look d)) (slotsOf (look d)) �
 unfolding extra free freeOf dataCount
 free-sectors d = ap (λ (v : Directory). 1560 - usedMap v .count) (look-slots d)
 
-or-none-of : (a b : Bool) → (a || b) ≡ false → (a ≡ false) × (b ≡ false)
-or-none-of true b e = absurd (true≢false e)
-or-none-of false b e = (refl, e)
-
 -- a row that does not hold is not the first
 peel : {A B : Type 0} {t : Bool} → t ≡ false → ((t ≡ true) × A) ⊎ ((t ≡ false) × B) → B
 peel e f = ⊎-elim (λ a. absurd (true≢false (sym (a .0) ∙ e))) (λ a. a .1) f
@@ -313,8 +310,8 @@ module _ (d : List ℕ) (w : Wish) (room : ℕ) where
   save-exactly = (
     λ a.
         let p = accepted-exactly (save w) d room .0 a in
-        let o = or-none-of (ltb 31 (w .page)) (ltb (w .offset) 32768 || ltb 49151 (w .offset)) (p .rows .1 .1 .0) in
-        let q = or-none-of (ltb (w .offset) 32768) (ltb 49151 (w .offset)) (o .1) in
+        let o = or-neither (ltb 31 (w .page)) (ltb (w .offset) 32768 || ltb 49151 (w .offset)) (p .rows .1 .1 .0) in
+        let q = or-neither (ltb (w .offset) 32768) (ltb 49151 (w .offset)) (o .1) in
         let s = slot-free d (not-false (someFree l) (p .rows .1 .1 .1 .1 .0)) in
         record {
           asked = record {

@@ -13,8 +13,8 @@ use lib.ListN.{length, getD, take}
 use lib.Seq.{length-take-le}
 use Rattle.buffers.specs.Bytes.{count, any}
 use Rattle.buffers.proofs.Counts.{count-add, count-cong, any-none}
-use Rattle.maps.specs.Bits.{has, bitsOf}
 use Rattle.refusals.proofs.First.{sweep-none, sweep-first}
+use Rattle.maps.specs.Bits.{has, bitsOf}
 use Rattle.slots.specs.Slot.{mapOf}
 use Rattle.slots.specs.Rows.{dataCount}
 use Rattle.chains.specs.File.{File}

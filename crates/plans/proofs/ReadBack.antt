@@ -9,6 +9,7 @@ use borrow.Author.Tests.{le-ltb, leb-true}
 use lib.Dec.{leb, ltb}
 use lib.ListN.{length}
 use Rattle.buffers.specs.Bytes.{put}
+use Rattle.buffers.proofs.Tests.{and-both}
 use Rattle.geometry.specs.Disk.{bitNumber}
 use Rattle.refusals.specs.Order.{Reply, _else_, row}
 use Rattle.refusals.specs.Answers.{out, done}
@@ -22,7 +23,7 @@ use Rattle.directory.specs.Find.{find}
 use Rattle.directory.proofs.Search.{some-find, find-none}
 use Rattle.disk.specs.Look.{Look, look, slotsOf, extra}
 use Rattle.disk.specs.Check.{checkLook, checkDisk}
-use Rattle.disk.proofs.Rows.{and-both, is-carried}
+use Rattle.disk.proofs.Rows.{is-carried}
 use Rattle.files.specs.Calls.{noFile, fileAt, fileNamed, named, notCarried, outOfRange, readReply, readLook, reading, startReply, startLook, starting, startOf, address}
 use Rattle.steps.specs.Steps.{enact, numbers}
 use Rattle.plans.specs.Change.{Wish, save, usable, between}

@@ -4,15 +4,17 @@ use mathlib.Core.Path.{_≡_, refl, sym, ap, _∙_, subst}
 use mathlib.Core.Bool.{Bool, true, false, not, _&&_, _||_, true≢false}
 use mathlib.Core.List.{List, [], _∷_, map}
 use mathlib.Core.Logic.{inl, inr, ⊎-elim, _↔_}
-use mathlib.Core.Option.{Option, none, some}
+use mathlib.Core.Option.{Option, none, some, Option·some-ne-none}
 use native.Mathlib.Omega.{arith}
 use borrow.Author.Tests.{ltb-true, ltb-false, le-leb, lt-leb}
 use lib.Dec.{leb, ltb}
 use lib.ListN.{length, getD, length-append, length-map}
 use Rattle.buffers.proofs.Counts.{any-some, none-any}
 use Rattle.geometry.specs.Disk.{bitNumber}
-use Rattle.refusals.specs.Order.{Refusal, refuse, Reply, _else_, row}
+use Rattle.refusals.specs.Order.{Refusal, refuse, Reply, _else_, row, SlotRow, rowAt, NoRow, FirstOf, bare, rises, Lowest}
 use Rattle.refusals.specs.Answers.{done, refused, filled}
+use Rattle.refusals.proofs.First.{first-same, first-none}
+use Rattle.refusals.proofs.Lowest.{slot-lowest}
 use Rattle.slots.specs.Slot.{protected, carried, nameOf}
 use Rattle.slots.specs.Name.{sameName, askable, padded}
 use Rattle.slots.proofs.Names.{same-refl, same-is}
@@ -30,7 +32,7 @@ use Rattle.steps.proofs.Steps.{length-numbers}
 use Rattle.plans.specs.Change.{Wish, Mark, Change, save, erase, rename, mark, marked, between, usable}
 use Rattle.plans.specs.Saving.{sectorsFor, taken, lowestSlot, slotTaken}
 use Rattle.plans.specs.Plan.{touch, saveSteps, Plan, no, go, orNo, byName, nameTaken, isProtected, saveReply, planOf, Result, stopped, made, settle, checked, run, changedBy, change}
-use Rattle.plans.specs.Refused.{SlotRow, rowAt, NoRow, FirstOf, someNamed, slotNamed, someFree, startOutside, row14, row15, row16, row17, row18, row19, row20, changeRows, Refuses, by-check, by-row, Passes, Accepts}
+use Rattle.plans.specs.Refused.{someNamed, slotNamed, someFree, startOutside, row14, row15, row16, row17, row18, row19, row20, changeRows, Refuses, by-check, by-row, Passes, Accepts}
 use Rattle.plans.specs.Accepted.{many}
 use Rattle.plans.proofs.Free.{lowest-slot, no-slot, taken-long}
 use Rattle.plans.proofs.Saved.{save-numbers}
@@ -63,16 +65,6 @@ unfolding readLook
 reading-unchanged d n buf r e = filled-unchanged (readReply (look d) n (length buf)) _ _ _ buf r e
 
 -- ---- the first row that holds
-
-first-same : (rs : List SlotRow) (x y : Refusal) → FirstOf x rs → FirstOf y rs → x ≡ y
-first-same [] x y p q = absurd p
-first-same (r ∷ rs) x y p q =
-    ⊎-elim (λ a. ⊎-elim (λ b. sym (a .1) ∙ b .1) (λ b. absurd (true≢false (sym (a .0) ∙ b .0))) q)
-    (λ a. ⊎-elim (λ b. absurd (true≢false (sym (b .0) ∙ a .0))) (λ b. first-same rs x y (a .1) (b .1)) q) p
-
-first-none : (rs : List SlotRow) (x : Refusal) → FirstOf x rs → NoRow rs → ⊥
-first-none [] x p q = p
-first-none (r ∷ rs) x p q = ⊎-elim (λ a. true≢false (sym (a .0) ∙ q .0)) (λ a. first-none rs x (a .1) (q .1)) p
 
 -- a result is the first row that holds, or none holds
 data Settled (rs : List SlotRow) (x : Result) : Type 0 where
@@ -341,6 +333,22 @@ module _ (c : Change) (d : List ℕ) (room : ℕ) where
 
   pub accepted-exactly : Accepts c d room ↔ Passes c d room
   accepted-exactly = (run-passes, passes-run)
+
+-- "the lowest that applies of 12 to 20": the rows of each change rise in number, so that the first that holds is the lowest
+pub rows-rise : (c : Change) (l : Look) (room : ℕ) → rises (bare (changeRows c l room)) ≡ true
+unfolding changeRows
+rows-rise (save w) l room = refl
+rows-rise (erase n) l room = refl
+rows-rise (rename n new) l room = refl
+rows-rise (mark m n) l room = refl
+
+pub refused-lowest : (c : Change) (d : List ℕ) (room : ℕ) (r : Refusal) → checkDisk d ≡ none → run c d room ≡ stopped r
+    → Lowest (r .number) (bare (changeRows c (look d) room))
+refused-lowest c d room r ok e = by (refused-exactly c d room r .0 e)
+  where
+    by : Refuses c d room r → Lowest (r .number) (bare (changeRows c (look d) room))
+    by (by-check q) = absurd (Option·some-ne-none r (sym q ∙ ok))
+    by (by-row q f) = slot-lowest (changeRows c (look d) room) r (rows-rise c (look d) room) f
 
 -- the same of the call: its outcome is a refusal exactly then
 pub change-refused : (c : Change) (d buf : List ℕ) (r : Refusal) → (change c d buf .outcome ≡ refused r) ↔ Refuses c d (length buf) r

@@ -8,9 +8,9 @@ use mathlib.Core.Option.{none}
 use lib.ListN.{length, getD, drop}
 use Rattle.buffers.specs.Bytes.{put}
 use Rattle.geometry.specs.Disk.{bitPlace}
-use Rattle.maps.specs.Bits.{has}
 use Rattle.refusals.specs.Order.{refuse}
 use Rattle.refusals.specs.Answers.{refused, out}
+use Rattle.maps.specs.Bits.{has}
 use Rattle.slots.specs.Slot.{hidden, protected, kindOf, countOf, mapOf}
 use Rattle.slots.specs.Name.{askable, padded}
 use Rattle.chains.specs.File.{File}

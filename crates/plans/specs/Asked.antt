@@ -4,15 +4,15 @@ use mathlib.Core.Bool.{Bool, not, _&&_}
 use mathlib.Core.List.{List, [], _∷_}
 use mathlib.Core.Option.{none, some}
 use mathlib.Core.Path.{_≡_}
-use Rattle.refusals.specs.Order.{Refusal}
+use Rattle.refusals.specs.Order.{Refusal, SlotRow, rowAt, FirstOf}
 use Rattle.slots.specs.Slot.{kindOf, carried, facts, lengthOf, pageOf, offsetOf}
 use Rattle.slots.specs.Name.{askable}
 use Rattle.directory.specs.Places.{slots}
+use Rattle.directory.specs.Directory.{liveAmong}
 use Rattle.disk.specs.Look.{Look, slotsOf}
 use Rattle.disk.specs.Check.{checkDisk}
 use Rattle.files.specs.Calls.{fileNamed}
-use Rattle.plans.specs.Refused.{SlotRow, rowAt, FirstOf, someNamed, slotNamed, startOutside, row12, row15, row20}
-use Rattle.directory.specs.Directory.{liveAmong}
+use Rattle.plans.specs.Refused.{someNamed, slotNamed, startOutside, row12, row15, row20}
 
 -- ---- rows at the slot found
 

@@ -2,13 +2,12 @@
 use Prim.Native.Nat.{ℕ, suc, _+_}
 use mathlib.Core.Bool.{Bool, true, false, not, _&&_, _||_}
 use mathlib.Core.List.{List, [], _∷_}
-use mathlib.Core.Logic.{_⊎_}
 use mathlib.Core.Option.{none, some}
 use mathlib.Core.Path.{_≡_}
 use lib.Dec.{ltb}
 use lib.ListN.{length}
 use Rattle.buffers.specs.Bytes.{any}
-use Rattle.refusals.specs.Order.{Refusal, refuse}
+use Rattle.refusals.specs.Order.{Refusal, SlotRow, rowAt, NoRow, FirstOf}
 use Rattle.slots.specs.Slot.{protected, carried, nameOf}
 use Rattle.slots.specs.Name.{sameName, askable, padded}
 use Rattle.directory.specs.Places.{slotCount, slots}
@@ -21,27 +20,6 @@ use Rattle.files.specs.Calls.{fileNamed}
 use Rattle.plans.specs.Change.{Wish, Change, save, erase, rename, mark, usable}
 use Rattle.plans.specs.Saving.{sectorsFor}
 use Rattle.plans.specs.Plan.{made, run}
-
--- ---- rows, each with its slot
-
--- a row of the table: its number, and the slot that it is given at, where its test holds
-pub record SlotRow : Type 0 where
-  pub number : ℕ
-  pub slot : ℕ
-  pub holds : Bool
-
-abbrev pub rowAt : ℕ → ℕ → Bool → SlotRow
-rowAt n s t = record { number = n; slot = s; holds = t }
-
--- no row holds
-abbrev pub NoRow : List SlotRow → Type 0
-NoRow [] = Unit {0}
-NoRow (r ∷ rs) = (r .holds ≡ false) × NoRow rs
-
--- a refusal whose row holds, and no row before it does
-abbrev pub FirstOf : Refusal → List SlotRow → Type 0
-FirstOf x [] = ⊥
-FirstOf x (r ∷ rs) = ((r .holds ≡ true) × (refuse (r .number) (r .slot) ≡ x)) ⊎ ((r .holds ≡ false) × FirstOf x rs)
 
 -- ---- the tests
 

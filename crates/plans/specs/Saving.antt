@@ -7,8 +7,8 @@ use lib.Dec.{eqb, ltb}
 use lib.ListN.{length, getD, take}
 use Rattle.buffers.specs.Bytes.{tab}
 use Rattle.geometry.specs.Disk.{trackOf, sectorOf}
-use Rattle.maps.specs.Bits.{has, clear, marked}
 use Rattle.refusals.specs.Order.{sweep}
+use Rattle.maps.specs.Bits.{has, clear, marked}
 use Rattle.slots.specs.Name.{padded}
 use Rattle.directory.specs.Places.{slotCount, slots, dataBit}
 use Rattle.directory.specs.Directory.{held, Directory}
