@@ -113,7 +113,10 @@ fn wide(x: u32) -> usize
 fn entry_of(bit: usize) -> usize
     ensures { λ r. ⌜ r ≡ placeOrEnd bit ⌝ }
 {
-    if bit < 1560 { wide(PLACES[bit]) } else { 819200 }
+    if 1560 <= bit {
+        return 819200;
+    }
+    wide(PLACES[bit])
 }
 
 // From the table. A call puts the whole table on the stack, so loops use `bit_place`.

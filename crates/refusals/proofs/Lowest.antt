@@ -4,16 +4,14 @@ use mathlib.Core.Path.{_≡_, refl, sym, ap, _∙_}
 use mathlib.Core.Bool.{Bool, true, false, true≢false}
 use mathlib.Core.List.{List, [], _∷_}
 use mathlib.Core.Logic.{_≢_, _↔_, inl, inr, ⊎-elim}
-use mathlib.Core.Option.{some}
 use native.Mathlib.Omega.{arith}
 use borrow.Author.Tests.{ltb-true}
 use lib.Dec.{ltb}
 use Rattle.buffers.proofs.Tests.{and-both}
-use Rattle.refusals.specs.Order.{Refusal, refuse, Reply, _else_, Row, rows, sweep, FirstRow, SlotRow, FirstOf, bare, risesFrom, rises, Applies, Lowest}
+use Rattle.refusals.specs.Order.{Refusal, Row, FirstRow, SlotRow, FirstOf, bare, risesFrom, rises, Applies, Lowest}
 use Rattle.refusals.specs.Answers.{numberOf}
 use Rattle.refusals.specs.declared.Reason.{Reason}
 use Rattle.refusals.specs.declared.Reason.the-variants.{NotAnImage, KindUnknown, NameMissing, CountOutOfRange, BitsDiffer, FirstNotOwn, LengthTooGreat, SectorShared, NameTwice, ChainBroken, HeaderDiffers, NameNotUsable, KindNotCarried, StartOutOfRange, NameNotFound, NameTaken, FileProtected, NoFreeSlot, TooFewSectors, BufferTooShort, NoSuchSector}
-use Rattle.refusals.proofs.First.{else-some, rows-first, first-rows, sweep-first}
 
 -- ---- the lowest that applies is the first that holds
 
@@ -55,13 +53,6 @@ lowest-first rs n e = (
   λ w. least-first rs 0 n e (w .applies) (w .least),
 )
 
--- so a refusal at a slot has the lowest number that applies there, and the lowest is refused
-pub rows-lowest : (s : ℕ) (rs : List Row) (x : Refusal) → rises rs ≡ true → (rows s rs ≡ some x) ↔ (Lowest (x .number) rs × (x .slot ≡ s))
-rows-lowest s rs x e = (
-  λ p. let f = rows-first s rs x p in (lowest-first rs (x .number) e .0 (f .0), f .1),
-  λ w. first-rows s rs (x .number) (lowest-first rs (x .number) e .1 (w .0)) ∙ ap (λ (k : ℕ). some (refuse (x .number) k)) (sym (w .1)),
-)
-
 -- the same of rows with their slots
 pub first-bare : (rs : List SlotRow) (x : Refusal) → FirstOf x rs → FirstRow (x .number) (bare rs)
 first-bare [] x f = f
@@ -96,18 +87,8 @@ positive TooFewSectors = λ e. omega arith
 positive BufferTooShort = λ e. omega arith
 positive NoSuchSector = λ e. omega arith
 
--- a reply that gives no number 0
-abbrev pub Positive : Reply → Type 0
-Positive q = (r : Refusal) → q ≡ some r → r .number ≢ 0
-
 pub first-positive : (rs : List Row) (n : ℕ) → rises rs ≡ true → FirstRow n rs → n ≢ 0
 first-positive rs n e f z = let h : 0 < n = applies-above rs 0 n e (first-applies rs n f) in omega arith
 
-pub rows-positive : (s : ℕ) (rs : List Row) → rises rs ≡ true → Positive (rows s rs)
-rows-positive s rs e r p = first-positive rs (r .number) e (rows-first s rs r p .0)
-
-pub else-positive : (a b : Reply) → Positive a → Positive b → Positive (a else b)
-else-positive a b p q r e = ⊎-elim (p r) (λ w. q r (w .1)) (else-some a b r e)
-
-pub sweep-positive : (n : ℕ) (f : ℕ → Reply) → ((i : ℕ) → Positive (f i)) → Positive (sweep n f)
-sweep-positive n f h r e = let w = sweep-first n f r e in h (w .at) r (w .here)
+pub slot-positive : (rs : List SlotRow) (x : Refusal) → rises (bare rs) ≡ true → FirstOf x rs → x .number ≢ 0
+slot-positive rs x e f = first-positive (bare rs) (x .number) e (first-bare rs x f)

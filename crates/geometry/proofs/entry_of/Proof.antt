@@ -8,6 +8,9 @@ use Rattle.geometry.proofs.Laws.{place-or-end, place-end}
 use Rattle.geometry.proofs.entry_of.Statement.{statement}
 use Rattle.geometry.proofs.entry_of.Tie as tie
 
+returns : tie.Need-returns
+returns c = sym (place-end _ (c .if1 .taken))
+
 mul-wide : tie.Need-mul-wide
 mul-wide c = search needs
 
@@ -17,14 +20,11 @@ array-read-wide c = search needs
 wide-requires : tie.Need-wide-requires
 wide-requires c κs = search needs
 
-returns : tie.Need-returns
+returns-2 : tie.Need-returns-2
 unfolding placesFrom bitNumber trackOf
-returns c =
-    let h = c .before .if1 .taken in
+returns-2 c =
+    let h = c .before .if1 .left in
     rw (c .wide .ensures, entry _ tt (c .before .before .args .bit) h) (sym (place-or-end _ h))
 
-returns-2 : tie.Need-returns-2
-returns-2 c = sym (place-end _ (c .if1 .left))
-
 pub entry-of-spec : {M : Type 1} → statement M
-entry-of-spec = tie.close (tie.spec mul-wide array-read-wide wide-requires returns returns-2)
+entry-of-spec = tie.close (tie.spec returns mul-wide array-read-wide wide-requires returns-2)
