@@ -197,7 +197,7 @@ pub by-lowest : (d : List ℕ) (rs : List SlotRow) (r : Refusal) → rises (bare
 by-lowest d rs r e (by-check a) = inl a
 by-lowest d rs r e (by-row a f) = inr (slot-lowest rs r e f)
 
-by-positive : (d : List ℕ) (rs : List SlotRow) (r : Refusal) → rises (bare rs) ≡ true → RefusesBy d rs r → r .number ≢ 0
+pub by-positive : (d : List ℕ) (rs : List SlotRow) (r : Refusal) → rises (bare rs) ≡ true → RefusesBy d rs r → r .number ≢ 0
 by-positive d rs r e (by-check a) = check-positive d r a
 by-positive d rs r e (by-row a f) = slot-positive rs r e f
 

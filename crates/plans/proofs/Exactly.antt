@@ -23,16 +23,18 @@ use Rattle.disk.specs.Check.{checkDisk}
 use Rattle.disk.proofs.Look.{look-slots}
 use Rattle.disk.proofs.Rows.{carried-is, is-carried}
 use Rattle.files.specs.Calls.{noFile, fileAt, fileNamed}
+use Rattle.files.specs.Asked.{someNamed, slotNamed, startOutside, row20, by-check, by-row}
+use Rattle.files.proofs.Asked.{some-named, none-named}
 use Rattle.plans.specs.Change.{Wish, Mark, save, erase, rename, mark, usable}
 use Rattle.plans.specs.Saving.{lowestSlot}
 use Rattle.plans.specs.Plan.{stopped, run}
-use Rattle.plans.specs.Refused.{someNamed, slotNamed, someFree, startOutside, row18, row19, row20, changeRows, Refuses, by-check, by-row, Accepts}
+use Rattle.plans.specs.Refused.{someFree, row18, row19, changeRows, Refuses, Accepts}
 use Rattle.plans.specs.Accepted.{Named, Fresh, Unprotected, Allowed, Renames, Empty, NoSlot, Asked, many, freeSectors, Savable}
 use Rattle.plans.proofs.Frame.{disk-sound, entry-live, entry-dead, holds, look-entry}
 use Rattle.plans.proofs.Named.{fresh-find, find-fresh, found-here}
 use Rattle.plans.proofs.Free.{free-slot, no-free-slot}
 use Rattle.plans.proofs.Effect.{erased, marked-so, renamed}
-use Rattle.plans.proofs.Refused.{some-named, none-named, some-free, none-free, refused-exactly, accepted-exactly}
+use Rattle.plans.proofs.Refused.{some-free, none-free, refused-exactly, accepted-exactly}
 
 -- ---- the files of a name
 

@@ -3,7 +3,7 @@ use Prim.Native.Nat.{ℕ, suc, _+_, _<_}
 use mathlib.Core.Path.{_≡_, refl, sym, ap, _∙_, subst}
 use mathlib.Core.Bool.{Bool, true, false, not, _&&_, _||_, true≢false}
 use mathlib.Core.List.{List, [], _∷_, map}
-use mathlib.Core.Logic.{inl, inr, ⊎-elim, _↔_}
+use mathlib.Core.Logic.{_⊎_, inl, inr, _≢_, _↔_}
 use mathlib.Core.Option.{Option, none, some, Option·some-ne-none}
 use native.Mathlib.Omega.{arith}
 use borrow.Author.Tests.{ltb-true, ltb-false, le-leb, lt-leb}
@@ -14,7 +14,6 @@ use Rattle.geometry.specs.Disk.{bitNumber}
 use Rattle.refusals.specs.Order.{Refusal, refuse, Reply, _else_, row, SlotRow, rowAt, NoRow, FirstOf, bare, rises, Lowest}
 use Rattle.refusals.specs.Answers.{done, refused, filled}
 use Rattle.refusals.proofs.First.{first-same, first-none}
-use Rattle.refusals.proofs.Lowest.{slot-lowest}
 use Rattle.slots.specs.Slot.{protected, carried, nameOf}
 use Rattle.slots.specs.Name.{sameName, askable, padded}
 use Rattle.slots.proofs.Names.{same-refl, same-is}
@@ -27,12 +26,14 @@ use Rattle.directory.proofs.Search.{find-some, find-none}
 use Rattle.disk.specs.Look.{Look, look, slotsOf, extra}
 use Rattle.disk.specs.Check.{checkLook, checkDisk}
 use Rattle.files.specs.Calls.{noFile, fileAt, fileNamed, entries, listLook, readReply, readLook, listing, reading}
+use Rattle.files.specs.Asked.{someNamed, slotNamed, startOutside, row15, row20, by-check, by-row}
+use Rattle.files.proofs.Asked.{some-named, none-named, outside-is, by-lowest, by-positive}
 use Rattle.steps.specs.Steps.{Step, enact, numbers}
 use Rattle.steps.proofs.Steps.{length-numbers}
 use Rattle.plans.specs.Change.{Wish, Mark, Change, save, erase, rename, mark, marked, between, usable}
 use Rattle.plans.specs.Saving.{sectorsFor, taken, lowestSlot, slotTaken}
 use Rattle.plans.specs.Plan.{touch, saveSteps, Plan, no, go, orNo, byName, nameTaken, isProtected, saveReply, planOf, Result, stopped, made, settle, checked, run, changedBy, change}
-use Rattle.plans.specs.Refused.{someNamed, slotNamed, someFree, startOutside, row14, row15, row16, row17, row18, row19, row20, changeRows, Refuses, by-check, by-row, Passes, Accepts}
+use Rattle.plans.specs.Refused.{someFree, row14, row16, row17, row18, row19, changeRows, Refuses, Passes, Accepts}
 use Rattle.plans.specs.Accepted.{many}
 use Rattle.plans.proofs.Free.{lowest-slot, no-slot, taken-long}
 use Rattle.plans.proofs.Saved.{save-numbers}
@@ -48,21 +49,6 @@ refused-unchanged c d buf r e = by (run c d (length buf)) e
     by : (x : Result) → changedBy x d buf .outcome ≡ refused r → (changedBy x d buf .image ≡ d) × (changedBy x d buf .list ≡ buf)
     by (stopped s) w = (refl, refl)
     by (made new ss) w = (cc, cc)
-
-filled-unchanged : (q : Reply) (v f : ℕ) (x buf : List ℕ) (r : Refusal) → filled q (done v f) x buf .outcome ≡ refused r
-    → filled q (done v f) x buf .buffer ≡ buf
-filled-unchanged (some s) v f x buf r e = refl
-filled-unchanged none v f x buf r e = cc
-
--- a refused listing or read leaves its buffer as it was
-pub listing-unchanged : (d buf : List ℕ) (r : Refusal) → listing d buf .outcome ≡ refused r → listing d buf .buffer ≡ buf
-unfolding listLook
-listing-unchanged d buf r e =
-    filled-unchanged (checkLook (look d) else row 20 0 (ltb (length buf) (length (entries (slotsOf (look d)) slots)))) _ _ _ buf r e
-
-pub reading-unchanged : (d n buf : List ℕ) (r : Refusal) → reading d n buf .outcome ≡ refused r → reading d n buf .buffer ≡ buf
-unfolding readLook
-reading-unchanged d n buf r e = filled-unchanged (readReply (look d) n (length buf)) _ _ _ buf r e
 
 -- ---- the first row that holds
 
@@ -81,28 +67,6 @@ later n s t rs x e (goes c new ss w) = goes (e, c) new ss w
 -- ---- the tests
 
 module _ (l : Look) (n : List ℕ) where
-  abbrev has-name : ℕ → Bool
-  has-name i = held false (λ s. sameName (nameOf s) (padded n)) (slotsOf l i)
-
-  pub some-named : (i : ℕ) → find (slotsOf l) n ≡ some i → someNamed l n ≡ true
-  unfolding someNamed
-  some-named i e =
-      let w = find-some (slotsOf l) n i e in
-      any-some slots has-name i (w .below)
-      (ap (held false (λ s. sameName (nameOf s) (padded n))) (w .here) ∙ ap (λ (m : List ℕ). sameName m (padded n)) (w .name) ∙ same-refl (padded n))
-
-  pub none-named : find (slotsOf l) n ≡ none → someNamed l n ≡ false
-  unfolding someNamed
-  none-named e = none-any slots has-name (λ k h. by k h (slotsOf l k) refl)
-    where
-      differs : (k : ℕ) → k < slots → (s : List ℕ) → slotsOf l k ≡ some s → (t : Bool) → sameName (nameOf s) (padded n) ≡ t → t ≡ false
-      differs k h s q true w = absurd (find-none (slotsOf l) n e k h s q (same-is (nameOf s) (padded n) w))
-      differs k h s q false w = refl
-
-      by : (k : ℕ) → k < slots → (o : Option (List ℕ)) → slotsOf l k ≡ o → held false (λ s. sameName (nameOf s) (padded n)) o ≡ false
-      by k h none q = refl
-      by k h (some s) q = differs k h s q (sameName (nameOf s) (padded n)) refl
-
   row17-is : (i : ℕ) → find (slotsOf l) n ≡ some i → row17 l n ≡ rowAt 17 (suc i) (protected (fileAt l i .bytes))
   unfolding slotNamed fileNamed
   row17-is i e = ap (λ (o : Option ℕ). rowAt 17 (held 0 suc o) (protected (held noFile (fileAt l) o .bytes))) e
@@ -128,23 +92,6 @@ module _ (l : Look) where
       by : (o : Option ℕ) → lowestSlot (extra l) (slotsOf l) ≡ o → held true (λ i. false) o ≡ not (someFree l)
       by none q = sym (ap not (none-free q))
       by (some i) q = sym (ap not (some-free i q))
-
--- a start is in range exactly where it is not outside
-pub outside-is : (page offset : ℕ) → not (leb page 31 && between 32768 offset 49151) ≡ startOutside page offset
-outside-is page offset = rw (flip page 31, flip 32768 offset, flip offset 49151) (by (ltb 31 page) (ltb offset 32768) (ltb 49151 offset))
-  where
-    at : (a b : ℕ) (t : Bool) → ltb b a ≡ t → leb a b ≡ not t
-    at a b true e = lt-leb a b (ltb-true b a e)
-    at a b false e = le-leb a b (ltb-false b a e)
-
-    flip : (a b : ℕ) → leb a b ≡ not (ltb b a)
-    flip a b = at a b (ltb b a) refl
-
-    by : (x y z : Bool) → not (not x && (not y && not z)) ≡ (x || (y || z))
-    by true y z = refl
-    by false true z = refl
-    by false false true = refl
-    by false false false = refl
 
 -- ---- how many numbers
 
@@ -342,13 +289,13 @@ rows-rise (erase n) l room = refl
 rows-rise (rename n new) l room = refl
 rows-rise (mark m n) l room = refl
 
-pub refused-lowest : (c : Change) (d : List ℕ) (room : ℕ) (r : Refusal) → checkDisk d ≡ none → run c d room ≡ stopped r
-    → Lowest (r .number) (bare (changeRows c (look d) room))
-refused-lowest c d room r ok e = by (refused-exactly c d room r .0 e)
-  where
-    by : Refuses c d room r → Lowest (r .number) (bare (changeRows c (look d) room))
-    by (by-check q) = absurd (Option·some-ne-none r (sym q ∙ ok))
-    by (by-row q f) = slot-lowest (changeRows c (look d) room) r (rows-rise c (look d) room) f
+pub refused-lowest : (c : Change) (d : List ℕ) (room : ℕ) (r : Refusal) → run c d room ≡ stopped r
+    → (checkDisk d ≡ some r) ⊎ Lowest (r .number) (bare (changeRows c (look d) room))
+refused-lowest c d room r e = by-lowest d (changeRows c (look d) room) r (rows-rise c (look d) room) (refused-exactly c d room r .0 e)
+
+-- no refusal has the number 0
+pub refused-positive : (c : Change) (d : List ℕ) (room : ℕ) (r : Refusal) → run c d room ≡ stopped r → r .number ≢ 0
+refused-positive c d room r e = by-positive d (changeRows c (look d) room) r (rows-rise c (look d) room) (refused-exactly c d room r .0 e)
 
 -- the same of the call: its outcome is a refusal exactly then
 pub change-refused : (c : Change) (d buf : List ℕ) (r : Refusal) → (change c d buf .outcome ≡ refused r) ↔ Refuses c d (length buf) r
