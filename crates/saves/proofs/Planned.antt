@@ -178,6 +178,11 @@ module _ (d : List ℕ) (u : UsedMap) (i : ℕ) (s : Start) (name exec info body
       change-no (save v) d buf (o .disk .accepted) (refuse 19 0)
       (plan-at ∙ rw (free-is d u (o .disk) f e, lt-ltb f (sectorsFor (length body)) h)) x p
 
+  -- more than all sectors hold
+  pub save-large : 795591 < length body → (x : Outcome) → x ≡ refused (refuse 19 0) → changed x d buf ≡ change (save v) d buf
+  unfolding sectorsFor
+  save-large h = save-few (omega (arith, e, free-le 0 u))
+
   module _ (h : sectorsFor (length body) ≤ f) where
     plan-go : plan (save v) d ≡ go (saveSteps (look d) i v (taken (look d) v))
     plan-go = plan-at ∙ rw (free-is d u (o .disk) f e, le-ltb f (sectorsFor (length body)) h)

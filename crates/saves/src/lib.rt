@@ -340,6 +340,10 @@ fn save_at(
     requires { ⌜ Open (now image) used i start (now name) ⌝ }
     ensures { λ r. ⌜ changed (outcomeOf r) (now (image .exit)) (now (list .exit)) ≡ change (save (wishFor start (now (name .entry)) (now (exec .entry)) (now (info .entry)) (now (body .entry)))) (now (image .entry)) (now (list .entry)) ⌝ }
 {
+    // No disk holds more, and past the largest number the sectors could not be counted.
+    if 795591 < body.len() {
+        return refusals::no(Reason::TooFewSectors, 0);
+    }
     let n = (body.len() + 518) / 510;
     if directory::free_of(used) < n {
         return refusals::no(Reason::TooFewSectors, 0);

@@ -1,22 +1,30 @@
 -- `saves::save_at` meets its contract: each way out has the tests that led there; past them the bits, the file with that chain, and the list.
-use mathlib.Core.Path.{sym}
+use mathlib.Core.Path.{refl, sym}
 use native.Mathlib.Omega.{arith}
 use denote.Ref.{now}
 use lib.ListN.{length-set}
 use lib.Seq.{length-take-le}
 use Rattle.plans.specs.Saving.{sectorsFor}
 use Rattle.saves.proofs.Whole.{Savable, front-writable, saved-is}
-use Rattle.saves.proofs.Planned.{save-few, save-short, savable, save-done}
+use Rattle.saves.proofs.Planned.{save-few, save-large, save-short, savable, save-done}
 use borrow.Author.Needs.{needs}
 use Rattle.saves.proofs.save_at.Statement.{statement}
 use Rattle.saves.proofs.save_at.Tie as tie
 
 -- past the tests nothing is refused
-ready : (c : tie.Else2) → let s = c .before .before .before .before .before .before .before .before .before .args in Savable (s .used .bytes) (s .i) (s .start) (now (s .body)) (now (s .list))
+ready : (c : tie.Else3) → let s = c .before .before .before .before .before .before .before .before .before .before .args in Savable (s .used .bytes) (s .i) (s .start) (now (s .body)) (now (s .list))
 unfolding sectorsFor
 ready c =
-    let s = c .before .before .before .before .before .before .before .before .before in
-    savable _ _ _ _ (now (s .args .name)) (now (s .args .exec)) (now (s .args .info)) _ _ (s .pre) _ (c .before .before .free-of .ensures) (c .before .if1 .left) (c .if2 .left)
+    let s = c .before .before .before .before .before .before .before .before .before .before in
+    savable _ _ _ _ (now (s .args .name)) (now (s .args .exec)) (now (s .args .info)) _ _ (s .pre) _ (c .before .before .free-of .ensures) (c .before .if2 .left) (c .if3 .left)
+
+no-requires : tie.Need-no-requires
+no-requires c κs = search needs
+
+returns : tie.Need-returns
+returns c =
+    let s = c .before .before .before .before .before .before .before .before in
+    save-large _ _ _ _ _ (now (s .args .exec)) (now (s .args .info)) _ _ (s .pre) _ refl (c .before .if1 .taken) _ (c .no .ensures)
 
 add-n : tie.Need-add-n
 add-n c = search needs
@@ -24,19 +32,19 @@ add-n c = search needs
 free-of-requires : tie.Need-free-of-requires
 free-of-requires c κs = search needs
 
-no-requires : tie.Need-no-requires
-no-requires c κs = search needs
-
-returns : tie.Need-returns
-unfolding sectorsFor
-returns c = save-few _ _ _ _ _ _ _ _ _ (c .before .before .before .before .before .before .before .before .before .pre) _ (c .before .before .free-of .ensures) (c .before .if1 .taken) _ (c .no .ensures)
-
 no-requires-2 : tie.Need-no-requires-2
 no-requires-2 c κs = search needs
 
 returns-2 : tie.Need-returns-2
 unfolding sectorsFor
-returns-2 c = save-short _ _ _ _ _ _ _ _ _ (c .before .before .before .before .before .before .before .before .before .before .pre) _ (c .before .before .before .free-of .ensures) (c .before .before .if1 .left) (c .before .if2 .taken) _ (c .no2 .ensures)
+returns-2 c = save-few _ _ _ _ _ _ _ _ _ (c .before .before .before .before .before .before .before .before .before .before .pre) _ (c .before .before .free-of .ensures) (c .before .if2 .taken) _ (c .no2 .ensures)
+
+no-requires-3 : tie.Need-no-requires-3
+no-requires-3 c κs = search needs
+
+returns-3 : tie.Need-returns-3
+unfolding sectorsFor
+returns-3 c = save-short _ _ _ _ _ _ _ _ _ (c .before .before .before .before .before .before .before .before .before .before .before .pre) _ (c .before .before .before .free-of .ensures) (c .before .before .if2 .left) (c .before .if3 .taken) _ (c .no3 .ensures)
 
 slice-aggregate-pick-bits : tie.Need-slice-aggregate-pick-bits
 slice-aggregate-pick-bits c = search needs
@@ -84,27 +92,29 @@ same-length c = search needs
 same-length-2 : tie.Need-same-length-2
 same-length-2 c = simp length-set (omega arith)
 
-returns-3 : tie.Need-returns-3
+returns-4 : tie.Need-returns-4
 unfolding sectorsFor
-returns-3 c =
+returns-4 c =
     let n = c .before .before in
     let f = n .before .before .before .before in
     let p = f .before .before .before .before .before in
     let l = p .before .before .before .before in
     let r = ready l in
-    save-done _ _ _ _ _ _ _ _ _ (l .before .before .before .before .before .before .before .before .before .pre) _ (l .before .before .free-of .ensures) (l .before .if1 .left) (l .if2 .left) _ _ _
+    save-done _ _ _ _ _ _ _ _ _ (l .before .before .before .before .before .before .before .before .before .before .pre) _ (l .before .before .free-of .ensures) (l .before .if2 .left) (l .if3 .left) _ _ _
     (saved-is _ _ _ _ _ _ _ _ (r .enough) (r .room) _ _ (p .pick-bits .ensures) (f .write-file .ensures) (n .to-numbers .ensures))
 
 pub save-at-spec : {M : Type 1} → statement M
 save-at-spec =
     tie.close
     (tie.spec
-    add-n
-    free-of-requires
     no-requires
     returns
+    add-n
+    free-of-requires
     no-requires-2
     returns-2
+    no-requires-3
+    returns-3
     slice-aggregate-pick-bits
     pick-bits-requires
     slice-reshare-prefix-write-file
@@ -119,4 +129,4 @@ save-at-spec =
     add-t13
     same-length
     same-length-2
-    returns-3)
+    returns-4)
