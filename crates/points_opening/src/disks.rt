@@ -5,12 +5,6 @@ ghost use Prim.Native.Nat.{_<_};
 ghost use lib.ListN.{length};
 use geometry::Address;
 
-pub(crate) fn blank() -> [u8; 819200]
-    ensures { λ r. ⌜ 819200 ≡ length r ⌝ }
-{
-    [0; 819200]
-}
-
 pub(crate) fn too_long() -> [u8; 819201]
     ensures { λ r. ⌜ 819201 ≡ length r ⌝ }
 {

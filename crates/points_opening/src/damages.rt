@@ -1,7 +1,6 @@
 // Disks that the check refuses, and those that it only just accepts: one change of two bytes for each.
 ghost use Prim.Native.Nat.{_<_};
 use crate::disks;
-use crate::lines;
 
 // The check of a disk with two bytes changed, which are then put back.
 pub(crate) fn changed(what: &[u8], image: &mut [u8], at: usize, one: u8, two: u8)
@@ -11,7 +10,7 @@ pub(crate) fn changed(what: &[u8], image: &mut [u8], at: usize, one: u8, two: u8
     let was_two = buffers::byte_at(image, at + 1);
     disks::set(image, at, one);
     disks::set(image, at + 1, two);
-    lines::checked(what, image);
+    points::checked(what, image);
     disks::set(image, at, was_one);
     disks::set(image, at + 1, was_two);
 }
@@ -124,5 +123,5 @@ pub(crate) fn chain_damages(image: &mut [u8]) {
 pub(crate) fn orders(image: &mut [u8]) {
     order_of_rows(image);
     order_of_passes(image);
-    lines::checked(b"the disk as it was", image);
+    points::checked(b"the disk as it was", image);
 }

@@ -1,6 +1,4 @@
-// What changes a disk: save, erase, rename and the marks.
-use crate::disks;
-use crate::lines;
+// Points of document 01: save, erase, rename and the marks.
 use refusals::Answer;
 
 // Number `k` of a list, 0 past its end.
@@ -11,22 +9,31 @@ fn listed_at(list: &[u16], k: usize) -> usize {
     0
 }
 
+fn three(before: &[u8], one: usize, two: usize, three: usize) {
+    points::number(before, one);
+    points::number(b" ", two);
+    points::number(b" ", three);
+    points::say(b"\n");
+}
+
 // How many sectors a change names, and the front of its list as it then is.
 fn told(answer: Answer, list: &[u16]) {
     match answer {
         Answer::Done(n, _) => {
-            lines::number(b"sectors ", n);
-            lines::number(b", list ", listed_at(list, 0));
-            lines::number(b" ", listed_at(list, 1));
-            lines::number(b" ", listed_at(list, 2));
-            lines::say(b"\n");
+            points::number(b"sectors ", n);
+            three(
+                b", list ",
+                listed_at(list, 0),
+                listed_at(list, 1),
+                listed_at(list, 2),
+            );
         }
-        Answer::No(r) => lines::refused(r),
+        Answer::No(r) => points::refused(r),
     }
 }
 
 fn saved(what: &[u8], image: &mut [u8], name: &[u8], body: &[u8], list: &mut [u16]) {
-    lines::title(b"save of ", what);
+    points::title(b"save of ", what);
     let answer = saves::save(image, 19, name, 29, 32768, b"", b"", body, list);
     told(answer, list);
 }
@@ -39,44 +46,44 @@ fn saved_at(
     offset: usize,
     list: &mut [u16],
 ) {
-    lines::title(b"save of ", what);
+    points::title(b"save of ", what);
     let answer = saves::save(image, kind, b"FILE X", page, offset, b"", b"", b"", list);
     told(answer, list);
 }
 
 fn erased(image: &mut [u8], name: &[u8], list: &mut [u16]) {
-    lines::title(b"erase of ", name);
+    points::title(b"erase of ", name);
     let answer = changes::erase(image, name, list);
     told(answer, list);
 }
 
 fn renamed(image: &mut [u8], name: &[u8], new: &[u8], list: &mut [u16]) {
-    lines::title(b"rename of ", name);
-    lines::title(b"to ", new);
+    points::title(b"rename of ", name);
+    points::title(b"to ", new);
     let answer = changes::rename(image, name, new, list);
     told(answer, list);
 }
 
 fn protected(image: &mut [u8], name: &[u8], list: &mut [u16]) {
-    lines::title(b"protect of ", name);
+    points::title(b"protect of ", name);
     let answer = changes::protect(image, name, list);
     told(answer, list);
 }
 
 fn released(image: &mut [u8], name: &[u8], list: &mut [u16]) {
-    lines::title(b"release of ", name);
+    points::title(b"release of ", name);
     let answer = changes::release(image, name, list);
     told(answer, list);
 }
 
 fn hidden(image: &mut [u8], name: &[u8], list: &mut [u16]) {
-    lines::title(b"hide of ", name);
+    points::title(b"hide of ", name);
     let answer = changes::hide(image, name, list);
     told(answer, list);
 }
 
 fn shown(image: &mut [u8], name: &[u8], list: &mut [u16]) {
-    lines::title(b"show of ", name);
+    points::title(b"show of ", name);
     let answer = changes::show(image, name, list);
     told(answer, list);
 }
@@ -102,11 +109,41 @@ fn largest(image: &mut [u8], body: &[u8], list: &mut [u16]) {
 
 // The same read back, and erased.
 fn largest_back(image: &mut [u8], buf: &mut [u8], list: &mut [u16]) {
-    lines::read(b"BIG", image, b"BIG", buf);
-    lines::started(b"BIG", image, b"BIG");
+    points::read(b"BIG", image, b"BIG", buf);
+    points::started(b"BIG", image, b"BIG");
     erased(image, b"BIG", list);
-    lines::read(b"BIG", image, b"BIG", buf);
-    lines::listed(b"the disk", image, buf);
+    points::read(b"BIG", image, b"BIG", buf);
+    points::listed(b"the disk", image, buf);
+}
+
+// Where slot 1 and its first sector say how long the file is.
+fn length_bytes(image: &[u8]) {
+    three(
+        b"slot bytes 239 to 241: ",
+        buffers::num_at(image, 239),
+        buffers::num_at(image, 240),
+        buffers::num_at(image, 241),
+    );
+    three(
+        b"header bytes 1, 2 and 7: ",
+        buffers::num_at(image, 40961),
+        buffers::num_at(image, 40962),
+        buffers::num_at(image, 40967),
+    );
+}
+
+// Length 16,384 is pages 1, remainder 0.
+fn one_page(image: &mut [u8], body: &[u8], buf: &mut [u8], list: &mut [u16]) {
+    saved(
+        b"16384 bytes",
+        image,
+        b"PAGE",
+        buffers::part_at(body, 0, 16384),
+        list,
+    );
+    length_bytes(image);
+    points::read(b"PAGE", image, b"PAGE", buf);
+    erased(image, b"PAGE", list);
 }
 
 fn small(image: &mut [u8], body: &[u8], list: &mut [u16]) {
@@ -125,7 +162,7 @@ fn small(image: &mut [u8], body: &[u8], list: &mut [u16]) {
         list,
     );
     saved(b"a name that is live", image, b"FILE B", b"", list);
-    lines::checked(b"two files saved", image);
+    points::checked(b"two files saved", image);
 }
 
 fn unfit_names(image: &mut [u8], list: &mut [u16]) {
@@ -150,8 +187,8 @@ fn short_list(image: &mut [u8]) {
         b"",
         &mut list,
     );
-    lines::number(b"the list: ", listed_at(&list, 0));
-    lines::say(b"\n");
+    points::number(b"the list: ", listed_at(&list, 0));
+    points::say(b"\n");
 }
 
 fn taken(image: &mut [u8], list: &mut [u16]) {
@@ -199,7 +236,7 @@ fn fill(image: &mut [u8], list: &mut [u16]) {
 
 fn every_slot(image: &mut [u8], buf: &mut [u8], list: &mut [u16]) {
     fill(image, list);
-    lines::listed(b"a disk of 80 files", image, buf);
+    points::listed(b"a disk of 80 files", image, buf);
     saved(b"one file more", image, b"FILE X", b"", list);
 }
 
@@ -207,6 +244,7 @@ fn changes_made(image: &mut [u8], body: &[u8], buf: &mut [u8]) {
     let mut list = [0u16; 1561];
     largest(image, body, &mut list);
     largest_back(image, buf, &mut list);
+    one_page(image, body, buf, &mut list);
     small(image, body, &mut list);
 }
 
@@ -222,15 +260,14 @@ fn changes_more(image: &mut [u8], body: &[u8], buf: &mut [u8]) {
     let mut list = [0u16; 8];
     marks(image, &mut list);
     used_again(image, body, &mut list);
-    lines::read(b"FILE D", image, b"FILE D", buf);
+    points::read(b"FILE D", image, b"FILE D", buf);
     every_slot(image, buf, &mut list);
 }
 
-// What changes a disk.
-pub(crate) fn changed_disk() {
-    let mut image = disks::blank();
-    let mut body = disks::blank();
-    let mut buf = disks::blank();
+fn main() {
+    let mut image = points::blank();
+    let mut body = points::blank();
+    let mut buf = points::blank();
     buffers::copy_into(&mut body, 0, b"HEAD");
     buffers::copy_into(&mut body, 501, b"MIDDLE!");
     changes_made(&mut image, &body, &mut buf);

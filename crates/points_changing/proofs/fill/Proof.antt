@@ -1,10 +1,10 @@
--- `points::changing::fill` is safe and ends: image and list keep their lengths, and the names run out.
+-- `points_changing::fill` is safe and ends: image and list keep their lengths, and the names run out.
 use Prim.Native.Nat.{_-_}
 use mathlib.Core.Path.{_≡_}
 use borrow.Author.Needs.{needs}
 use lib.ListN.{length}
-use Rattle.points.proofs.changing.fill.Statement.{statement}
-use Rattle.points.proofs.changing.fill.Tie as tie
+use Rattle.points_changing.proofs.fill.Statement.{statement}
+use Rattle.points_changing.proofs.fill.Tie as tie
 
 abbrev Inv-loop : tie.InvT-loop
 Inv-loop image₀ list₀ i₀ t5 t6 t7 image list i = (length image ≡ length image₀) × (length list ≡ length list₀)
