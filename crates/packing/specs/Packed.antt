@@ -1,27 +1,22 @@
 -- An outcome as one number, for the app's C layer.
 use Prim.Native.Nat.{ℕ, _+_, _-_, _*_, _/_, _%_, _^_, _≤_}
-use mathlib.Core.Bool.{cond}
-use mathlib.Core.List.{List}
 use mathlib.Core.Path.{_≡_}
-use lib.Dec.{eqb}
-use Rattle.geometry.specs.Disk.{placeOf}
-use Rattle.refusals.specs.Order.{refuse}
+use Rattle.refusals.specs.Order.{Reply}
 use Rattle.refusals.specs.Answers.{Outcome, done, refused, unless}
-use Rattle.disk.specs.Check.{checkDisk}
-use Rattle.drives.specs.Raw.{rawRefusal}
 
 -- answer = refusal + 256 × slot + 2^24 × value + 2^48 × free; refusal 0: accepted, and then slot is 0; refused: value and free are 0
 abbrev pub packed : Outcome → ℕ
 packed (done value free) = 2 ^ 24 * value + 2 ^ 48 * free
 packed (refused r) = r .number + 256 * r .slot
 
--- the check as an outcome
-abbrev pub checking : List ℕ → Outcome
-checking d = unless (checkDisk d) (done 0 0)
+-- the same with as much of each part as has room
+unfoldable pub clipped : Outcome → ℕ
+clipped (done value free) = 2 ^ 24 * (value % 2 ^ 24) + 2 ^ 48 * (free % 2 ^ 16)
+clipped (refused r) = r .number + 256 * (r .slot % 2 ^ 16)
 
--- the raw sector call as an outcome: its value is the sector's place in the chosen drive's image
-unfoldable pub sectorPlace : List ℕ → List ℕ → ℕ → ℕ → ℕ → Outcome
-sectorPlace one two d t s = cond (eqb (rawRefusal one two d t s) 0) (done (placeOf t s) 0) (refused (refuse (rawRefusal one two d t s) 0))
+-- a check as an outcome
+abbrev pub checked : Reply → Outcome
+checked q = unless q (done 0 0)
 
 -- ---- the four parts of an answer
 

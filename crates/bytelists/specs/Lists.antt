@@ -1,13 +1,14 @@
--- The changes for the app's C layer: the list of sectors as bytes.
+-- A change with a list of bytes, two to a number.
 use Prim.Native.Nat.{ℕ, _+_, _*_, _/_, _%_, _≤_}
 use mathlib.Core.List.{List, [], _∷_}
 use mathlib.Core.Path.{_≡_}
 use lib.ListN.{length}
 use Rattle.buffers.specs.Bytes.{put}
-use Rattle.refusals.specs.Answers.{Outcome, done, refused}
+use Rattle.refusals.specs.Answers.{Outcome, done, refused, outcomeOf}
+use Rattle.refusals.specs.declared.Answer.{Answer}
 use Rattle.plans.specs.Change.{Change}
 use Rattle.plans.specs.Plan.{Result, stopped, made, run, Changed, changed}
-use Rattle.varnucht.specs.Packed.{packed, valueIn, Fits}
+use Rattle.packing.specs.Packed.{valueIn}
 
 -- "In the C layer the buffer is bytes, two to a number, low byte first."
 unfoldable pub inBytes : List ℕ → List ℕ
@@ -30,11 +31,10 @@ unfoldable pub changing : Change → List ℕ → List ℕ → Changed
 changing c d b = changingBy (run c d (length b / 2)) d b
 
 -- answer, image and list at return are those of the change
-abbrev pub Returns : Change → List ℕ → List ℕ → ℕ → List ℕ → List ℕ → Type 0
-Returns c d b r d′ b′ = (r ≡ packed (changing c d b .outcome)) × (d′ ≡ changing c d b .image) × (b′ ≡ changing c d b .list)
+abbrev pub Returns : Change → List ℕ → List ℕ → Answer → List ℕ → List ℕ → Type 0
+Returns c d b r d′ b′ = changed (outcomeOf r) d′ b′ ≡ changing c d b
 
--- an answer that fits, beside as many numbers as it counts and a list with room for them
-pub record Tellable (o : Outcome) (named b : List ℕ) : Type 0 where
-  pub fits : Fits o
+-- as many numbers as an answer counts, and a list with room for them
+pub record Counted (o : Outcome) (named b : List ℕ) : Type 0 where
   pub enough : valueIn o ≤ length named
   pub room : 2 * valueIn o ≤ length b

@@ -12,8 +12,8 @@ use Rattle.refusals.specs.Answers.{done, outcomeOf}
 use Rattle.refusals.specs.declared.Refused.{Refused}
 use Rattle.refusals.specs.declared.Answer.{Answer}
 use Rattle.refusals.specs.declared.Answer.the-variants.{Done, No}
-use Rattle.varnucht.specs.Packed.{valueIn}
-use Rattle.varnucht.specs.Lists.{inBytes, Tellable}
+use Rattle.packing.specs.Packed.{valueIn}
+use Rattle.bytelists.specs.Lists.{inBytes, Counted}
 
 pub length-pairs : (ss : List ℕ) → length (inBytes ss) ≡ 2 * length ss
 unfolding inBytes
@@ -63,9 +63,9 @@ module _ (b₀ ss : List ℕ) (n : ℕ) (b : List ℕ) (j : ℕ) (w : Paired b�
 
 -- ---- an answer and the numbers that it counts
 
-module _ (a : Answer) (ss b : List ℕ) (w : Tellable (outcomeOf a) ss b) where
-  pub tellable-done : (v f : ℕ) → a ≡ Done v f → Tellable (done v f) ss b
-  tellable-done v f e = subst (λ (a : Answer). Tellable (outcomeOf a) ss b) e w
+module _ (a : Answer) (ss b : List ℕ) (w : Counted (outcomeOf a) ss b) where
+  pub counted-done : (v f : ℕ) → a ≡ Done v f → Counted (done v f) ss b
+  counted-done v f e = subst (λ (a : Answer). Counted (outcomeOf a) ss b) e w
 
   pub told-done : (v f : ℕ) → a ≡ Done v f → (b′ : List ℕ) → b′ ≡ put b 0 (inBytes (take v ss)) → b′ ≡ put b 0 (inBytes (take (valueIn (outcomeOf a)) ss))
   told-done v f e b′ p = p ∙ ap (λ (a : Answer). put b 0 (inBytes (take (valueIn (outcomeOf a)) ss))) (sym e)

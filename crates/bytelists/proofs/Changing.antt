@@ -33,9 +33,9 @@ use Rattle.plans.specs.Plan.{touch, saveSteps, Plan, no, go, orNo, byName, name
 use Rattle.plans.proofs.Free.{taken-long}
 use Rattle.plans.proofs.Refused.{save-long}
 use Rattle.plans.proofs.Demand3.{run-room}
-use Rattle.varnucht.specs.Packed.{packed, valueIn}
-use Rattle.varnucht.specs.Lists.{inBytes, changingBy, changing, Returns, Tellable}
-use Rattle.varnucht.proofs.Bounds.{Small, small-else, small-row, check-small, within-refused}
+use Rattle.packing.specs.Packed.{valueIn}
+use Rattle.bytelists.specs.Lists.{inBytes, changingBy, changing, Counted}
+use Rattle.bytelists.proofs.Table.{Small, small-else, small-row, check-small}
 
 -- how many sectors a change names at most
 abbrev pub most : Change → ℕ
@@ -167,6 +167,10 @@ least-room r n x h = by (below-or-not r x)
     by (inl k) = rw (lt-ltb (min r n) x (omega arith), lt-ltb r x k)
     by (inr k) = rw (le-ltb (min r n) x (omega arith), le-ltb r x k)
 
+-- outcome, image and list make what a call gives
+whole : {o p : Outcome} {d e x y : List ℕ} → o ≡ p → d ≡ e → x ≡ y → changed o d x ≡ changed p e y
+whole a b c = rw (a, b, c)
+
 -- ---- the call below, which is lent the first k of some numbers xs: as many as the bytes b have room for, and enough for every change
 
 pub lent-long : (xs : List ℕ) (k r : ℕ) → k ≡ min r (length xs) → k ≡ length (take k xs)
@@ -193,45 +197,36 @@ module _ (c : Change) (d b xs : List ℕ) (k : ℕ) (room : k ≡ min (length b 
         by (stopped r) w = ap (λ (x : Changed). length (x .list)) w
         by (made new ss) w = ap (λ (x : Changed). length (x .list)) w ∙ length-put (take k xs) 0 ss
 
-    pub tellable : Tellable o (ys ++ drop k xs) b
+    pub counted : Counted o (ys ++ drop k xs) b
     unfolding change
-    tellable = by (run c d (length (take k xs))) refl (mild-run c d (length (take k xs))) e
+    counted = by (run c d (length (take k xs))) refl e
       where
-        by : (x : Result) → run c d (length (take k xs)) ≡ x → Settled (most c) x → changed o d′ ys ≡ changedBy x d (take k xs) → Tellable o (ys ++ drop k xs) b
-        by (stopped r) q m w =
-            subst (λ (o : Outcome). Tellable o (ys ++ drop k xs) b) (sym (ap (λ (x : Changed). x .outcome) w))
-            (record { fits = within-refused r (2 ^ 24 - 1) (2 ^ 16 - 1) m; enough = omega arith; room = omega arith })
-        by (made new ss) q m w =
+        by : (x : Result) → run c d (length (take k xs)) ≡ x → changed o d′ ys ≡ changedBy x d (take k xs) → Counted o (ys ++ drop k xs) b
+        by (stopped r) q w =
+            subst (λ (o : Outcome). Counted o (ys ++ drop k xs) b) (sym (ap (λ (x : Changed). x .outcome) w)) (record { enough = omega arith; room = omega arith })
+        by (made new ss) q w =
             let f = run-room c d (length (take k xs)) new ss q .fits in
-            let t : length ss ≤ 1561 = omega (arith, most-few c) in
-            subst (λ (o : Outcome). Tellable o (ys ++ drop k xs) b) (sym (ap (λ (x : Changed). x .outcome) w))
-            (record {
-              fits = record { refusal = omega arith; slot = omega arith; value = omega arith; free = omega arith };
-              enough = omega (arith, back-long xs ys k ys-long, length-take k xs);
-              room = omega (arith, length-take k xs);
-            })
+            subst (λ (o : Outcome). Counted o (ys ++ drop k xs) b) (sym (ap (λ (x : Changed). x .outcome) w))
+            (record { enough = omega (arith, back-long xs ys k ys-long, length-take k xs); room = omega (arith, length-take k xs) })
 
-    pub changing-is : (r : ℕ) → r ≡ packed o → (b′ : List ℕ) → b′ ≡ put b 0 (inBytes (take (valueIn o) (ys ++ drop k xs)))
-        → Returns c d b r d′ b′
+    pub changing-is : (p : Outcome) → p ≡ o → (b′ : List ℕ) → b′ ≡ put b 0 (inBytes (take (valueIn o) (ys ++ drop k xs))) → changed p d′ b′ ≡ changing c d b
     unfolding change changing inBytes part
-    changing-is r p b′ q = by (run c d (length (take k xs))) refl e
+    changing-is p a b′ q = ap (λ (o : Outcome). changed o d′ b′) a ∙ by (run c d (length (take k xs))) refl e
       where
-        by : (x : Result) → run c d (length (take k xs)) ≡ x → changed o d′ ys ≡ changedBy x d (take k xs)
-            → Returns c d b r d′ b′
+        by : (x : Result) → run c d (length (take k xs)) ≡ x → changed o d′ ys ≡ changedBy x d (take k xs) → changed o d′ b′ ≡ changing c d b
         by (stopped z) g w =
             let a : o ≡ refused z = ap (λ (x : Changed). x .outcome) w in
-            let h : stopped z ≡ run c d (length b / 2) = sym g ∙ ran in (
-              p ∙ ap packed a ∙ ap (λ (x : Result). packed (changingBy x d b .outcome)) h,
-              ap (λ (x : Changed). x .image) w ∙ ap (λ (x : Result). changingBy x d b .image) h,
-              q ∙ ap (λ (o : Outcome). put b 0 (inBytes (take (valueIn o) (ys ++ drop k xs)))) a ∙ sym (put-none b 0 []) ∙ ap (λ (x : Result). changingBy x d b .list) h,
-            )
+            let i : d′ ≡ d = ap (λ (x : Changed). x .image) w in
+            let h : stopped z ≡ run c d (length b / 2) = sym g ∙ ran in
+            let l : b′ ≡ b = q ∙ ap (λ (o : Outcome). put b 0 (inBytes (take (valueIn o) (ys ++ drop k xs)))) a ∙ sym (put-none b 0 []) in
+            whole a i l ∙ ap (λ (x : Result). changingBy x d b) h
         by (made new ss) g w =
             let f = run-room c d (length (take k xs)) new ss g .fits in
             let a : o ≡ done (length ss) 0 = ap (λ (x : Changed). x .outcome) w in
+            let i : d′ ≡ new = ap (λ (x : Changed). x .image) w in
             let h : made new ss ≡ run c d (length b / 2) = sym g ∙ ran in
             let t : take (length ss) (ys ++ drop k xs) ≡ ss =
-            take-append-le (length ss) ys (drop k xs) (omega (arith, ys-long)) ∙ ap (λ (x : Changed). take (length ss) (x .list)) w ∙ part-put (take k xs) 0 ss (omega arith) in (
-              p ∙ ap packed a ∙ ap (λ (x : Result). packed (changingBy x d b .outcome)) h,
-              ap (λ (x : Changed). x .image) w ∙ ap (λ (x : Result). changingBy x d b .image) h,
-              q ∙ ap (λ (o : Outcome). put b 0 (inBytes (take (valueIn o) (ys ++ drop k xs)))) a ∙ ap (λ (x : List ℕ). put b 0 (inBytes x)) t ∙ ap (λ (x : Result). changingBy x d b .list) h,
-            )
+            take-append-le (length ss) ys (drop k xs) (omega (arith, ys-long)) ∙ ap (λ (x : Changed). take (length ss) (x .list)) w ∙ part-put (take k xs) 0 ss (omega arith) in
+            let l : b′ ≡ put b 0 (inBytes ss) =
+            q ∙ ap (λ (o : Outcome). put b 0 (inBytes (take (valueIn o) (ys ++ drop k xs)))) a ∙ ap (λ (x : List ℕ). put b 0 (inBytes x)) t in
+            whole a i l ∙ ap (λ (x : Result). changingBy x d b) h

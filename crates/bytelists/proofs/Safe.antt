@@ -1,4 +1,4 @@
--- Demand 3 and the unchanged buffers of a refusal, of what the app gets: the answer's parts, the image and the list's bytes.
+-- Demand 3 and the unchanged buffers of a refusal, of what the app gets: the image and the list's bytes.
 use Prim.Native.Nat.{ℕ, _+_, _*_, _/_, _%_, _≤_}
 use mathlib.Core.Path.{_≡_, refl, sym, ap, ap₂, _∙_, subst}
 use mathlib.Core.List.{List, [], _∷_, _++_}
@@ -12,12 +12,8 @@ use Rattle.plans.specs.Change.{Change}
 use Rattle.plans.specs.Plan.{Result, stopped, made, run, finds}
 use Rattle.plans.specs.Safe.{Safe}
 use Rattle.plans.proofs.Demand3.{crash, run-room}
-use Rattle.varnucht.specs.Packed.{packed, Within, Told}
-use Rattle.varnucht.specs.Lists.{inBytes, numbersIn, changingBy, changing}
-use Rattle.varnucht.proofs.Parts.{within-fits, told}
-use Rattle.varnucht.proofs.Bounds.{within-refused}
-use Rattle.varnucht.proofs.Pairs.{length-pairs}
-use Rattle.varnucht.proofs.Changing.{most, most-few, Settled, mild-run}
+use Rattle.bytelists.specs.Lists.{inBytes, numbersIn, changingBy, changing}
+use Rattle.bytelists.proofs.Pairs.{length-pairs}
 
 -- numbers put in front as bytes are read back
 pairs-back : (ss r : List ℕ) → take (length ss) (numbersIn (inBytes ss ++ r)) ≡ ss
@@ -56,15 +52,3 @@ module _ (c : Change) (d b : List ℕ) where
       by : (x : Result) → changingBy x d b .outcome ≡ refused r → (changingBy x d b .image ≡ d) × (changingBy x d b .list ≡ b)
       by (stopped q) w = (refl, refl)
       by (made new ss) w = let z : _≡_ {A = ℕ} 0 1 = cc in absurd (omega arith)
-
-  -- the answer can be read in its parts
-  pub changing-within : Within (changing c d b .outcome) 1561 0
-  unfolding changing
-  changing-within = by (run c d (length b / 2)) (mild-run c d (length b / 2))
-    where
-      by : (x : Result) → Settled (most c) x → Within (changingBy x d b .outcome) 1561 0
-      by (stopped r) m = within-refused r 1561 0 m
-      by (made new ss) m = record { refusal = omega arith; slot = omega arith; value = omega (arith, most-few c); free = omega arith }
-
-  pub changing-told : Told (changing c d b .outcome) (packed (changing c d b .outcome))
-  changing-told = told _ (within-fits _ _ _ (omega arith) (omega arith) changing-within)

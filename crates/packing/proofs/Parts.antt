@@ -6,7 +6,7 @@ use Rattle.refusals.specs.Answers.{Outcome, done, refused, outcomeOf, numberOf}
 use Rattle.refusals.specs.declared.Refused.{Refused}
 use Rattle.refusals.specs.declared.Answer.{Answer}
 use Rattle.refusals.specs.declared.Answer.the-variants.{Done, No}
-use Rattle.varnucht.specs.Packed.{packed, refusalIn, slotIn, valueIn, freeIn, Within, Fits, Told}
+use Rattle.packing.specs.Packed.{packed, clipped, refusalIn, slotIn, valueIn, freeIn, Within, Fits, Told}
 
 pub packed-is : (o : Outcome) → packed o ≡ refusalIn o + 256 * slotIn o + 2 ^ 24 * valueIn o + 2 ^ 48 * freeIn o
 packed-is (done v f) = omega arith
@@ -30,14 +30,19 @@ told o w =
 pub within-fits : (o : Outcome) (v f : ℕ) → v < 2 ^ 24 → f < 2 ^ 16 → Within o v f → Fits o
 within-fits o v f p q w = record { refusal = w .refusal; slot = w .slot; value = omega (arith, w .value); free = omega (arith, w .free) }
 
+-- nothing of what fits is too much
+pub clipped-is : (o : Outcome) → Fits o → clipped o ≡ packed o
+unfolding clipped
+clipped-is (done v f) w = omega arith
+clipped-is (refused r) w = omega arith
+
 -- ---- the code's answer, by its case
 
-module _ (a : Answer) (w : Fits (outcomeOf a)) where
-  pub done-fits : (v f : ℕ) → a ≡ Done v f → (v < 2 ^ 24) × (f < 2 ^ 16)
-  done-fits v f e = let h : Fits (done v f) = subst (λ (a : Answer). Fits (outcomeOf a)) e w in (omega arith, omega arith)
+module _ (a : Answer) where
+  pub clipped-done : (v f : ℕ) → a ≡ Done v f → 16777216 * (v % 16777216) + 281474976710656 * (f % 65536) ≡ clipped (outcomeOf a)
+  unfolding clipped
+  clipped-done v f e = ap (λ (a : Answer). clipped (outcomeOf a)) (sym e)
 
-  pub no-fits : (r : Refused) → a ≡ No r → r .slot ≤ 80
-  no-fits r e = subst (λ (a : Answer). Fits (outcomeOf a)) e w .slot
-
-pub packed-no : (a : Answer) (r : Refused) → a ≡ No r → (n : ℕ) → n ≡ numberOf (r .reason) → n + 256 * r .slot ≡ packed (outcomeOf a)
-packed-no a r e n p = ap (λ (n : ℕ). n + 256 * r .slot) p ∙ ap (λ (a : Answer). packed (outcomeOf a)) (sym e)
+  pub clipped-no : (r : Refused) → a ≡ No r → (n : ℕ) → n ≡ numberOf (r .reason) → n + 256 * (r .slot % 65536) ≡ clipped (outcomeOf a)
+  unfolding clipped
+  clipped-no r e n p = ap (λ (n : ℕ). n + 256 * (r .slot % 65536)) p ∙ ap (λ (a : Answer). clipped (outcomeOf a)) (sym e)

@@ -1,10 +1,10 @@
--- `varnucht::put_numbers` meets its contract: before each turn the bytes of the first `j` numbers are put.
+-- `bytelists::put_numbers` meets its contract: before each turn the bytes of the first `j` numbers are put.
 use Prim.Native.Nat.{_-_}
 use native.Mathlib.Omega.{arith}
-use Rattle.varnucht.proofs.Pairs.{Paired, paired-none, paired-more, paired-long, paired-second, paired-all}
+use Rattle.bytelists.proofs.Pairs.{Paired, paired-none, paired-more, paired-long, paired-second, paired-all}
 use borrow.Author.Needs.{needs}
-use Rattle.varnucht.proofs.put_numbers.Statement.{statement}
-use Rattle.varnucht.proofs.put_numbers.Tie as tie
+use Rattle.bytelists.proofs.put_numbers.Statement.{statement}
+use Rattle.bytelists.proofs.put_numbers.Tie as tie
 
 abbrev Inv-loop : tie.InvT-loop
 Inv-loop list₀ numbers n j₀ list j = Paired list₀ numbers n list j
