@@ -6,7 +6,7 @@ ghost use lib.Bits.{bitOr, bitAnd};
 ghost use lib.Count.{ones};
 ghost use lib.ListN.{length};
 ghost use Rattle.buffers.specs.Bytes.{count, any};
-ghost use Rattle.maps.specs.Bits.{has, bitsOf, share, join, marked, word, wordOr};
+ghost use Rattle.maps.specs.Bits.{has, bitsOf, share, join, marked};
 
 // On bytes: or, and, the number of set bits. The compiler inlines them.
 fn or8(x: u8, y: u8) -> u8
@@ -44,41 +44,6 @@ fn ones64(x: u64) -> u32
     u64::count_ones(x)
 }
 
-fn wide(x: u8) -> u64
-    ensures { λ r. ⌜ (r ≡ x) × (r < 256) ⌝ }
-{
-    x as u64
-}
-
-// Eight bytes as one number, low byte first, which the compiler makes one load.
-fn eight_at(m: &[u8], i: usize) -> u64
-    requires { ⌜ i + 8 ≤ length (now m) ⌝ }
-    ensures { λ r. ⌜ r ≡ word 8 (now (m .entry)) i 0 ⌝ }
-{
-    wide(m[i])
-        + 256 * wide(m[i + 1])
-        + 65536 * wide(m[i + 2])
-        + 16777216 * wide(m[i + 3])
-        + 4294967296 * wide(m[i + 4])
-        + 1099511627776 * wide(m[i + 5])
-        + 281474976710656 * wide(m[i + 6])
-        + 72057594037927936 * wide(m[i + 7])
-}
-
-// The same of any place; 0 where the eight bytes are not all there.
-pub fn word_at(m: &[u8], i: usize) -> u64
-    ensures { λ r. ⌜ r ≡ wordOr (now (m .entry)) i ⌝ }
-{
-    let len = m.len();
-    if len < 8 {
-        return 0;
-    }
-    if len - 8 < i {
-        return 0;
-    }
-    eight_at(m, i)
-}
-
 // The set bits of the first `8 * n` bytes, eight at a time.
 fn bits_in_words(m: &[u8], n: usize) -> usize
     requires { ⌜ (n ≤ 24) × (8 * n ≤ length (now m)) ⌝ }
@@ -87,7 +52,7 @@ fn bits_in_words(m: &[u8], n: usize) -> usize
     let mut sum: usize = 0;
     let mut i: usize = 0;
     while i < n {
-        sum += ones64(eight_at(m, 8 * i)) as usize;
+        sum += ones64(buffers::word_at(m, 8 * i)) as usize;
         i += 1;
     }
     sum

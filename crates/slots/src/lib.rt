@@ -135,7 +135,7 @@ pub fn same_name(a: &[u8], b: &[u8]) -> bool
 pub fn key_of(name: &[u8]) -> u64
     ensures { λ r. ⌜ r ≡ keyOf (now (name .entry)) ⌝ }
 {
-    maps::word_at(name, 0) ^ maps::word_at(name, 2)
+    buffers::word_at(name, 0) ^ buffers::word_at(name, 2)
 }
 
 // Whether a name can be asked for.

@@ -1,9 +1,10 @@
 -- `maps::bits_in_words` meets its contract: after i turns the bits of 8 * i bytes are counted.
 use Prim.Native.Nat.{ℕ, _≤_, _<_, _*_, _-_}
-use mathlib.Core.Path.{_≡_, refl}
+use mathlib.Core.Path.{_≡_, refl, _∙_}
 use native.Mathlib.Omega.{arith}
 use lib.ListN.{getD}
 use Rattle.buffers.specs.Bytes.{count}
+use Rattle.buffers.proofs.Lists.{word-there}
 use Rattle.maps.specs.Bits.{has}
 use Rattle.maps.proofs.Laws.{words-more}
 use borrow.Author.Needs.{needs}
@@ -20,11 +21,11 @@ loop-holds : tie.Need-loop-holds Inv-loop μ-loop
 unfolding count
 loop-holds c = (omega arith, omega arith, refl)
 
-mul-eight-at : tie.Need-mul-eight-at Inv-loop μ-loop
-mul-eight-at c = search needs
+mul-word-at : tie.Need-mul-word-at Inv-loop μ-loop
+mul-word-at c = search needs
 
-eight-at-requires : tie.Need-eight-at-requires Inv-loop μ-loop
-eight-at-requires c κs = search needs
+word-at-requires : tie.Need-word-at-requires Inv-loop μ-loop
+word-at-requires c κs = search needs
 
 ones64-requires : tie.Need-ones64-requires Inv-loop μ-loop
 ones64-requires c κs = search needs
@@ -45,7 +46,7 @@ loop-again : tie.Need-loop-again Inv-loop μ-loop
 loop-again c =
     let l = c .before .before .before in
     let bytes : (b : ℕ) → getD (l .before .before .args .m .now) b 0 < 256 = λ b. omega (arith, l .before .shared-slice-known .given b) in
-    (search needs, omega arith, words-more _ bytes (l .loop .i) _ _ _ (l .loop .inv .2) (c .before .eight-at .ensures) (c .ones64 .ensures .0))
+    (search needs, omega arith, words-more _ bytes (l .loop .i) _ _ _ (l .loop .inv .2) (c .before .word-at .ensures ∙ word-there _ _ (omega arith)) (c .ones64 .ensures .0))
 
 returns : tie.Need-returns Inv-loop μ-loop
 returns c =
@@ -60,8 +61,8 @@ bits-in-words-spec =
     Inv-loop
     μ-loop
     loop-holds
-    mul-eight-at
-    eight-at-requires
+    mul-word-at
+    word-at-requires
     ones64-requires
     cast-sum
     add-sum

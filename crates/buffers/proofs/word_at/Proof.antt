@@ -1,10 +1,10 @@
--- `maps::word_at` meets its contract: the eight bytes are there, or not.
+-- `buffers::word_at` meets its contract: the eight bytes are there, or not.
 use mathlib.Core.Path.{sym, _∙_}
 use native.Mathlib.Omega.{arith}
-use Rattle.maps.proofs.Laws.{word-there, word-not}
+use Rattle.buffers.proofs.Lists.{word-there, word-not}
 use borrow.Author.Needs.{needs}
-use Rattle.maps.proofs.word_at.Statement.{statement}
-use Rattle.maps.proofs.word_at.Tie as tie
+use Rattle.buffers.proofs.word_at.Statement.{statement}
+use Rattle.buffers.proofs.word_at.Tie as tie
 
 returns : tie.Need-returns
 returns c = sym (word-not _ _ (omega arith))

@@ -1,57 +1,76 @@
--- A listing, a read and a start address are refused exactly when the check refuses the disk or a row holds that has none before it.
-use Prim.Native.Nat.{ℕ, suc, _*_}
+-- A listing, a read and a start address are refused exactly when the check refuses the disk or a row holds that has none before it;
+-- the row that is given is the lowest that applies, and a refused call leaves its buffer as it was.
+use Prim.Native.Nat.{ℕ, suc, _*_, _<_}
 use mathlib.Core.Path.{_≡_, refl, sym, ap, _∙_, subst}
-use mathlib.Core.Bool.{Bool, true, false, not, _&&_, cond}
+use mathlib.Core.Bool.{Bool, true, false, not, _&&_, _||_, cond}
 use mathlib.Core.List.{List, [], _∷_}
-use mathlib.Core.Logic.{inl, inr, ⊎-elim, _↔_}
-use mathlib.Core.Option.{Option, none, some, Option·some-ne-none}
+use mathlib.Core.Logic.{_⊎_, inl, inr, _≢_, ⊎-elim, _↔_}
+use mathlib.Core.Option.{Option, none, some}
 use native.Mathlib.Omega.{arith}
-use borrow.Author.Tests.{le-leb}
+use borrow.Author.Tests.{ltb-true, ltb-false, le-leb, lt-leb}
 use lib.Dec.{leb, ltb}
 use lib.ListN.{length}
-use Rattle.refusals.specs.Order.{Refusal, refuse, Reply, _else_, row}
+use Rattle.buffers.proofs.Counts.{any-some, none-any}
+use Rattle.refusals.specs.Order.{Refusal, refuse, Reply, _else_, row, SlotRow, FirstOf, bare, rises, Lowest}
 use Rattle.refusals.specs.Answers.{Outcome, done, refused, unless, filled}
-use Rattle.refusals.proofs.First.{else-some}
-use Rattle.slots.specs.Slot.{kindOf, carried, facts, lengthOf, pageOf, offsetOf}
-use Rattle.slots.specs.Name.{askable}
+use Rattle.refusals.proofs.First.{else-some, firstRow, row-else, row-first, first-row}
+use Rattle.refusals.proofs.Lowest.{slot-lowest, slot-positive}
+use Rattle.slots.specs.Slot.{kindOf, carried, facts, lengthOf, nameOf, pageOf, offsetOf}
+use Rattle.slots.specs.Name.{sameName, askable, padded}
+use Rattle.slots.proofs.Names.{same-refl, not-same}
 use Rattle.chains.specs.File.{File}
 use Rattle.directory.specs.Places.{slots}
 use Rattle.directory.specs.Directory.{held, Directory, liveAmong}
 use Rattle.directory.specs.Find.{find}
+use Rattle.directory.proofs.Search.{find-some, find-none}
 use Rattle.disk.specs.Look.{Look, look, slotsOf}
-use Rattle.disk.specs.Check.{checkDisk}
+use Rattle.disk.specs.Check.{checkLook, checkDisk}
 use Rattle.disk.proofs.Look.{look-slots}
 use Rattle.disk.proofs.Examined.{accepted-size}
+use Rattle.disk.proofs.Order.{check-positive}
 use Rattle.files.specs.Calls.{noFile, fileAt, fileNamed, entries, notCarried, outOfRange, listLook, readReply, readLook, startReply, startLook, listing, reading, starting}
+use Rattle.files.specs.Asked.{someNamed, slotNamed, startOutside, row12, row15, row20, foundRow13, foundRow14, listRows, readRows, startRows, RefusesBy, by-check, by-row}
 use Rattle.files.proofs.Listed.{entries-long}
-use Rattle.plans.specs.Refused.{SlotRow, FirstOf, someNamed, slotNamed, startOutside, row12, row15, row20}
-use Rattle.plans.specs.Asked.{foundRow13, foundRow14, listRows, readRows, startRows, RefusesBy, by-check, by-row}
-use Rattle.plans.proofs.Refused.{some-named, none-named, outside-is}
 
--- ---- the first row that holds, as a reply
+-- ---- the tests
 
-abbrev firstRow : List SlotRow → Reply
-firstRow [] = none
-firstRow (r ∷ rs) = cond (r .holds) (some (refuse (r .number) (r .slot))) (firstRow rs)
+module _ (l : Look) (n : List ℕ) where
+  abbrev has-name : ℕ → Bool
+  has-name i = held false (λ s. sameName (nameOf s) (padded n)) (slotsOf l i)
 
--- one row, and then what is refused after it
-row-else : (n s : ℕ) (t : Bool) (q : Reply) → row n s t else q ≡ cond t (some (refuse n s)) q
-row-else n s true q = refl
-row-else n s false q = refl
+  pub some-named : (i : ℕ) → find (slotsOf l) n ≡ some i → someNamed l n ≡ true
+  unfolding someNamed
+  some-named i e =
+      let w = find-some (slotsOf l) n i e in
+      any-some slots has-name i (w .below)
+      (ap (held false (λ s. sameName (nameOf s) (padded n))) (w .here) ∙ ap (λ (m : List ℕ). sameName m (padded n)) (w .name) ∙ same-refl (padded n))
 
--- it is the refusal of a row that holds and has none before it, and only such a one
-row-first : (rs : List SlotRow) (r : Refusal) → firstRow rs ≡ some r → FirstOf r rs
-row-first [] r e = absurd (Option·some-ne-none r (sym e))
-row-first (x ∷ rs) r e = by (x .holds) refl e (row-first rs r)
+  pub none-named : find (slotsOf l) n ≡ none → someNamed l n ≡ false
+  unfolding someNamed
+  none-named e = none-any slots has-name (λ k h. by k h (slotsOf l k) refl)
+    where
+      by : (k : ℕ) → k < slots → (o : Option (List ℕ)) → slotsOf l k ≡ o → held false (λ s. sameName (nameOf s) (padded n)) o ≡ false
+      by k h none q = refl
+      by k h (some s) q = not-same (nameOf s) (padded n) (find-none (slotsOf l) n e k h s q)
+
+-- a start is in range exactly where it is not outside
+pub outside-is : (page offset : ℕ) → not (leb page 31 && (leb 32768 offset && leb offset 49151)) ≡ startOutside page offset
+outside-is page offset = rw (flip page 31, flip 32768 offset, flip offset 49151) (by (ltb 31 page) (ltb offset 32768) (ltb 49151 offset))
   where
-    by : (t : Bool) → x .holds ≡ t → cond t (some (refuse (x .number) (x .slot))) (firstRow rs) ≡ some r
-        → (firstRow rs ≡ some r → FirstOf r rs) → FirstOf r (x ∷ rs)
-    by true q w k = let z : _≡_ {A = Refusal} (refuse (x .number) (x .slot)) r = cc in inl (q, z)
-    by false q w k = inr (q, k w)
+    at : (a b : ℕ) (t : Bool) → ltb b a ≡ t → leb a b ≡ not t
+    at a b true e = lt-leb a b (ltb-true b a e)
+    at a b false e = le-leb a b (ltb-false b a e)
 
-first-row : (rs : List SlotRow) (r : Refusal) → FirstOf r rs → firstRow rs ≡ some r
-first-row [] r f = absurd f
-first-row (x ∷ rs) r f = ⊎-elim (λ a. rw (a .0) (ap some (a .1))) (λ a. rw (a .0) (first-row rs r (a .1))) f
+    flip : (a b : ℕ) → leb a b ≡ not (ltb b a)
+    flip a b = at a b (ltb b a) refl
+
+    by : (x y z : Bool) → not (not x && (not y && not z)) ≡ (x || (y || z))
+    by true y z = refl
+    by false true z = refl
+    by false false true = refl
+    by false false false = refl
+
+-- ---- the check, and then rows
 
 filled-outcome : (q : Reply) (o : Outcome) (x buf : List ℕ) → unless q o ≡ filled q o x buf .outcome
 filled-outcome none o x buf = refl
@@ -158,3 +177,52 @@ reading-refused d n buf r = filled-by d _ (readRows (look d) n (length buf)) (λ
 pub starting-refused : (d n : List ℕ) (r : Refusal) → (starting d n ≡ refused r) ↔ RefusesBy d (startRows (look d) n) r
 unfolding startLook startReply checkDisk
 starting-refused d n r = unless-by d _ (startRows (look d) n) (λ e. start-rows (look d) n) r _ _
+
+-- ---- the lowest, and none is 0
+
+pub list-rises : (l : Look) (room : ℕ) → rises (bare (listRows l room)) ≡ true
+unfolding listRows
+list-rises l room = refl
+
+pub read-rises : (l : Look) (n : List ℕ) (room : ℕ) → rises (bare (readRows l n room)) ≡ true
+unfolding readRows
+read-rises l n room = refl
+
+pub start-rises : (l : Look) (n : List ℕ) → rises (bare (startRows l n)) ≡ true
+unfolding startRows
+start-rises l n = refl
+
+-- a row that is given is the lowest that applies of them
+pub by-lowest : (d : List ℕ) (rs : List SlotRow) (r : Refusal) → rises (bare rs) ≡ true → RefusesBy d rs r → (checkDisk d ≡ some r) ⊎ Lowest (r .number) (bare rs)
+by-lowest d rs r e (by-check a) = inl a
+by-lowest d rs r e (by-row a f) = inr (slot-lowest rs r e f)
+
+pub by-positive : (d : List ℕ) (rs : List SlotRow) (r : Refusal) → rises (bare rs) ≡ true → RefusesBy d rs r → r .number ≢ 0
+by-positive d rs r e (by-check a) = check-positive d r a
+by-positive d rs r e (by-row a f) = slot-positive rs r e f
+
+pub listing-positive : (d buf : List ℕ) (r : Refusal) → listing d buf .outcome ≡ refused r → r .number ≢ 0
+listing-positive d buf r e = by-positive d (listRows (look d) (length buf)) r (list-rises (look d) (length buf)) (listing-refused d buf r .0 e)
+
+pub reading-positive : (d n buf : List ℕ) (r : Refusal) → reading d n buf .outcome ≡ refused r → r .number ≢ 0
+reading-positive d n buf r e = by-positive d (readRows (look d) n (length buf)) r (read-rises (look d) n (length buf)) (reading-refused d n buf r .0 e)
+
+pub starting-positive : (d n : List ℕ) (r : Refusal) → starting d n ≡ refused r → r .number ≢ 0
+starting-positive d n r e = by-positive d (startRows (look d) n) r (start-rises (look d) n) (starting-refused d n r .0 e)
+
+-- ---- "Nothing lent changes."
+
+filled-unchanged : (q : Reply) (v f : ℕ) (x buf : List ℕ) (r : Refusal) → filled q (done v f) x buf .outcome ≡ refused r
+    → filled q (done v f) x buf .buffer ≡ buf
+filled-unchanged (some s) v f x buf r e = refl
+filled-unchanged none v f x buf r e = cc
+
+-- a refused listing or read leaves its buffer as it was
+pub listing-unchanged : (d buf : List ℕ) (r : Refusal) → listing d buf .outcome ≡ refused r → listing d buf .buffer ≡ buf
+unfolding listLook
+listing-unchanged d buf r e =
+    filled-unchanged (checkLook (look d) else row 20 0 (ltb (length buf) (length (entries (slotsOf (look d)) slots)))) _ _ _ buf r e
+
+pub reading-unchanged : (d n buf : List ℕ) (r : Refusal) → reading d n buf .outcome ≡ refused r → reading d n buf .buffer ≡ buf
+unfolding readLook
+reading-unchanged d n buf r e = filled-unchanged (readReply (look d) n (length buf)) _ _ _ buf r e

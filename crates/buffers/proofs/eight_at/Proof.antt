@@ -1,10 +1,10 @@
--- `maps::eight_at` meets its contract: eight bytes, each 256 times the one before.
+-- `buffers::eight_at` meets its contract: eight bytes, each 256 times the one before.
 use native.Mathlib.Nat.{add-zero}
 use native.Mathlib.Omega.{arith}
-use Rattle.maps.specs.Bits.{word}
+use Rattle.buffers.specs.Bytes.{word}
 use borrow.Author.Needs.{needs}
-use Rattle.maps.proofs.eight_at.Statement.{statement}
-use Rattle.maps.proofs.eight_at.Tie as tie
+use Rattle.buffers.proofs.eight_at.Statement.{statement}
+use Rattle.buffers.proofs.eight_at.Tie as tie
 
 shared-slice-read-wide : tie.Need-shared-slice-read-wide
 shared-slice-read-wide c = search needs

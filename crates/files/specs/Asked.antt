@@ -1,18 +1,48 @@
 -- When a listing, a read or a start address is refused: "A number is given when its row holds and nothing before it in the order does, and only then."
-use Prim.Native.Nat.{ℕ, _*_}
-use mathlib.Core.Bool.{Bool, not, _&&_}
+use Prim.Native.Nat.{ℕ, suc, _*_}
+use mathlib.Core.Bool.{Bool, false, not, _&&_, _||_}
 use mathlib.Core.List.{List, [], _∷_}
 use mathlib.Core.Option.{none, some}
 use mathlib.Core.Path.{_≡_}
-use Rattle.refusals.specs.Order.{Refusal}
-use Rattle.slots.specs.Slot.{kindOf, carried, facts, lengthOf, pageOf, offsetOf}
-use Rattle.slots.specs.Name.{askable}
+use lib.Dec.{ltb}
+use Rattle.buffers.specs.Bytes.{any}
+use Rattle.refusals.specs.Order.{Refusal, SlotRow, rowAt, FirstOf}
+use Rattle.slots.specs.Slot.{kindOf, carried, facts, lengthOf, nameOf, pageOf, offsetOf}
+use Rattle.slots.specs.Name.{sameName, askable, padded}
 use Rattle.directory.specs.Places.{slots}
+use Rattle.directory.specs.Directory.{held, liveAmong}
+use Rattle.directory.specs.Find.{find}
 use Rattle.disk.specs.Look.{Look, slotsOf}
 use Rattle.disk.specs.Check.{checkDisk}
 use Rattle.files.specs.Calls.{fileNamed}
-use Rattle.plans.specs.Refused.{SlotRow, rowAt, FirstOf, someNamed, slotNamed, startOutside, row12, row15, row20}
-use Rattle.directory.specs.Directory.{liveAmong}
+
+-- ---- the tests
+
+-- a live slot has the name
+unfoldable pub someNamed : Look → List ℕ → Bool
+someNamed l n = any slots (λ i. held false (λ s. sameName (nameOf s) (padded n)) (slotsOf l i))
+
+-- its number, from 1; 0 where none has the name
+unfoldable pub slotNamed : Look → List ℕ → ℕ
+slotNamed l n = held 0 suc (find (slotsOf l) n)
+
+-- start page above 31, or offset outside 32,768 to 49,151
+abbrev pub startOutside : ℕ → ℕ → Bool
+startOutside page offset = ltb 31 page || (ltb offset 32768 || ltb 49151 offset)
+
+-- ---- rows of the table
+
+-- the name is not usable
+abbrev pub row12 : Bool → SlotRow
+row12 good = rowAt 12 0 (not good)
+
+-- no live slot has the name
+abbrev pub row15 : Look → List ℕ → SlotRow
+row15 l n = rowAt 15 0 (not (someNamed l n))
+
+-- a lent output buffer is too short: there is room for so many, and more are to be put
+abbrev pub row20 : ℕ → ℕ → SlotRow
+row20 room many = rowAt 20 0 (ltb room many)
 
 -- ---- rows at the slot found
 
