@@ -26,7 +26,7 @@ use Rattle.files.proofs.Named.{Named, named-slot}
 use Rattle.steps.specs.Steps.{Step, putAll, enact, numbers}
 use Rattle.plans.specs.Change.{Mark, Change, erase, rename, mark, marked, usable}
 use Rattle.plans.specs.Plan.{Plan, no, go, orNo, byName, nameTaken, isProtected, touch, planOf, plan, settle, checked, run, Changed, changed, changedBy, change}
-use Rattle.changes.specs.Settled.{settled, touching, unprotected, renaming, Holds}
+use Rattle.changes.specs.Settled.{settled, touching, unprotected, renaming, Holds, Made}
 
 -- ---- a change is settled by its plan, once the disk is accepted
 
@@ -43,12 +43,6 @@ module _ (c : Change) (d buf : List ℕ) where
 pub settled-no : (d buf : List ℕ) (r : Refusal) (o : Outcome) → o ≡ refused r → changed o d buf ≡ settled (no r) d buf
 unfolding settled
 settled-no d buf r o e = ap (λ (o : Outcome). changed o d buf) e
-
--- what steps leave, d and buf being the image and the list as handed in
-pub record Made (sts : List (Step Look)) (d buf d′ buf′ : List ℕ) (r : ℕ) : Type 0 where
-  pub many : r ≡ length (numbers sts)
-  pub image : d′ ≡ enact d sts
-  pub list : buf′ ≡ put buf 0 (numbers sts)
 
 -- a plan of steps: the list is too short for their sectors, or they are done
 module _ (sts : List (Step Look)) (d buf : List ℕ) where

@@ -4,14 +4,16 @@ use mathlib.Core.Bool.{true}
 use mathlib.Core.List.{List}
 use mathlib.Core.Path.{_≡_}
 use lib.ListN.{length}
+use Rattle.buffers.specs.Bytes.{put}
 use Rattle.directory.specs.Places.{slots}
 use Rattle.directory.specs.Directory.{directory, slotOr}
-use Rattle.disk.specs.Look.{look}
+use Rattle.disk.specs.Look.{Look, look}
 use Rattle.files.specs.Calls.{fileAt}
 use Rattle.refusals.specs.Order.{_else_}
 use Rattle.refusals.specs.Answers.{outcomeOf}
 use Rattle.refusals.specs.declared.Answer.{Answer}
 use Rattle.slots.specs.Name.{padded}
+use Rattle.steps.specs.Steps.{Step, enact, numbers}
 use Rattle.plans.specs.Change.{Change, usable}
 use Rattle.plans.specs.Plan.{Plan, go, orNo, nameTaken, isProtected, touch, settle, Changed, changed, changedBy, change}
 
@@ -25,6 +27,12 @@ settled p d buf = changedBy (settle d (length buf) p) d buf
 
 abbrev pub Settles : Plan → List ℕ → List ℕ → Answer → List ℕ → List ℕ → Type 0
 Settles p d buf r d′ buf′ = changed (outcomeOf r) d′ buf′ ≡ settled p d buf
+
+-- what steps leave, d and buf being the image and the list as handed in
+pub record Made (sts : List (Step Look)) (d buf d′ buf′ : List ℕ) (r : ℕ) : Type 0 where
+  pub many : r ≡ length (numbers sts)
+  pub image : d′ ≡ enact d sts
+  pub list : buf′ ≡ put buf 0 (numbers sts)
 
 -- the plan that puts bytes at place o of slot i
 unfoldable pub touching : List ℕ → ℕ → ℕ → List ℕ → Plan

@@ -1,14 +1,14 @@
--- `saves::asked_rows` meets its contract: each way out has the tests that led there.
+-- `taking::asked_rows` meets its contract: each way out has the tests that led there.
 use mathlib.Core.Path.{_≡_, sym, _∙_}
 use mathlib.Core.Bool.{true}
 use borrow.Author.Tests.{not-true, not-false}
 use denote.Ref.{now}
 use Rattle.slots.specs.Slot.{carried}
 use Rattle.plans.specs.Change.{usable}
-use Rattle.saves.proofs.Told.{asked-name, asked-kind, asked-page, asked-low, asked-high, asked-none}
+use Rattle.taking.proofs.Asked.{asked-name, asked-kind, asked-page, asked-low, asked-high, asked-none}
 use borrow.Author.Needs.{needs}
-use Rattle.saves.proofs.asked_rows.Statement.{statement}
-use Rattle.saves.proofs.asked_rows.Tie as tie
+use Rattle.taking.proofs.asked_rows.Statement.{statement}
+use Rattle.taking.proofs.asked_rows.Tie as tie
 
 usable-is : (c : tie.Else1) → usable (now (c .before .before .before .args .name)) ≡ true
 usable-is c = sym (c .before .is-usable .ensures) ∙ not-false _ (c .if1 .left)

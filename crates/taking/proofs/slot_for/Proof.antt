@@ -1,13 +1,13 @@
--- `saves::slot_for` meets its contract: each way out has the tests that led there.
+-- `taking::slot_for` meets its contract: each way out has the tests that led there.
 use mathlib.Core.Path.{sym, ap, _∙_}
 use native.Mathlib.Omega.{arith}
 use Rattle.refusals.specs.Answers.{replyOf}
 use Rattle.directory.specs.Find.{foundAt}
 use Rattle.directory.proofs.Search.{find-some}
-use Rattle.saves.proofs.Planned.{place-asked, place-named, place-full, place-at}
+use Rattle.taking.proofs.Placed.{place-asked, place-named, place-full, place-at}
 use borrow.Author.Needs.{needs}
-use Rattle.saves.proofs.slot_for.Statement.{statement}
-use Rattle.saves.proofs.slot_for.Tie as tie
+use Rattle.taking.proofs.slot_for.Statement.{statement}
+use Rattle.taking.proofs.slot_for.Tie as tie
 
 asked-rows-requires : tie.Need-asked-rows-requires
 asked-rows-requires c κs = search needs

@@ -1,12 +1,12 @@
--- `saves::is_full` meets its contract.
+-- `taking::is_full` meets its contract.
 use mathlib.Core.Path.{ap}
 use Prim.Native.Nat.{ℕ}
 use borrow.Author.Tests.{eq-eqb, ne-eqb}
 use lib.Dec.{eqb}
-use Rattle.saves.specs.Write.{full}
+use Rattle.taking.specs.Taken.{full}
 use borrow.Author.Needs.{needs}
-use Rattle.saves.proofs.is_full.Statement.{statement}
-use Rattle.saves.proofs.is_full.Tie as tie
+use Rattle.taking.proofs.is_full.Statement.{statement}
+use Rattle.taking.proofs.is_full.Tie as tie
 
 returns : tie.Need-returns
 unfolding full

@@ -11,11 +11,11 @@ use lib.Dec.{eqb}
 use lib.ListN.{length, getD, take, set, length-append}
 use lib.Seq.{take-nil}
 use Rattle.buffers.specs.Bytes.{put}
-use Rattle.buffers.proofs.Lists.{put-one, length-put, put-append, put-none}
+use Rattle.buffers.proofs.Lists.{put-one, length-put, put-append, put-none, put-past}
 use Rattle.maps.specs.Bits.{has}
 use Rattle.maps.proofs.Laws.{bit, has-byte}
 use Rattle.plans.specs.Saving.{passing}
-use Rattle.saves.specs.Write.{unset, lowest, full}
+use Rattle.taking.specs.Taken.{unset, lowest, full}
 
 -- ---- the numbers that pass, from b on
 
@@ -130,6 +130,13 @@ module _ (m : List ℕ) (n : ℕ) (out₀ out : List ℕ) (j b : ℕ) (w : Picke
 
   pub picked-all : n ≤ j → out ≡ put out₀ 0 (lowest m n)
   picked-all h = let e : n - j ≡ 0 = omega arith in ends (rw e)
+
+  -- the list is full, so that what is left would lie past its end
+  pub picked-room : length out ≤ j → out ≡ put out₀ 0 (lowest m n)
+  picked-room h =
+      let z : List ℕ = take (n - j) (passing (1560 - b) b (unset m)) in
+      w .is ∙ put-past (put out₀ 0 (w .got)) (0 + length (w .got)) z (omega (arith, picked-long, w .many, length-put out₀ 0 (w .got)))
+      ∙ put-append out₀ 0 (w .got) z ∙ ap (put out₀ 0) (w .left)
 
   pub picked-end : 1560 ≤ b → out ≡ put out₀ 0 (lowest m n)
   unfolding passing
