@@ -6,7 +6,7 @@ use mathlib.Core.List.{List, [], _∷_, _++_}
 use mathlib.Core.Logic.{_⊎_, inl, inr}
 use mathlib.Core.Option.{Option, none, some}
 use native.Mathlib.Omega.{arith}
-use borrow.Author.Tests.{lt-ltb, le-ltb, ltb-false}
+use borrow.Author.Tests.{lt-ltb, le-ltb}
 use lib.Dec.{leb, ltb}
 use lib.ListN.{length, getD, take, drop, length-take, length-append, length-drop}
 use lib.Seq.{take-append-le}
@@ -19,7 +19,7 @@ use Rattle.slots.specs.Rows.{dataCount}
 use Rattle.slots.specs.Name.{askable, padded}
 use Rattle.chains.specs.File.{File}
 use Rattle.directory.specs.Places.{slots}
-use Rattle.directory.specs.Directory.{held}
+use Rattle.directory.specs.Directory.{held, Directory}
 use Rattle.directory.specs.Survey.{free, freeOf}
 use Rattle.directory.specs.Find.{find}
 use Rattle.directory.proofs.Search.{find-some}
@@ -28,10 +28,11 @@ use Rattle.disk.specs.Check.{checkDisk}
 use Rattle.files.specs.Calls.{fileAt}
 use Rattle.steps.specs.Steps.{enact, numbers}
 use Rattle.plans.specs.Change.{Wish, Change, save, erase, rename, mark, marked, between, usable}
-use Rattle.plans.specs.Saving.{sectorsFor, taken, lowestSlot}
-use Rattle.plans.specs.Plan.{touch, saveSteps, Plan, no, go, orNo, byName, nameTaken, isProtected, planOf, plan, Result, stopped, made, settle, checked, run, Changed, changed, changedBy, change}
+use Rattle.plans.specs.Saving.{sectorsFor, taken, lowestSlot, slotTaken}
+use Rattle.plans.specs.Plan.{touch, saveSteps, Plan, no, go, orNo, byName, nameTaken, isProtected, saveReply, planOf, plan, Result, stopped, made, settle, checked, run, Changed, changed, changedBy, change}
 use Rattle.plans.proofs.Free.{taken-long}
 use Rattle.plans.proofs.Refused.{save-long}
+use Rattle.plans.proofs.Sure.{save-tested}
 use Rattle.plans.proofs.Demand3.{run-room}
 use Rattle.packing.specs.Packed.{valueIn}
 use Rattle.bytelists.specs.Lists.{inBytes, changingBy, changing, Counted}
@@ -67,12 +68,12 @@ module _ (l : Look) (n : List ℕ) where
       by none e = (omega arith, omega arith)
       by (some i) e = h i (find-some (slotsOf l) n i e .below)
 
-  small-taken : Small (nameTaken l n)
-  small-taken = by (find (slotsOf l) n) refl
-    where
-      by : (o : Option ℕ) → find (slotsOf l) n ≡ o → Small (held none (λ i. some (refuse 16 (suc i))) o)
-      by none e = tt
-      by (some i) e = let h : i < 80 = find-some (slotsOf l) n i e .below in (omega arith, omega arith)
+small-taken : (v : Directory) (n : List ℕ) → Small (nameTaken v n)
+small-taken v n = by (find v n) refl
+  where
+    by : (o : Option ℕ) → find v n ≡ o → Small (held none (λ i. some (refuse 16 (suc i))) o)
+    by none e = tt
+    by (some i) e = let h : i < 80 = find-some v n i e .below in (omega arith, omega arith)
 
 small-protected : (i : ℕ) (f : File) → i < 80 → Small (isProtected i f)
 small-protected i f h = small-row 17 (suc i) (protected (f .bytes)) (omega arith) (omega arith)
@@ -81,39 +82,41 @@ free-few : (l : Look) → free (extra l) (slotsOf l) ≤ 1560
 unfolding free freeOf dataCount extra
 free-few l = omega arith
 
-mild-save : (l : Look) (w : Wish) → Mild 1561 (planOf (save w) l)
-unfolding planOf
-mild-save l w =
-    mild-or 1561 (r12 else r13 else r14 else nameTaken l (w .name)) (held (no (refuse 18 0)) rest (lowestSlot l))
-    (small-else r12 (r13 else r14 else nameTaken l (w .name)) (small-row 12 0 (not (usable (w .name))) (omega arith) (omega arith))
-    (small-else r13 (r14 else nameTaken l (w .name)) (small-row 13 0 (not (carried (w .kind))) (omega arith) (omega arith))
-    (small-else r14 (nameTaken l (w .name)) (small-row 14 0 (not (leb (w .page) 31 && between 32768 (w .offset) 49151)) (omega arith) (omega arith)) (small-taken l (w .name)))))
-    (at (lowestSlot l))
+small-save : (n : ℕ) (v : Directory) (w : Wish) → Small (saveReply n v w)
+unfolding saveReply
+small-save n v w =
+    small-else (row 12 0 (not (usable (w .name)))) (r13 else r14 else nameTaken v (w .name) else r18 else r19) (small-row 12 0 (not (usable (w .name))) (omega arith) (omega arith))
+    (small-else r13 (r14 else nameTaken v (w .name) else r18 else r19) (small-row 13 0 (not (carried (w .kind))) (omega arith) (omega arith))
+    (small-else r14 (nameTaken v (w .name) else r18 else r19) (small-row 14 0 (not (leb (w .page) 31 && between 32768 (w .offset) 49151)) (omega arith) (omega arith))
+    (small-else (nameTaken v (w .name)) (r18 else r19) (small-taken v (w .name))
+    (small-else r18 r19 (small-row 18 0 (held true (λ i. false) (lowestSlot n v)) (omega arith) (omega arith))
+    (small-row 19 0 (ltb (free n v) (sectorsFor (length (w .body)))) (omega arith) (omega arith))))))
   where
-    r12 : Reply
-    r12 = row 12 0 (not (usable (w .name)))
-
     r13 : Reply
     r13 = row 13 0 (not (carried (w .kind)))
 
     r14 : Reply
     r14 = row 14 0 (not (leb (w .page) 31 && between 32768 (w .offset) 49151))
 
-    few : Bool
-    few = ltb (free (extra l) (slotsOf l)) (sectorsFor (length (w .body)))
+    r18 : Reply
+    r18 = row 18 0 (held true (λ i. false) (lowestSlot n v))
 
-    rest : ℕ → Plan
-    rest i = orNo (row 19 0 few) (go (saveSteps l i w (taken l w)))
+    r19 : Reply
+    r19 = row 19 0 (ltb (free n v) (sectorsFor (length (w .body))))
 
-    fits : (i : ℕ) (t : Bool) → few ≡ t → Mild 1561 (orNo (row 19 0 t) (go (saveSteps l i w (taken l w))))
-    fits i true e = (omega arith, omega arith)
-    fits i false e =
-        let h : sectorsFor (length (w .body)) ≤ free (extra l) (slotsOf l) = ltb-false _ _ e in
-        omega (arith, save-long l i w (taken l w), taken-long l w h, free-few l)
+mild-save : (l : Look) (w : Wish) → Mild 1561 (planOf (save w) l)
+unfolding planOf
+mild-save l w = by (saveReply n v w) refl (small-save n v w)
+  where
+    n : ℕ
+    n = extra l
 
-    at : (o : Option ℕ) → Mild 1561 (held (no (refuse 18 0)) rest o)
-    at none = (omega arith, omega arith)
-    at (some i) = fits i few refl
+    v : Directory
+    v = slotsOf l
+
+    by : (q : Reply) → saveReply n v w ≡ q → Small q → Mild 1561 (orNo q (go (saveSteps l (slotTaken n v) w (taken n v w))))
+    by (some r) e a = a
+    by none e a = omega (arith, save-long l (slotTaken n v) w (taken n v w), taken-long l w (save-tested n v w e .room), free-few l, save-tested n v w e .room)
 
 mild : (c : Change) (l : Look) → Mild (most c) (planOf c l)
 unfolding planOf numbers
@@ -123,11 +126,11 @@ mild (erase n) l =
     (mild-named l n 1 (λ i f. orNo (isProtected i f) (go (touch l i f 0 (0 ∷ []))))
     (λ i h. mild-or 1 (isProtected i (fileAt l i)) (go (touch l i (fileAt l i) 0 (0 ∷ []))) (small-protected i (fileAt l i) h) (omega arith)))
 mild (rename n new) l =
-    mild-or 1 (row 12 0 (not (askable n && usable new))) (byName l n (λ i f. orNo (nameTaken l new else isProtected i f) (go (touch l i f 1 (padded new)))))
+    mild-or 1 (row 12 0 (not (askable n && usable new))) (byName l n (λ i f. orNo (nameTaken (slotsOf l) new else isProtected i f) (go (touch l i f 1 (padded new)))))
     (small-row 12 0 (not (askable n && usable new)) (omega arith) (omega arith))
-    (mild-named l n 1 (λ i f. orNo (nameTaken l new else isProtected i f) (go (touch l i f 1 (padded new))))
-    (λ i h. mild-or 1 (nameTaken l new else isProtected i (fileAt l i)) (go (touch l i (fileAt l i) 1 (padded new)))
-    (small-else (nameTaken l new) (isProtected i (fileAt l i)) (small-taken l new) (small-protected i (fileAt l i) h)) (omega arith)))
+    (mild-named l n 1 (λ i f. orNo (nameTaken (slotsOf l) new else isProtected i f) (go (touch l i f 1 (padded new))))
+    (λ i h. mild-or 1 (nameTaken (slotsOf l) new else isProtected i (fileAt l i)) (go (touch l i (fileAt l i) 1 (padded new)))
+    (small-else (nameTaken (slotsOf l) new) (isProtected i (fileAt l i)) (small-taken (slotsOf l) new) (small-protected i (fileAt l i) h)) (omega arith)))
 mild (mark m n) l =
     mild-or 1 (row 12 0 (not (askable n))) (byName l n (λ i f. go (touch l i f 0 (marked m (getD (f .bytes) 0 0) ∷ [])))) (small-row 12 0 (not (askable n)) (omega arith) (omega arith))
     (mild-named l n 1 (λ i f. go (touch l i f 0 (marked m (getD (f .bytes) 0 0) ∷ []))) (λ i h. omega arith))

@@ -7,6 +7,7 @@ use mathlib.Core.Option.{Option, none, some}
 use native.Mathlib.Omega.{arith}
 use borrow.Author.Tests.{leb-true}
 use lib.Dec.{eqb, leb}
+use Rattle.buffers.proofs.Tests.{and-both}
 use Rattle.geometry.specs.Disk.{imageSize}
 use Rattle.refusals.specs.Order.{Refusal, refuse, Reply, _else_, Row, rows, row, sweep}
 use Rattle.refusals.proofs.First.{sweep-first}
@@ -17,7 +18,6 @@ use Rattle.disk.specs.Look.{Look}
 use Rattle.disk.specs.Check.{checkLook}
 use Rattle.disk.specs.Given.{rows9, rows11}
 use Rattle.disk.proofs.Order.{passAt, pass, check-passes}
-use Rattle.disk.proofs.Rows.{and-both}
 
 -- a refusal of the table at a slot of the directory, or none
 abbrev pub Small : Reply → Type 0

@@ -8,6 +8,7 @@ use native.Mathlib.Omega.{arith}
 use borrow.Author.Tests.{leb-true, eqb-true, not-false}
 use lib.Dec.{eqb, leb, ltb}
 use lib.ListN.{length}
+use Rattle.buffers.proofs.Tests.{and-both}
 use Rattle.geometry.specs.Disk.{imageSize, isSector, placeOf}
 use Rattle.geometry.proofs.Laws.{sector-inside}
 use Rattle.refusals.specs.Order.{Refusal, refuse, Reply, _else_, Row, _when_, rows, row, sweep}
@@ -29,7 +30,7 @@ use Rattle.disk.specs.Check.{checkLook, checkDisk}
 use Rattle.disk.specs.Given.{rows9, rows11}
 use Rattle.disk.proofs.Look.{look-some}
 use Rattle.disk.proofs.Order.{passAt, pass, check-passes}
-use Rattle.disk.proofs.Rows.{and-both, carried-is}
+use Rattle.disk.proofs.Rows.{carried-is}
 use Rattle.disk.proofs.Sound.{sound}
 use Rattle.files.specs.Calls.{entries, listing, Sought, at, barred, soughtBy, lookup, address, startOf, startAt, starting, readAt, reading}
 use Rattle.files.proofs.Listed.{listing-is}
