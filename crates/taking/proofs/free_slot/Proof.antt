@@ -37,7 +37,7 @@ returns : tie.Need-returns Inv-loop μ-loop
 returns c =
     let s = c .before .before in
     let l = s .before .before .loop in
-    slot-free _ (l .i) (l .inv .1) (omega arith) (met-dead _ _ (omega arith) (s .slot-at .ensures) (c .before .is-live .ensures) (not-true _ (c .if1 .taken)))
+    slot-free _ (l .i) (l .inv .1) (omega arith) (met-dead _ _ (s .slot-at .ensures) (c .before .is-live .ensures) (not-true _ (c .if1 .taken)))
 
 loop-less : tie.Need-loop-less Inv-loop μ-loop
 loop-less c = search needs
@@ -46,7 +46,7 @@ loop-again : tie.Need-loop-again Inv-loop μ-loop
 loop-again c =
     let s = c .before .before in
     let l = s .before .before .loop in
-    (omega arith, slot-held _ (l .i) (l .inv .1) (omega arith) _ (met-live _ _ (omega arith) (s .slot-at .ensures) (c .before .is-live .ensures) (not-false _ (c .if1 .left))))
+    (omega arith, slot-held _ (l .i) (l .inv .1) (omega arith) _ (met-live _ _ (s .slot-at .ensures) (c .before .is-live .ensures) (omega arith) (not-false _ (c .if1 .left))))
 
 returns-2 : tie.Need-returns-2 Inv-loop μ-loop
 returns-2 c = let l = c .before .loop in slot-none _ (l .i) (l .inv .1) (omega arith)
