@@ -241,7 +241,8 @@ fn write_save(
     taking::pick_bits(map, n, list);
     write_file(image, i, start, name, exec, info, body, &list[..n]);
     to_numbers(list, n);
-    list[n] = directory::dir_sector(i) as u16;
+    let last = n;
+    list[last] = directory::dir_sector(i) as u16;
 }
 
 // Saves into the free slot `i` of an accepted disk whose used map is `used`, where the sectors and the list suffice.
