@@ -21,7 +21,7 @@ decimal n = digits 4 n
 unfoldable pub shown : ℕ → ℕ
 shown b = cond (leb 32 b && leb b 126) b 63
 
--- "slot, `*` if protected else `-`, ten name characters, count, kind." "Each line ends in byte 10."
+-- "slot, `*` if protected else `-`, ten name characters .. count, kind." "Each line ends in byte 10."
 unfoldable pub line : ℕ → List ℕ → List ℕ
 line number s =
     decimal number ++ (32 ∷ cond (protected s) 42 45 ∷ 32 ∷ tab 10 (λ k. shown (getD (nameOf s) k 0))) ++ (32 ∷ decimal (countOf s))
