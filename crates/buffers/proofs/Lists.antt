@@ -1,4 +1,4 @@
--- Laws of lists made by a rule, of parts and of what is put.
+-- Laws of lists made by a rule, of parts, of what is put, and of eight bytes as one number.
 use Prim.Native.Nat.{ℕ, zero, suc, _+_, _-_, _≤_, _<_, min}
 use mathlib.Core.Path.{_≡_, refl, sym, ap, ap₂, _∙_}
 use mathlib.Core.List.{List, [], _∷_, _++_, append-assoc, append-nil}
@@ -11,7 +11,7 @@ use borrow.Author.Tests.{ltb-true, ltb-false, lt-ltb, le-ltb, le-leb, lt-leb}
 use lib.Dec.{leb, ltb}
 use lib.ListN.{length, getD, take, drop, set, length-append, length-take, length-drop, length-set, List·getD-append, List·getD-eq-default, drop-of-length-le}
 use lib.Seq.{ext-getD, getD-at, getD-append-add, getD-take, getD-drop, take-suc-set, take-all, take-nil, getD-set-same, getD-set-other}
-use Rattle.buffers.specs.Bytes.{tab, part, put}
+use Rattle.buffers.specs.Bytes.{tab, part, put, word, wordOr}
 
 -- a number is below another or not
 pub below-or-not : (a n : ℕ) → (a < n) ⊎ (n ≤ a)
@@ -260,3 +260,24 @@ put-over d a x y l =
     (λ i h k. put-in (put d a x) a y i h (omega (arith, length-put d a x)))
     (λ k h. put-before (put d a x) a y k h ∙ put-before d a x k h)
     (λ k h m. put-after (put d a x) a y k h ∙ put-after d a x k (omega arith))
+
+-- ---- eight bytes at a place
+
+pub word-there : (m : List ℕ) (i : ℕ) → i + 8 ≤ length m → wordOr m i ≡ word 8 m i 0
+unfolding wordOr
+word-there m i h = rw (le-leb (i + 8) (length m) h)
+
+pub word-not : (m : List ℕ) (i : ℕ) → length m < i + 8 → wordOr m i ≡ 0
+unfolding wordOr
+word-not m i h = rw (lt-leb (i + 8) (length m) h)
+
+-- the bytes of a part, as a number
+word-in : (k a n : ℕ) (m : List ℕ) (j : ℕ) → j + k ≤ n → word k (part a n m) 0 j ≡ word k m a j
+unfolding word
+word-in zero a n m j h = refl
+word-in (suc k) a n m j h =
+    let e : 0 + j ≡ j = omega arith in
+    rw (e, part-at a n m j (omega arith), word-in k a n m (suc j) (omega arith))
+
+pub word-part : (m : List ℕ) (a n : ℕ) → n ≡ 8 → a + 8 ≤ length m → wordOr (part a n m) 0 ≡ word 8 m a 0
+word-part m a n e h = word-there (part a n m) 0 (omega (arith, part-long a n m (omega arith))) ∙ word-in 8 a n m 0 (omega arith)

@@ -1,5 +1,5 @@
--- Lists of bytes: made by a rule, a part read, a part put.
-use Prim.Native.Nat.{ℕ, zero, suc, _+_, _-_}
+-- Lists of bytes: made by a rule, a part read, a part put, a run read as one number.
+use Prim.Native.Nat.{ℕ, zero, suc, _+_, _-_, _*_}
 use mathlib.Core.List.{List, [], _∷_, _++_}
 use mathlib.Core.Bool.{Bool, false, cond, _&&_, _||_}
 use lib.Dec.{leb, ltb}
@@ -28,3 +28,12 @@ count (suc n) p = count n p + cond (p n) 1 0
 unfoldable pub any : ℕ → (ℕ → Bool) → Bool
 any zero p = false
 any (suc n) p = any n p || p n
+
+-- k bytes from place i + j on as one number, low byte first
+unfoldable pub word : ℕ → List ℕ → ℕ → ℕ → ℕ
+word zero m i j = 0
+word (suc k) m i j = getD m (i + j) 0 + 256 * word k m i (suc j)
+
+-- the eight bytes from place i on; 0 where they are not all there
+unfoldable pub wordOr : List ℕ → ℕ → ℕ
+wordOr m i = cond (leb (i + 8) (length m)) (word 8 m i 0) 0

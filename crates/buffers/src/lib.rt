@@ -1,8 +1,8 @@
-// Bytes of a lent buffer: a byte, a part, a run of bytes copied.
+// Bytes of a lent buffer: a byte, eight as one number, a part, a run of bytes copied.
 ghost use mathlib.Core.Path.{_≡_};
 ghost use Prim.Native.Nat.{ℕ, _+_, _-_, _≤_, _<_, min};
 ghost use lib.ListN.{length, getD};
-ghost use Rattle.buffers.specs.Bytes.{part, put};
+ghost use Rattle.buffers.specs.Bytes.{part, put, word, wordOr};
 
 // The byte at a place, and 0 past the end.
 pub fn byte_at(s: &[u8], i: usize) -> u8
@@ -16,6 +16,41 @@ pub fn num_at(s: &[u8], i: usize) -> usize
     ensures { λ r. ⌜ (r ≡ getD (now (s .entry)) i 0) × (r < 256) ⌝ }
 {
     byte_at(s, i) as usize
+}
+
+fn wide(x: u8) -> u64
+    ensures { λ r. ⌜ (r ≡ x) × (r < 256) ⌝ }
+{
+    x as u64
+}
+
+// Eight bytes as one number, low byte first, which the compiler makes one load.
+fn eight_at(s: &[u8], i: usize) -> u64
+    requires { ⌜ i + 8 ≤ length (now s) ⌝ }
+    ensures { λ r. ⌜ r ≡ word 8 (now (s .entry)) i 0 ⌝ }
+{
+    wide(s[i])
+        + 256 * wide(s[i + 1])
+        + 65536 * wide(s[i + 2])
+        + 16777216 * wide(s[i + 3])
+        + 4294967296 * wide(s[i + 4])
+        + 1099511627776 * wide(s[i + 5])
+        + 281474976710656 * wide(s[i + 6])
+        + 72057594037927936 * wide(s[i + 7])
+}
+
+// The same of any place; 0 where the eight bytes are not all there.
+pub fn word_at(s: &[u8], i: usize) -> u64
+    ensures { λ r. ⌜ r ≡ wordOr (now (s .entry)) i ⌝ }
+{
+    let len = s.len();
+    if len < 8 {
+        return 0;
+    }
+    if len - 8 < i {
+        return 0;
+    }
+    eight_at(s, i)
 }
 
 pub fn lesser(a: usize, b: usize) -> usize

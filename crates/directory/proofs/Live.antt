@@ -1,10 +1,11 @@
 -- What the directory says of a slot: its bytes where it is live, and nothing of another; and the directory lies in front.
-use Prim.Native.Nat.{ℕ, _+_, _-_, _≤_, _<_}
+use Prim.Native.Nat.{ℕ, zero, suc, _+_, _-_, _≤_, _<_}
 use mathlib.Core.Path.{_≡_, refl, sym, ap, ap₂, _∙_, fun-ext}
 use mathlib.Core.Bool.{Bool, true, false, cond, _&&_, true≢false}
 use mathlib.Core.List.{List, []}
 use mathlib.Core.Logic.{⊎-elim}
 use mathlib.Core.Option.{Option, none, some, Option·some-ne-none}
+use native.Mathlib.Nat.{add-zero, add-suc}
 use native.Mathlib.Omega.{arith}
 use borrow.Author.Tests.{ltb-true, lt-ltb, le-ltb}
 use lib.Dec.{ltb}
@@ -13,45 +14,61 @@ use Rattle.buffers.proofs.Lists.{below-or-not, part-part}
 use Rattle.buffers.proofs.Counts.{count-more, count-le, count-add, none-count}
 use Rattle.slots.specs.Slot.{isLive, nameOf}
 use Rattle.slots.specs.Name.{sameName}
-use Rattle.directory.specs.Places.{slots, slotAt, slotBytes}
-use Rattle.directory.specs.Directory.{held, Directory, seen, directory, slotOr, liveAmong}
-use Rattle.directory.proofs.Places.{slot-front}
+use Rattle.directory.specs.Places.{slots, slotAt, slotPlace, slotBytes}
+use Rattle.directory.specs.Directory.{held, Directory, slotsRead, seen, directory, slotOr, liveAmong}
+use Rattle.directory.proofs.Places.{slot-front, slot-placed}
 
--- ---- the bytes of a slot that is read
+-- ---- the bytes of a slot
 
 pub slot-read : (d : List ℕ) (i : ℕ) → i < slots → slotOr d i ≡ slotBytes d i
-unfolding slotOr seen
+unfolding slotOr
 slot-read d i h = rw (lt-ltb i slots h)
 
+pub slot-there : (d : List ℕ) (i : ℕ) → i < slots → {a : ℕ} → a ≡ slotPlace i → {s : List ℕ} → s ≡ part a 256 d → s ≡ slotOr d i
+slot-there d i h p e = e ∙ ap (λ (a : ℕ). part a 256 d) (p ∙ slot-placed i h) ∙ sym (slot-read d i h)
+
 pub slot-past : (d : List ℕ) (i : ℕ) → slots ≤ i → slotOr d i ≡ []
-unfolding slotOr seen
+unfolding slotOr
 slot-past d i h = rw (le-ltb i slots h)
+
+-- ---- how many slots are read
+
+pub read-most : (d : List ℕ) → slotsRead d ≤ slots
+unfolding slotsRead
+read-most d = omega arith
+
+pub seen-read : (d : List ℕ) (i : ℕ) → i < slotsRead d → seen d i ≡ true
+unfolding seen
+seen-read d i h = lt-ltb i (slotsRead d) h
+
+pub unread : (d : List ℕ) (i : ℕ) → slotsRead d ≤ i → seen d i ≡ false
+unfolding seen
+unread d i h = le-ltb i (slotsRead d) h
 
 -- ---- live, erased, or none at all
 
 pub directory-live : (d : List ℕ) (i : ℕ) → i < slots → isLive (slotBytes d i) ≡ true → directory d i ≡ some (slotBytes d i)
-unfolding directory seen
+unfolding directory seen slotsRead
 directory-live d i h e = rw (lt-ltb i slots h, e)
 
 pub directory-dead : (d : List ℕ) (i : ℕ) → i < slots → isLive (slotBytes d i) ≡ false → directory d i ≡ none
-unfolding directory seen
+unfolding directory seen slotsRead
 directory-dead d i h e = rw (lt-ltb i slots h, e)
 
-pub directory-past : (d : List ℕ) (i : ℕ) → slots ≤ i → directory d i ≡ none
-unfolding directory seen
-directory-past d i h = rw (le-ltb i slots h)
+pub directory-unread : (d : List ℕ) (i : ℕ) → slotsRead d ≤ i → directory d i ≡ none
+unfolding directory
+directory-unread d i h = rw (unread d i h)
 
--- by the bytes that are read, for any slot
-pub directory-read : (d : List ℕ) (i : ℕ) → directory d i ≡ cond (isLive (slotOr d i)) (some (slotOr d i)) none
-unfolding directory slotOr
-directory-read d i = by (seen d i)
-  where
-    by : (t : Bool) → cond (t && isLive (slotBytes d i)) (some (slotBytes d i)) none ≡ cond (isLive (cond t (slotBytes d i) [])) (some (cond t (slotBytes d i) [])) none
-    by true = refl
-    by false = refl
+pub directory-past : (d : List ℕ) (i : ℕ) → slots ≤ i → directory d i ≡ none
+directory-past d i h = directory-unread d i (omega (arith, read-most d))
+
+-- by the bytes of a slot that is read
+pub directory-read : (d : List ℕ) (i : ℕ) → i < slotsRead d → directory d i ≡ cond (isLive (slotOr d i)) (some (slotOr d i)) none
+unfolding directory
+directory-read d i h = rw (seen-read d i h, slot-read d i (omega (arith, read-most d)))
 
 pub directory-some : (d : List ℕ) (i : ℕ) (s : List ℕ) → directory d i ≡ some s → (i < slots) × (s ≡ slotBytes d i) × (isLive s ≡ true)
-unfolding directory seen
+unfolding directory seen slotsRead
 directory-some d i s e = by (ltb i slots) (isLive (slotBytes d i)) refl refl e
   where
     by : (t l : Bool) → ltb i slots ≡ t → isLive (slotBytes d i) ≡ l → cond (t && l) (some (slotBytes d i)) none ≡ some s
@@ -65,11 +82,12 @@ directory-some d i s e = by (ltb i slots) (isLive (slotBytes d i)) refl refl e
 -- ---- as the code meets a slot: its bytes s, and r that says whether it is live
 
 module _ (d : List ℕ) (i : ℕ) {s : List ℕ} (e : s ≡ slotOr d i) {r : Bool} (l : r ≡ isLive s) where
-  pub met-live : r ≡ true → directory d i ≡ some s
-  met-live t = directory-read d i ∙ rw (← e, ← l, t)
+  pub met-live : i < slotsRead d → r ≡ true → directory d i ≡ some s
+  met-live h t = directory-read d i h ∙ rw (← e, ← l, t)
 
+  -- read or not
   pub met-dead : r ≡ false → directory d i ≡ none
-  met-dead t = directory-read d i ∙ rw (← e, ← l, t)
+  met-dead t = ⊎-elim (λ h. directory-read d i h ∙ rw (← e, ← l, t)) (directory-unread d i) (below-or-not i (slotsRead d))
 
 -- what a comparison of its name m with n says of the name k that n is
 pub met-name : (s : List ℕ) {m n k : List ℕ} {r t : Bool} → m ≡ nameOf s → n ≡ k → r ≡ sameName m n → r ≡ t → sameName (nameOf s) k ≡ t
@@ -81,7 +99,7 @@ slot-in-front : (d : List ℕ) (i : ℕ) → i < slots → slotBytes (part 0 409
 slot-in-front d i h = part-part 0 40960 (slotAt i) 256 d (slot-front i h) ∙ ap (λ (a : ℕ). part a 256 d) (omega arith)
 
 at-front : (d : List ℕ) (i : ℕ) → directory d i ≡ directory (part 0 40960 d) i
-unfolding directory seen
+unfolding directory seen slotsRead
 at-front d i = ⊎-elim (λ h. rw (lt-ltb i slots h, slot-in-front d i h)) (λ h. rw (le-ltb i slots h)) (below-or-not i slots)
 
 pub directory-front : (d : List ℕ) → directory d ≡ directory (part 0 40960 d)
@@ -123,3 +141,19 @@ among-rest v i n h e j k l =
     by : (o : Option (List ℕ)) → held false (λ s. true) o ≡ false → o ≡ none
     by none q = refl
     by (some s) q = absurd (true≢false q)
+
+-- where no slot is live there are as many up to any of them
+live-rest : (v : Directory) (i m : ℕ) → ((j : ℕ) → i ≤ j → v j ≡ none) → liveAmong v (i + m) ≡ liveAmong v i
+unfolding liveAmong count
+live-rest v i zero h = rw add-zero
+live-rest v i (suc m) h = rw (add-suc i m, h (i + m) (omega arith), add-zero) (live-rest v i m h)
+
+-- all that are live are read
+pub live-read : (d : List ℕ) (i n : ℕ) → slotsRead d ≤ i → i ≤ n → liveAmong (directory d) n ≡ liveAmong (directory d) i
+live-read d i n h l =
+    let e : i + (n - i) ≡ n = omega arith in
+    ap (liveAmong (directory d)) (sym e) ∙ live-rest (directory d) i (n - i) (λ j k. directory-unread d j (omega arith))
+
+-- where live slots are still to come, the next one is read
+pub among-read : (d : List ℕ) (i : ℕ) → i ≤ slots → liveAmong (directory d) i < liveAmong (directory d) slots → i < slotsRead d
+among-read d i h l = ⊎-elim (λ k. k) (λ (k : slotsRead d ≤ i). absurd (omega (arith, live-read d i slots k h))) (below-or-not i (slotsRead d))

@@ -13,22 +13,23 @@ use lib.ListN.{length, getD}
 use Rattle.buffers.proofs.Counts.{any-none, none-any}
 use Rattle.buffers.specs.Bytes.{any}
 use Rattle.maps.specs.Bits.{has, bitsOf, share, clear, join}
-use Rattle.refusals.specs.Order.{refuse, _else_, Row, rows, sweepFrom}
+use Rattle.refusals.specs.Order.{refuse, _else_, Row, rows, sweepFrom, rises}
 use Rattle.refusals.specs.Answers.{refusalOf, replyOf}
 use Rattle.refusals.specs.declared.Refused.{Refused}
 use Rattle.refusals.specs.declared.Verdict.{Verdict}
 use Rattle.refusals.specs.declared.Verdict.the-variants.{Sound, Unsound}
-use Rattle.refusals.proofs.First.{rows-clear, clear-rows, sweep-start, sweep-stop, sweep-end, sweep-none, none-sweep}
+use Rattle.refusals.proofs.First.{rows-clear, clear-rows, sweep-start, sweep-stop, sweep-none, none-sweep, none-sweepFrom}
 use Rattle.slots.specs.Slot.{kindOf, countOf, firstOf, nameOf, mapOf, facts, known, carried, lengthOf}
 use Rattle.slots.specs.Name.{sameName}
 use Rattle.slots.specs.Rows.{own, ownReply, dataCount}
 use Rattle.directory.specs.Places.{slots}
-use Rattle.directory.specs.Directory.{held, Directory, directory, liveAmong}
-use Rattle.directory.specs.Survey.{earlier, cross, surveyAt, survey, union, counted, usedMap}
+use Rattle.directory.specs.Directory.{held, Directory, slotsRead, directory, liveAmong}
+use Rattle.directory.specs.Survey.{earlier, cross, surveyAt, survey, union, counted, usedMap, refusedWith}
 use Rattle.directory.specs.Steps.{Apart, Keyed, Reached, Surveyed}
 use Rattle.directory.specs.declared.Survey.{Survey}
 use Rattle.directory.specs.declared.UsedMap.{UsedMap}
-use Rattle.directory.proofs.Union.{union-dead, union-live, length-union, share-union, counted-bytes, counted-count}
+use Rattle.directory.proofs.Live.{read-most, directory-unread, live-read}
+use Rattle.directory.proofs.Union.{union-dead, union-live, union-rest, length-union, share-union, counted-bytes, counted-count}
 
 -- ---- an earlier live slot, as a loop looks for it
 
@@ -62,6 +63,10 @@ rows-append s (r ∷ a) b = by (r .holds) (rows-append s a b)
         → cond t (some (refuse (r .number) s)) (rows s (a ++ b)) ≡ (cond t (some (refuse (r .number) s)) (rows s a) else rows s b)
     by true e = refl
     by false e = e
+
+-- "at a slot the lowest number": the rows stand in the order of their numbers
+pub survey-rises : (n : ℕ) (v : Directory) (i : ℕ) (s : List ℕ) → rises (own n (facts s) ++ cross v i s) ≡ true
+survey-rises n v i s = refl
 
 pub survey-dead : (n : ℕ) (v : Directory) (i : ℕ) → v i ≡ none → surveyAt n v i ≡ none
 unfolding surveyAt
@@ -163,7 +168,7 @@ pub used-dead : (v : Directory) (i : ℕ) (u : UsedMap) → u ≡ counted (union
 used-dead v i u e p = e ∙ ap counted (sym (union-dead v i p))
 
 module _ (d : List ℕ) (i : ℕ) (u : UsedMap) (used : u ≡ counted (union (directory d) i)) (s : List ℕ) (here : directory d i ≡ some s) where
-  pub reached : i < slots → {keys : List ℕ} → Keyed d i keys → Reached d i s (u .bytes) keys
+  pub reached : i < slotsRead d → {keys : List ℕ} → Keyed d i keys → Reached d i s (u .bytes) keys
   reached h k = record { slot = h; here = here; used = counted-bytes (union (directory d) i) u used; keyed = k }
 
   -- past its rows: m is its map, k its count
@@ -186,17 +191,24 @@ module _ (d : List ℕ) (i : ℕ) (u : UsedMap) (used : u ≡ counted (union (di
 
 -- what the pass gives: at a slot that is refused, and at the end
 module _ (d : List ℕ) (r : Survey) (i : ℕ) (left : survey 0 (directory d) ≡ sweepFrom (slots - i) i (surveyAt 0 (directory d))) where
-  pub pass-stops : (f : Refused) → i < slots → r .verdict ≡ Unsound f → replyOf (Unsound f) ≡ surveyAt 0 (directory d) i → r .used ≡ counted clear → r .files ≡ 0 → Surveyed d r
-  pass-stops f h p e w n =
-      let z : survey 0 (directory d) ≡ some (refusalOf f) = left ∙ sweep-stop slots i (surveyAt 0 (directory d)) (refusalOf f) h (sym e) in
-      record { reply = rw (p, z); used = rw z w; files = rw z n }
+  pub pass-stops : (f : Refused) → i < slotsRead d → replyOf (Unsound f) ≡ surveyAt 0 (directory d) i → r ≡ refusedWith (Unsound f) → Surveyed d r
+  unfolding refusedWith
+  pass-stops f h e p =
+      let z : survey 0 (directory d) ≡ some (refusalOf f) = left ∙ sweep-stop slots i (surveyAt 0 (directory d)) (refusalOf f) (omega (arith, read-most d)) (sym e) in
+      record { reply = rw (p, z); used = rw (p, z); files = rw (p, z) }
 
-  pub pass-ends : slots ≤ i → i ≤ slots → r .verdict ≡ Sound → r .used ≡ counted (union (directory d) i) → r .files ≡ liveAmong (directory d) i → Surveyed d r
+  -- past the slots that are read no row holds
+  pub pass-ends : slotsRead d ≤ i → i ≤ slots → r .verdict ≡ Sound → r .used ≡ counted (union (directory d) i) → r .files ≡ liveAmong (directory d) i → Surveyed d r
   unfolding usedMap
   pass-ends h l p w f =
-      let n : i ≡ slots = omega arith in
-      let z : survey 0 (directory d) ≡ none = left ∙ sweep-end (slots - i) i (surveyAt 0 (directory d)) (omega arith) in
-      record { reply = rw (p, z); used = rw z (w ∙ ap (λ (k : ℕ). counted (union (directory d) k)) n); files = rw z (f ∙ ap (liveAmong (directory d)) n) }
+      let n : i + (slots - i) ≡ slots = omega arith in
+      let dead : (j : ℕ) → i ≤ j → directory d j ≡ none = λ j k. directory-unread d j (omega arith) in
+      let z : survey 0 (directory d) ≡ none = left ∙ none-sweepFrom (slots - i) i (surveyAt 0 (directory d)) (λ j k m. survey-dead 0 (directory d) j (dead j k)) in
+      record {
+        reply = rw (p, z);
+        used = rw z (w ∙ ap counted (sym (ap (union (directory d)) (sym n) ∙ union-rest (directory d) i (slots - i) dead)));
+        files = rw z (f ∙ sym (live-read d i slots h l));
+      }
 
 -- what its caller learns by the verdict
 pub surveyed-sound : (d : List ℕ) (r : Survey) → Surveyed d r → r .verdict ≡ Sound

@@ -4,12 +4,12 @@ use mathlib.Core.Path.{_≡_, refl}
 use mathlib.Core.Bool.{true, and-eq-true-iff}
 use mathlib.Core.Logic.{_⊎_, inl, inr, ⊎-elim}
 use native.Mathlib.Omega.{arith}
-use borrow.Author.Tests.{leb-true, ltb-true, le-leb, lt-ltb}
+use borrow.Author.Tests.{leb-true, ltb-true, le-leb, lt-ltb, le-ltb}
 use lib.Dec.{leb, ltb}
 use Rattle.geometry.specs.Disk.{imageSize, bitNumber, bitPlace}
 use Rattle.geometry.proofs.Laws.{number-second, number-from}
-use Rattle.geometry.proofs.Tests.{split}
-use Rattle.directory.specs.Places.{slotCount, slots, slotAt, dirSector, dataBit}
+use Rattle.buffers.proofs.Lists.{below-or-not}
+use Rattle.directory.specs.Places.{slotCount, slots, slotAt, slotPlace, dirSector, dataBit}
 
 -- four tracks hold the slots
 pub slots-count : slots ≡ slotCount 0
@@ -24,6 +24,15 @@ slot-inside n i h l = let q : i / 20 ≤ 38 = omega arith in omega arith
 pub slot-front : (i : ℕ) → i < slots → slotAt i + 256 ≤ 40960
 unfolding slotAt
 slot-front i h = let q : i / 20 ≤ 3 = omega arith in omega arith
+
+-- the place for a number of any size
+pub slot-placed : (i : ℕ) → i < slots → slotPlace i ≡ slotAt i
+unfolding slotPlace
+slot-placed i h = rw (lt-ltb i slots h)
+
+pub slot-end : (i : ℕ) → slots ≤ i → slotPlace i ≡ imageSize
+unfolding slotPlace
+slot-end i h = rw (le-ltb i slots h)
 
 -- two slots to a sector
 pub slot-sector : (i : ℕ) → slotAt i ≡ 512 * dirSector i + 256 * (i % 2)
@@ -49,12 +58,12 @@ unfolding slotCount dirSector
 dir-not-data n b i h e l q =
     ⊎-elim (λ (k : b < 760). omega (arith, number-from (4 + n) b (omega arith) k (omega (arith, data-bounds n b e))))
     (λ (k : 760 ≤ b). omega (arith, number-second b k (data-bounds n b e .1)))
-    (split b 760)
+    (below-or-not b 760)
 
 pub slot-data-apart : (n b i : ℕ) → n ≤ 35 → dataBit n b ≡ true → i < slotCount n → (slotAt i + 256 ≤ bitPlace b) ⊎ (bitPlace b + 512 ≤ slotAt i)
 slot-data-apart n b i h e l =
     ⊎-elim (λ (k : dirSector i < bitNumber b). inl (omega (arith, slot-sector i)))
-    (λ (k : bitNumber b ≤ dirSector i). inr (omega (arith, slot-sector i, apart))) (split (dirSector i) (bitNumber b))
+    (λ (k : bitNumber b ≤ dirSector i). inr (omega (arith, slot-sector i, apart))) (below-or-not (dirSector i) (bitNumber b))
   where
     apart : bitNumber b ≡ dirSector i → ⊥
     apart q = dir-not-data n b i h e l q

@@ -1,5 +1,5 @@
 -- A slot found by its name is the lowest live one that has it, and where none is found no live slot has it.
-use Prim.Native.Nat.{ℕ, _-_, _<_}
+use Prim.Native.Nat.{ℕ, _-_, _≤_, _<_}
 use mathlib.Core.Path.{_≡_, refl, sym, ap, _∙_}
 use mathlib.Core.Bool.{Bool, true, false, cond}
 use mathlib.Core.List.{List}
@@ -8,13 +8,14 @@ use native.Mathlib.Omega.{arith}
 use lib.ListN.{length, replicate, length-append}
 use Rattle.buffers.proofs.Lists.{length-part}
 use Rattle.refusals.specs.Order.{sweepFrom}
-use Rattle.refusals.proofs.First.{sweep-start, sweep-none, none-sweep, sweep-first, first-sweep}
+use Rattle.refusals.proofs.First.{sweep-start, sweep-none, none-sweep, none-sweepFrom, sweep-first, first-sweep}
 use Rattle.slots.specs.Slot.{nameOf}
 use Rattle.slots.specs.Name.{sameName, padded}
 use Rattle.slots.proofs.Names.{same-refl, same-is}
 use Rattle.directory.specs.Places.{slots}
-use Rattle.directory.specs.Directory.{held, Directory}
+use Rattle.directory.specs.Directory.{held, Directory, slotsRead, directory}
 use Rattle.directory.specs.Find.{hit, find}
+use Rattle.directory.proofs.Live.{directory-unread}
 
 -- slot i is live and has the name, and no lower live slot has it
 pub record FoundBy (v : Directory) (n : List ℕ) (i : ℕ) : Type 0 where
@@ -93,6 +94,10 @@ none-find v n h = none-sweep slots (hit v n) (λ k l. unnamed v n k (h k l))
 pub find-start : (v : Directory) (n : List ℕ) → find v n ≡ sweepFrom (slots - 0) 0 (hit v n)
 unfolding find
 find-start v n = sweep-start slots (hit v n)
+
+-- past the slots that are read there is no name
+pub find-rest : (d n : List ℕ) (i : ℕ) → slotsRead d ≤ i → sweepFrom (slots - i) i (hit (directory d) n) ≡ none
+find-rest d n i h = none-sweepFrom (slots - i) i (hit (directory d) n) (λ j l k. rw (directory-unread d j (omega arith)))
 
 -- a name of more than ten bytes no slot has
 pub find-long : (v : Directory) (n : List ℕ) → 10 < length n → none ≡ find v n

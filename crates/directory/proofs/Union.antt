@@ -1,9 +1,10 @@
 -- The used map against the live slots before: how long it is, which bits it has, and what it shares with another map.
-use Prim.Native.Nat.{ℕ, zero, suc, _+_, _<_}
+use Prim.Native.Nat.{ℕ, zero, suc, _+_, _≤_, _<_}
 use mathlib.Core.Path.{_≡_, sym, ap, ap₂, _∙_}
 use mathlib.Core.Bool.{Bool, false, _||_, or-false, true≢false}
 use mathlib.Core.List.{List}
 use mathlib.Core.Option.{Option, none, some}
+use native.Mathlib.Nat.{add-zero, add-suc}
 use native.Mathlib.Numerals.{add-one}
 use native.Mathlib.Omega.{arith}
 use lib.ListN.{length, length-replicate}
@@ -24,6 +25,12 @@ union-dead v k e = rw (add-one, e)
 pub union-live : (v : Directory) (k : ℕ) (s : List ℕ) → v k ≡ some s → union v (k + 1) ≡ join (union v k) (mapOf s)
 unfolding union
 union-live v k s e = rw (add-one, e)
+
+-- where no slot is live the union stays
+pub union-rest : (v : Directory) (i m : ℕ) → ((j : ℕ) → i ≤ j → v j ≡ none) → union v (i + m) ≡ union v i
+unfolding union
+union-rest v i zero h = rw add-zero
+union-rest v i (suc m) h = rw (add-suc i m, h (i + m) (omega arith)) (union-rest v i m h)
 
 -- ---- the union of the first k
 

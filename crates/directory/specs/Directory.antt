@@ -17,17 +17,21 @@ module _ {A B : Type 0} where
 abbrev pub Directory : Type 0
 Directory = ℕ → Option (List ℕ)
 
+-- how many slots are read: all of them
+unfoldable pub slotsRead : List ℕ → ℕ
+slotsRead d = slots
+
 -- slot i is read
 unfoldable pub seen : List ℕ → ℕ → Bool
-seen d i = ltb i slots
+seen d i = ltb i (slotsRead d)
 
 -- "Byte 0 zero means erased or free." "Erased slots are not examined."
 unfoldable pub directory : List ℕ → Directory
 directory d i = cond (seen d i && isLive (slotBytes d i)) (some (slotBytes d i)) none
 
--- the bytes of a slot that is read, and none of another
+-- the bytes of a slot, read or not, and none past the last slot
 unfoldable pub slotOr : List ℕ → ℕ → List ℕ
-slotOr d i = cond (seen d i) (slotBytes d i) []
+slotOr d i = cond (ltb i slots) (slotBytes d i) []
 
 -- how many of the first k slots are live
 unfoldable pub liveAmong : Directory → ℕ → ℕ

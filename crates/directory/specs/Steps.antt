@@ -9,8 +9,7 @@ use Rattle.maps.specs.Bits.{bitsOf, share}
 use Rattle.refusals.specs.Answers.{replyOf}
 use Rattle.slots.specs.Slot.{nameOf}
 use Rattle.slots.specs.Name.{keyOf}
-use Rattle.directory.specs.Places.{slots}
-use Rattle.directory.specs.Directory.{directory}
+use Rattle.directory.specs.Directory.{slotsRead, directory}
 use Rattle.directory.specs.Survey.{survey, union, usedOr, filesOr}
 use Rattle.directory.specs.declared.Survey.{Survey}
 use Rattle.directory.specs.declared.UsedMap.{UsedMap}
@@ -22,7 +21,7 @@ pub record Keyed (d : List ℕ) (i : ℕ) (keys : List ℕ) : Type 0 where
 
 -- slot i is live and its bytes are s; u is the used map of the slots before it
 pub record Reached (d : List ℕ) (i : ℕ) (s u keys : List ℕ) : Type 0 where
-  pub slot : i < slots
+  pub slot : i < slotsRead d
   pub here : directory d i ≡ some s
   pub used : u ≡ union (directory d) i
   pub keyed : Keyed d i keys

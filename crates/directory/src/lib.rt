@@ -2,17 +2,21 @@
 // directory's bytes alone, and answers for a slice of any length.
 ghost use mathlib.Core.Path.{_≡_};
 ghost use mathlib.Core.Bool.{false};
+ghost use Prim.Native.Nat.{_≤_, _<_};
 ghost use Rattle.maps.specs.Bits.{clear, join};
 ghost use Rattle.refusals.specs.Answers.{replyOf};
 ghost use Rattle.slots.specs.Slot.{nameOf};
 ghost use Rattle.slots.specs.Name.{sameName};
-ghost use Rattle.directory.specs.Directory.{held, directory, slotOr};
-ghost use Rattle.directory.specs.Survey.{earlier, surveyAt, counted, freeOf};
+ghost use Rattle.directory.specs.Places.{slotPlace, dirSector};
+ghost use Rattle.directory.specs.Directory.{held, slotsRead, directory, slotOr};
+ghost use Rattle.directory.specs.Survey.{earlier, surveyAt, counted, freeOf, refusedWith};
 ghost use Rattle.directory.specs.Find.{find, foundAt};
 ghost use Rattle.directory.specs.Steps.{Apart, Keyed, Reached, Surveyed};
 use refusals::Reason;
-use refusals::Refused;
 use refusals::Verdict;
+
+// The slots of the directory.
+pub const SLOTS: usize = 80;
 
 // The used map: 195 map bytes together with their number of set bits.
 pub struct UsedMap {
@@ -34,18 +38,43 @@ pub enum Found {
     Nothing,
 }
 
+// Where slot `i`, counted from 0, lies; the image's size past the last slot.
+pub fn slot_place(i: usize) -> usize
+    ensures { λ r. ⌜ (r ≡ slotPlace i) × (r ≤ 819200) ⌝ }
+{
+    if SLOTS <= i {
+        return geometry::IMAGE_SIZE;
+    }
+    i / 20 * 10240 + i % 20 * 256
+}
+
+// The number of the sector that slot `i`, counted from 0, lies in.
+pub fn dir_sector(i: usize) -> usize
+    ensures { λ r. ⌜ r ≡ dirSector i ⌝ }
+{
+    i / 20 * 20 + i % 20 / 2
+}
+
+// How many slots are read.
+pub fn slots_read(dir: &[u8]) -> usize
+    ensures { λ r. ⌜ (r ≡ slotsRead (now (dir .entry))) × (r ≤ 80) ⌝ }
+{
+    SLOTS
+}
+
 // The 256 bytes of slot `i`, counted from 0, uncopied; none past the last slot.
 pub fn slot_at(dir: &[u8], i: usize) -> &[u8]
     ensures { λ r. ⌜ now r ≡ slotOr (now (dir .entry)) i ⌝ }
 {
-    if 80 <= i {
+    if SLOTS <= i {
         return buffers::part_at(dir, 0, 0);
     }
-    buffers::part_at(dir, i / 20 * 10240 + i % 20 * 256, 256)
+    buffers::part_at(dir, slot_place(i), 256)
 }
 
 // Whether slot `j` is live and has that name.
 fn is_named(dir: &[u8], j: usize, name: &[u8]) -> bool
+    requires { ⌜ j < slotsRead (now dir) ⌝ }
     ensures { λ r. ⌜ r ≡ held false (λ t. sameName (nameOf t) (now (name .entry))) (directory (now (dir .entry)) j) ⌝ }
 {
     let t = slot_at(dir, j);
@@ -58,7 +87,7 @@ fn is_named(dir: &[u8], j: usize, name: &[u8]) -> bool
 // Whether a live slot before slot `i` has that name; `keys` are the keys of their names. Only a name with the same key is
 // looked at.
 fn named_before(dir: &[u8], i: usize, name: &[u8], keys: &[u64]) -> bool
-    requires { ⌜ Keyed (now dir) i (now keys) ⌝ }
+    requires { ⌜ (i ≤ slotsRead (now dir)) × Keyed (now dir) i (now keys) ⌝ }
     ensures { λ r. ⌜ r ≡ earlier (directory (now (dir .entry))) i (λ t. sameName (nameOf t) (now (name .entry))) ⌝ }
 {
     let key = slots::key_of(name);
@@ -86,16 +115,10 @@ fn live_rows(dir: &[u8], i: usize, s: &[u8], used: &[u8], keys: &[u64]) -> Verdi
         Verdict::Unsound(f) => Verdict::Unsound(f),
         Verdict::Sound => {
             if maps::shares(used, slots::map_of(s)) {
-                return Verdict::Unsound(Refused {
-                    reason: Reason::SectorShared,
-                    slot,
-                });
+                return refusals::unsound(Reason::SectorShared, slot);
             }
             if named_before(dir, i, slots::name_of(s), keys) {
-                return Verdict::Unsound(Refused {
-                    reason: Reason::NameTwice,
-                    slot,
-                });
+                return refusals::unsound(Reason::NameTwice, slot);
             }
             Verdict::Sound
         }
@@ -109,6 +132,18 @@ fn unused() -> UsedMap
     UsedMap {
         bytes: [0; 195],
         count: 0,
+    }
+}
+
+// What a check hands on that refuses: no used map and no files.
+pub fn refused(verdict: Verdict) -> Survey
+    ensures { λ r. ⌜ r ≡ refusedWith verdict ⌝ }
+{
+    let used = unused();
+    Survey {
+        verdict,
+        used,
+        files: 0,
     }
 }
 
@@ -127,23 +162,19 @@ fn joined(used: UsedMap, map: &[u8], own: usize) -> UsedMap
 pub fn survey_slots(dir: &[u8]) -> Survey
     ensures { λ r. ⌜ Surveyed (now (dir .entry)) r ⌝ }
 {
+    let end = slots_read(dir);
     let mut used = unused();
-    let mut keys = [0u64; 80];
+    let mut keys = [0u64; SLOTS];
     let mut files: usize = 0;
     let mut i: usize = 0;
-    while i < 80 {
+    while i < end {
         let s = slot_at(dir, i);
         let k = i;
         i += 1;
         if slots::is_live(s) {
             match live_rows(dir, k, s, &used.bytes, &keys) {
                 Verdict::Unsound(f) => {
-                    let none = unused();
-                    return Survey {
-                        verdict: Verdict::Unsound(f),
-                        used: none,
-                        files: 0,
-                    };
+                    return refused(Verdict::Unsound(f));
                 }
                 Verdict::Sound => {
                     keys[k] = slots::key_of(slots::name_of(s));
@@ -169,8 +200,9 @@ pub fn find(dir: &[u8], name: &[u8]) -> Found
         return Found::Nothing;
     }
     let filled = slots::padded_name(name);
+    let end = slots_read(dir);
     let mut i: usize = 0;
-    while i < 80 {
+    while i < end {
         let k = i;
         i += 1;
         if is_named(dir, k, &filled) {
@@ -185,8 +217,8 @@ pub fn free_of(used: UsedMap) -> usize
     ensures { λ r. ⌜ r ≡ freeOf 0 used ⌝ }
 {
     let count = used.count;
-    if 1560 < count {
+    if geometry::DATA_SECTORS < count {
         return 0;
     }
-    1560 - count
+    geometry::DATA_SECTORS - count
 }

@@ -12,8 +12,8 @@ use lib.ListN.{length, length-append}
 use Rattle.buffers.specs.Bytes.{put, count}
 use Rattle.buffers.proofs.Lists.{length-put, put-none, put-append, part-long}
 use Rattle.directory.specs.Places.{slots, slotAt}
-use Rattle.directory.specs.Directory.{held, Directory, directory, liveAmong}
-use Rattle.directory.proofs.Live.{directory-some, among-rest}
+use Rattle.directory.specs.Directory.{held, Directory, slotsRead, directory, liveAmong}
+use Rattle.directory.proofs.Live.{directory-some, among-rest, among-read}
 use Rattle.directory.proofs.Places.{slot-front}
 use Rattle.directory.specs.Survey.{free, freeOf, usedMap, usedOr, filesOr}
 use Rattle.directory.specs.declared.UsedMap.{UsedMap}
@@ -108,8 +108,9 @@ module _ (d buf : List ℕ) where
         w .bytes
         ∙ ap (put buf 0) (sym (ap (entries (directory d)) (sym z) ∙ entries-rest (directory d) i (slots - i) (λ j x y. among-rest (directory d) i slots h f j x (omega arith))))
 
-    pub listed-all : i ≡ slots → now ≡ put buf 0 (entries (directory d) slots)
-    listed-all e = w .bytes ∙ ap (λ (k : ℕ). put buf 0 (entries (directory d) k)) e
+    -- before the end the next slot is read
+    pub listed-next : i ≤ slots → 40960 ≤ length d → (end : ℕ) → end ≡ 258 * liveAmong (directory d) slots → at < end → i < slotsRead d
+    listed-next h l end e k = among-read d i h (omega (arith, w .place, entries-long d l i h))
 
 -- ---- the whole call
 
@@ -121,8 +122,8 @@ pub listing-is : (d buf : List ℕ)
 unfolding listLook checkDisk extra
 listing-is d buf = rw (look-slots d)
 
-pub listing-refused : (d buf : List ℕ) (r : Refusal) → checkDisk d ≡ some r → out (refused r) buf ≡ listing d buf
-listing-refused d buf r e = sym (listing-is d buf ∙ rw e)
+listing-barred : (d buf : List ℕ) (r : Refusal) → checkDisk d ≡ some r → out (refused r) buf ≡ listing d buf
+listing-barred d buf r e = sym (listing-is d buf ∙ rw e)
 
 module _ (d buf : List ℕ) (u : UsedMap) (w : Accepted d u) where
   whole : 40960 ≤ length d
@@ -146,7 +147,7 @@ module _ (d buf : List ℕ) (u : UsedMap) (w : Accepted d u) where
 
 -- what a refused check says of the listing, and an accepted one
 pub listing-unsound : (d buf : List ℕ) (s : Survey) (r : Refused) → Examined d s → s .verdict ≡ Unsound r → out (refused (refusalOf r)) buf ≡ listing d buf
-listing-unsound d buf s r w e = listing-refused d buf (refusalOf r) (sym (w .reply) ∙ ap replyOf e)
+listing-unsound d buf s r w e = listing-barred d buf (refusalOf r) (sym (w .reply) ∙ ap replyOf e)
 
 pub sound-files : (d : List ℕ) (s : Survey) → Examined d s → s .verdict ≡ Sound → s .files ≡ liveAmong (directory d) slots
 sound-files d s w e =

@@ -21,6 +21,9 @@ use refusals::Reason;
 use refusals::Refused;
 use refusals::Verdict;
 
+// The bytes of an entry of a listing.
+pub const ENTRY_BYTES: usize = 258;
+
 // Puts a slot's number, low byte first, and its bytes at a place of a buffer.
 fn put_entry(buf: &mut [u8], at: usize, number: usize, s: &[u8])
     requires { ⌜ (at ≤ 20640) × (number ≤ 80) ⌝ }
@@ -38,15 +41,12 @@ fn list_into(dir: &[u8], end: usize, buf: &mut [u8])
 {
     let mut at: usize = 0;
     let mut i: usize = 0;
-    while i < 80 {
-        if end <= at {
-            return;
-        }
+    while at < end {
         let s = directory::slot_at(dir, i);
         i += 1;
         if slots::is_live(s) {
             put_entry(buf, at, i, s);
-            at += 258;
+            at += ENTRY_BYTES;
         }
     }
 }
@@ -56,7 +56,7 @@ fn list_accepted(image: &[u8], used: UsedMap, files: usize, buf: &mut [u8]) -> A
     requires { ⌜ Accepted (now image) used × (files ≡ liveAmong (directory (now image)) slots) ⌝ }
     ensures { λ r. ⌜ out (outcomeOf r) (now (buf .exit)) ≡ listing (now (image .entry)) (now (buf .entry)) ⌝ }
 {
-    let end = 258 * files;
+    let end = ENTRY_BYTES * files;
     if buf.len() < end {
         return refusals::no(Reason::BufferTooShort, 0);
     }
@@ -85,10 +85,11 @@ pub enum Lookup {
     Barred(Refused),
 }
 
-fn barred(reason: Reason) -> Lookup
-    ensures { λ r. ⌜ soughtOf r ≡ barred (refuse (numberOf reason) 0) ⌝ }
+// A lookup that refuses.
+pub fn barred(reason: Reason, slot: usize) -> Lookup
+    ensures { λ r. ⌜ soughtOf r ≡ barred (refuse (numberOf reason) slot) ⌝ }
 {
-    Lookup::Barred(Refused { reason, slot: 0 })
+    Lookup::Barred(Refused { reason, slot })
 }
 
 pub fn look_up(image: &[u8], name: &[u8]) -> Lookup
@@ -98,11 +99,11 @@ pub fn look_up(image: &[u8], name: &[u8]) -> Lookup
         Verdict::Unsound(r) => Lookup::Barred(r),
         Verdict::Sound => {
             if !slots::is_askable(name) {
-                return barred(Reason::NameNotUsable);
+                return barred(Reason::NameNotUsable, 0);
             }
             match directory::find(image, name) {
                 Found::At(i) => Lookup::At(i),
-                Found::Nothing => barred(Reason::NameNotFound),
+                Found::Nothing => barred(Reason::NameNotFound, 0),
             }
         }
     }

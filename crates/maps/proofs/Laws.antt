@@ -14,10 +14,10 @@ use lib.Dec.{eqb, lit<, eqb·suc-zero, eqb·zero-suc, eqb·suc-suc}
 use lib.ListN.{length, getD, set, take, replicate, length-set, length-take}
 use lib.Pow.{pow-pos, mod-pow-add}
 use lib.Seq.{getD-set-same, getD-set-other, getD-take}
-use Rattle.buffers.specs.Bytes.{count, any}
+use Rattle.buffers.specs.Bytes.{count, any, word}
 use Rattle.buffers.proofs.Lists.{below-or-not, past-end, length-tab, getD-tab, tab-of}
 use Rattle.buffers.proofs.Counts.{count-cong, count-le, count-add, count-none, any-cong, any-none, none-any}
-use Rattle.maps.specs.Bits.{has, bitsOf, share, clear, join, marked, word, wordOr}
+use Rattle.maps.specs.Bits.{has, bitsOf, share, clear, join, marked}
 
 -- ---- a byte
 
@@ -375,13 +375,3 @@ has-marked m b c h = go (ℕ-discrete c b) (ℕ-discrete (c / 8) (b / 8))
     go (no e) (yes f) =
         marked-same m b c h f ∙ rw (ne-eqb c b e, ne-eqb (c % 8) (b % 8) (λ g. e (omega arith))) (or-false (has m c))
     go (no e) (no f) = marked-other m b c f ∙ rw (ne-eqb c b e)
-
--- ---- eight bytes at a place
-
-pub word-there : (m : List ℕ) (i : ℕ) → i + 8 ≤ length m → wordOr m i ≡ word 8 m i 0
-unfolding wordOr
-word-there m i h = rw (le-leb (i + 8) (length m) h)
-
-pub word-not : (m : List ℕ) (i : ℕ) → length m < i + 8 → wordOr m i ≡ 0
-unfolding wordOr
-word-not m i h = rw (lt-leb (i + 8) (length m) h)

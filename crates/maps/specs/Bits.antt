@@ -1,9 +1,9 @@
 -- A map: 195 bytes, a bit for each data sector of the disk.
-use Prim.Native.Nat.{ℕ, zero, suc, _+_, _*_, _/_, _%_, _^_}
+use Prim.Native.Nat.{ℕ, _/_, _%_, _^_}
 use mathlib.Core.List.{List}
-use mathlib.Core.Bool.{Bool, cond, _&&_}
+use mathlib.Core.Bool.{Bool, _&&_}
 use lib.Bits.{bitOr}
-use lib.Dec.{eqb, leb}
+use lib.Dec.{eqb}
 use lib.ListN.{length, getD, set, replicate}
 use Rattle.buffers.specs.Bytes.{tab, count, any}
 
@@ -30,12 +30,3 @@ join m d = tab (length m) (λ k. bitOr (getD m k 0) (getD d k 0))
 -- a map with bit b set as well
 unfoldable pub marked : List ℕ → ℕ → List ℕ
 marked m b = set m (b / 8) (bitOr (getD m (b / 8) 0) (2 ^ (b % 8)))
-
--- k bytes from place i + j on as one number, low byte first
-unfoldable pub word : ℕ → List ℕ → ℕ → ℕ → ℕ
-word zero m i j = 0
-word (suc k) m i j = getD m (i + j) 0 + 256 * word k m i (suc j)
-
--- the eight bytes from place i on; 0 where they are not all there
-unfoldable pub wordOr : List ℕ → ℕ → ℕ
-wordOr m i = cond (leb (i + 8) (length m)) (word 8 m i 0) 0

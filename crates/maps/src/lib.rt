@@ -6,7 +6,10 @@ ghost use lib.Bits.{bitOr, bitAnd};
 ghost use lib.Count.{ones};
 ghost use lib.ListN.{length};
 ghost use Rattle.buffers.specs.Bytes.{count, any};
-ghost use Rattle.maps.specs.Bits.{has, bitsOf, share, join, marked, word, wordOr};
+ghost use Rattle.maps.specs.Bits.{has, bitsOf, share, join, marked};
+
+// The bytes of a map.
+pub const MAP_BYTES: usize = 195;
 
 // On bytes: or, and, the number of set bits. The compiler inlines them.
 fn or8(x: u8, y: u8) -> u8
@@ -44,42 +47,8 @@ fn ones64(x: u64) -> u32
     u64::count_ones(x)
 }
 
-fn wide(x: u8) -> u64
-    ensures { λ r. ⌜ (r ≡ x) × (r < 256) ⌝ }
-{
-    x as u64
-}
-
-// Eight bytes as one number, low byte first, which the compiler makes one load.
-fn eight_at(m: &[u8], i: usize) -> u64
-    requires { ⌜ i + 8 ≤ length (now m) ⌝ }
-    ensures { λ r. ⌜ r ≡ word 8 (now (m .entry)) i 0 ⌝ }
-{
-    wide(m[i])
-        + 256 * wide(m[i + 1])
-        + 65536 * wide(m[i + 2])
-        + 16777216 * wide(m[i + 3])
-        + 4294967296 * wide(m[i + 4])
-        + 1099511627776 * wide(m[i + 5])
-        + 281474976710656 * wide(m[i + 6])
-        + 72057594037927936 * wide(m[i + 7])
-}
-
-// The same of any place; 0 where the eight bytes are not all there.
-pub fn word_at(m: &[u8], i: usize) -> u64
-    ensures { λ r. ⌜ r ≡ wordOr (now (m .entry)) i ⌝ }
-{
-    let len = m.len();
-    if len < 8 {
-        return 0;
-    }
-    if len - 8 < i {
-        return 0;
-    }
-    eight_at(m, i)
-}
-
-// The set bits of the first `8 * n` bytes, eight at a time.
+// The set bits of the first `8 * n` bytes, eight at a time. Each word is read from a part of eight bytes: the compiler sees that
+// they are all there, and tests nothing.
 fn bits_in_words(m: &[u8], n: usize) -> usize
     requires { ⌜ (n ≤ 24) × (8 * n ≤ length (now m)) ⌝ }
     ensures { λ r. ⌜ (r ≡ count (64 * n) (has (now (m .entry)))) × (r ≤ 64 * n) ⌝ }
@@ -87,8 +56,9 @@ fn bits_in_words(m: &[u8], n: usize) -> usize
     let mut sum: usize = 0;
     let mut i: usize = 0;
     while i < n {
-        sum += ones64(eight_at(m, 8 * i)) as usize;
+        let at = 8 * i;
         i += 1;
+        sum += ones64(buffers::word_at(&m[at..8 * i], 0)) as usize;
     }
     sum
 }
@@ -112,7 +82,7 @@ fn bits_in(m: &[u8], n: usize) -> usize
 pub fn bits_of(m: &[u8]) -> usize
     ensures { λ r. ⌜ (r ≡ bitsOf (now (m .entry))) × (r ≤ 1560) ⌝ }
 {
-    let n = buffers::lesser(195, m.len());
+    let n = buffers::lesser(MAP_BYTES, m.len());
     bits_in(m, n)
 }
 
@@ -134,7 +104,7 @@ fn shares_in(m: &[u8], d: &[u8], n: usize) -> bool
 pub fn shares(m: &[u8], d: &[u8]) -> bool
     ensures { λ r. ⌜ r ≡ share (now (m .entry)) (now (d .entry)) ⌝ }
 {
-    let n = buffers::lesser(195, buffers::lesser(m.len(), d.len()));
+    let n = buffers::lesser(MAP_BYTES, buffers::lesser(m.len(), d.len()));
     shares_in(m, d, n)
 }
 

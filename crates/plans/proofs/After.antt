@@ -14,10 +14,11 @@ use lib.ListN.{length, getD}
 use Rattle.buffers.specs.Bytes.{tab, put}
 use Rattle.buffers.proofs.Lists.{below-or-not, length-put, part-at, put-in, put-before, put-after}
 use Rattle.buffers.proofs.Counts.{count-cong, any-cong, any-some, none-any}
+use Rattle.buffers.proofs.Tests.{and-both}
 use Rattle.geometry.specs.Disk.{bitOf}
+use Rattle.refusals.specs.Order.{refuse}
 use Rattle.maps.specs.Bits.{has, bitsOf, join}
 use Rattle.maps.proofs.Laws.{bits-le, bits-join, has-join, none-share}
-use Rattle.refusals.specs.Order.{refuse}
 use Rattle.slots.specs.Slot.{isLive, hidden, protected, kindOf, nameOf, countOf, mapOf, facts, lengthOf}
 use Rattle.slots.specs.Name.{sameName, askable, padded}
 use Rattle.slots.specs.Rows.{dataCount}
@@ -30,13 +31,11 @@ use Rattle.directory.specs.Survey.{union, counted, usedMap, freeOf, free}
 use Rattle.directory.specs.Find.{find}
 use Rattle.directory.proofs.Places.{slot-front, data-all}
 use Rattle.directory.proofs.Union.{length-union, has-union}
-use Rattle.directory.proofs.Search.{find-none, some-find, none-find}
+use Rattle.directory.proofs.Search.{none-find}
 use Rattle.disk.specs.Look.{Look, look, slotsOf, extra}
 use Rattle.disk.specs.Check.{checkDisk}
 use Rattle.disk.specs.Sound.{Known, Sound}
 use Rattle.disk.proofs.Look.{look-slots}
-use Rattle.disk.proofs.Rows.{and-both}
-use Rattle.disk.proofs.Sound.{sound}
 use Rattle.files.specs.Calls.{noFile, fileAt}
 use Rattle.files.proofs.Named.{lookup-none}
 use Rattle.files.proofs.Reading.{read-barred}
@@ -44,17 +43,14 @@ use Rattle.files.proofs.Starting.{start-barred}
 use Rattle.plans.specs.Change.{Mark, hide, show, protect, release, erase, rename, mark, marked, allBetween, usable}
 use Rattle.plans.specs.Saving.{freeBit}
 use Rattle.plans.specs.Plan.{upd, made, run}
-use Rattle.plans.specs.Accepted.{Named, Unprotected}
+use Rattle.plans.specs.Accepted.{Named, Unprotected, Renames}
 use Rattle.plans.specs.After.{SameAnswers, Gone, AfterErase, AfterRename, hiddenBy, protectedBy, marking, AfterMark}
-use Rattle.plans.proofs.Frame.{slots-some, upd-same, upd-other, slots-same, slots-other, entry-live, entry-dead, holds, holds-long}
+use Rattle.plans.proofs.Frame.{slots-some, slot-file, disk-sound, upd-same, upd-other, slots-same, slots-other, entry-live, entry-dead, holds, holds-long}
 use Rattle.plans.proofs.Kept.{sound-apart, sound-long, usable-is}
-use Rattle.plans.proofs.Effect.{Touched, erasing, Renamable, erased, marked-so, renamed}
+use Rattle.plans.proofs.Named.{alone, found-here}
+use Rattle.plans.proofs.Effect.{Touched, erasing, erased, marked-so, renamed}
 use Rattle.plans.proofs.Demand3.{change-accepted}
 use Rattle.plans.proofs.Others.{Alike, alike-same, same-answers, Unnamed, find-upd, file-other, first-name, name-put}
-
-sound-disk : (d : List ℕ) → checkDisk d ≡ none → Sound (look d)
-unfolding checkDisk
-sound-disk d ok = sound (look d) ok
 
 -- ---- the bytes of the image
 
@@ -81,43 +77,18 @@ first-byte s b h = put-in s 0 (b ∷ []) 0 (omega arith) (omega arith)
 
 -- ---- a name by the files that have it
 
-slots-file : (l : Look) (k : ℕ) (s : List ℕ) → slotsOf l k ≡ some s → (g : File) × (l .files k ≡ some g) × (g .bytes ≡ s)
-unfolding slotsOf
-slots-file l k s e = by (l .files k) refl e
-  where
-    by : (o : Option File) → l .files k ≡ o → held none (λ f. some (f .bytes)) o ≡ some s → (g : File) × (l .files k ≡ some g) × (g .bytes ≡ s)
-    by none q w = absurd (Option·some-ne-none s (sym w))
-    by (some g) q w = (g, q, Option·some-injective (g .bytes) s w)
-
 module _ (l : Look) (w : Sound l) (n : List ℕ) (i : ℕ) (f : File) (h : i < slots) (e : l .files i ≡ some f) (q : nameOf (f .bytes) ≡ padded n) where
-  -- no other slot has it
-  alone : (k : ℕ) (g : File) → k < slots → (k ≡ i → ⊥) → l .files k ≡ some g → nameOf (g .bytes) ≡ padded n → ⊥
-  alone k g m u p r = sound-apart l w i k f g h m u e p .names (r ∙ sym q)
-
-  found-here : find (slotsOf l) n ≡ some i
-  found-here =
-      some-find (slotsOf l) n i
-      (record {
-        below = h;
-        bytes = f .bytes;
-        here = slots-some l i f e;
-        name = q;
-        before = λ k m s p r.
-            let g = slots-file l k s p in
-            alone k (g .0) (omega arith) (omega arith) (g .1) (ap nameOf (g .2) ∙ r);
-      })
-
-  -- and none has it where the slot has it no more
+  -- no slot has it where the slot has it no more
   found-none : (o : Option File) → Unnamed n o → find (slotsOf (upd l i o)) n ≡ none
   found-none o u =
       none-find (slotsOf (upd l i o)) n
       (λ k m s p r.
-      let g = slots-file (upd l i o) k s p in
+      let g = slot-file (upd l i o) k s p in
       by k (g .0) m (g .1) (ap nameOf (g .2) ∙ r) (ℕ-discrete k i))
     where
       by : (k : ℕ) (g : File) → k < slots → upd l i o .files k ≡ some g → nameOf (g .bytes) ≡ padded n → Dec (k ≡ i) → ⊥
       by k g m p r (yes z) = u g (sym (upd-same l i o) ∙ ap (upd l i o .files) (sym z) ∙ p) r
-      by k g m p r (no z) = alone k g m z (sym (upd-other l i o k z) ∙ p) r
+      by k g m p r (no z) = alone l w n i f h e q k g m z (sym (upd-other l i o k z) ∙ p) r
 
 gone-by : (new n : List ℕ) → checkDisk new ≡ none → askable n ≡ true → find (slotsOf (look new)) n ≡ none → Gone new n
 gone-by new n ok a f =
@@ -148,7 +119,7 @@ module _ (l : Look) (w : Sound l) (i : ℕ) (f : File) (h : i < slots) (e : l .f
         other g p q (no z) = sound-apart l w i j f g h k z e (sym (upd-other l i none j z) ∙ p) .sectors b small q m
 
         at : (s : List ℕ) → slotsOf (upd l i none) j ≡ some s → (t : Bool) → has (mapOf s) b ≡ t → t ≡ false
-        at s p true q = let g = slots-file (upd l i none) j s p in absurd (other (g .0) (g .1) (ap (λ (s : List ℕ). has (mapOf s) b) (g .2) ∙ q) (ℕ-discrete j i))
+        at s p true q = let g = slot-file (upd l i none) j s p in absurd (other (g .0) (g .1) (ap (λ (s : List ℕ). has (mapOf s) b) (g .2) ∙ q) (ℕ-discrete j i))
         at s p false q = refl
 
         by : (o : Option (List ℕ)) → slotsOf (upd l i none) j ≡ o → held false (λ s. has (mapOf s) b) o ≡ false
@@ -158,8 +129,7 @@ module _ (l : Look) (w : Sound l) (i : ℕ) (f : File) (h : i < slots) (e : l .f
     unused : has (leftMap l i) b ≡ false
     unused = has-union (slotsOf (upd l i none)) slots b small ∙ none-any slots (bitAt (upd l i none) b) left-none
 
-    freed-bit : freeBit (upd l i none) b ≡ true
-    unfolding extra
+    freed-bit : freeBit 0 (slotsOf (upd l i none)) b ≡ true
     freed-bit = rw (data-all b small, unused)
 
   -- the used map was what is left, joined with the file's
@@ -264,13 +234,6 @@ known-some j h = ⊎-elim (λ p. p .0) (λ p. let q : 16 ≤ j = p .0 in omega a
 marked-some : (k : Mark) (x : ℕ) → 1 ≤ x % 64 → marked k x ≡ 0 → ⊥
 marked-some k x h e = omega (arith, kind-bits k x)
 
--- ---- erase
-
--- ---- rename
-
--- ---- hide, show, protect, release
-
--- one byte changes, in one bit
 -- the first byte of the slot found, on the disk
 first-here : (d n : List ℕ) (i : ℕ) (f : File) → Named d n i f → getD (f .bytes) 0 0 ≡ getD d (slotAt i) 0
 first-here d n i f w =
@@ -280,9 +243,9 @@ first-here d n i f w =
 
 module _ (d : List ℕ) (ok : checkDisk d ≡ none) (room : ℕ) (new ss : List ℕ) where
   old-sound : Sound (look d)
-  old-sound = sound-disk d ok
+  old-sound = disk-sound d ok
 
-  pub after-erase : (n : List ℕ) → run (erase n) d room ≡ made new ss → AfterErase d n new
+  pub after-erase : (n : List ℕ) → run (erase n) d room ≡ made new ss → AfterErase d n new ss
   after-erase n e =
       let t = erased d ok room new ss n e in
       let l = holds-long d (t .slot) (t .file) (t .found .here) (sound-long d old-sound) in
@@ -295,20 +258,21 @@ module _ (d : List ℕ) (ok : checkDisk d ≡ none) (room : ℕ) (new ss : List 
         long = long-kept d n 0 erasing Unprotected new ss t;
         byte = ap (λ (k : ℕ). getD new k 0) (omega arith) ∙ byte-put d n 0 erasing Unprotected new ss t old-sound 0 (omega arith) (omega arith);
         bytes = byte-kept d n 0 erasing Unprotected new ss t refl refl;
+        sectors = t .sectors;
         empty = rw z (upd-same (look d) (t .slot) none);
         gone = gone-by new n (change-accepted (erase n) d room new ss ok e) (t .askable-name)
             (rw z (found-none (look d) old-sound n (t .slot) (t .file) (t .found .below) (t .found .here) (t .found .name) none (λ f p q. Option·some-ne-none f (sym p))));
-        freed = rw z (freed-bit (look d) old-sound (t .slot) (t .file) (t .found .below) (t .found .here));
+        freed = rw (← look-slots new, z) (freed-bit (look d) old-sound (t .slot) (t .file) (t .found .below) (t .found .here));
         more = rw (← look-slots new, ← look-slots d, z) (freed-count (look d) old-sound (t .slot) (t .file) (t .found .below) (t .found .here));
       }
 
-  pub after-rename : (n to : List ℕ) → run (rename n to) d room ≡ made new ss → AfterRename d n to new
+  pub after-rename : (n to : List ℕ) → run (rename n to) d room ≡ made new ss → AfterRename d n to new ss
   unfolding usable
   after-rename n to e =
       let t = renamed d ok room new ss n to e in
       let f : File = t .file in
       let l = holds-long d (t .slot) f (t .found .here) (sound-long d old-sound) in
-      let u = usable-is to (t .also .usable-name) in
+      let u = usable-is to (t .also .name) in
       let g : File = record { bytes = put (f .bytes) 1 (padded to); sectors = f .sectors } in
       let live : isLive (g .bytes) ≡ true = rw (put-before (f .bytes) 1 (padded to) 0 (omega arith)) (holds d (t .slot) f (t .found .here) .alive) in
       let z : look new ≡ upd (look d) (t .slot) (some g) = t .seen ∙ ap (upd (look d) (t .slot)) (entry-live (g .bytes) (f .sectors) live) in
@@ -318,18 +282,19 @@ module _ (d : List ℕ) (ok : checkDisk d ≡ none) (room : ℕ) (new ss : List 
       (λ j h. put-after (f .bytes) 1 (padded to) j (omega (arith, u .1))) in
       let now : checkDisk new ≡ none = change-accepted (rename n to) d room new ss ok e in
       let other : padded to ≡ padded n → ⊥ = λ q.
-      find-none (slotsOf (look d)) to (t .also .fresh) (t .slot) (t .found .below) (f .bytes) (slots-some (look d) (t .slot) f (t .found .here)) (t .found .name ∙ sym q) in
+      t .also .fresh (t .slot) f (t .found .here) (t .found .name ∙ sym q) in
       record {
         slot = t .slot;
         file = f;
         found = t .found;
-        long = long-kept d n 1 (λ f. padded to) (Renamable d to) new ss t;
-        name = λ k h. byte-put d n 1 (λ f. padded to) (Renamable d to) new ss t old-sound k (omega (arith, u .1)) (omega arith);
-        bytes = λ k h. bytes-kept d n 1 (λ f. padded to) (Renamable d to) new ss t k (⊎-elim inl (λ (x : slotAt (t .slot) + 11 ≤ k). inr (omega (arith, u .1))) h);
+        long = long-kept d n 1 (λ f. padded to) (Renames d to) new ss t;
+        name = λ k h. byte-put d n 1 (λ f. padded to) (Renames d to) new ss t old-sound k (omega (arith, u .1)) (omega arith);
+        bytes = λ k h. bytes-kept d n 1 (λ f. padded to) (Renames d to) new ss t k (⊎-elim inl (λ (x : slotAt (t .slot) + 11 ≤ k). inr (omega (arith, u .1))) h);
+        sectors = t .sectors;
         now = record { below = t .found .below; here = here; name = named };
         answers = swap-answers d new (t .slot) f g (t .found .here) z a ok now to n
-            (and-both (askable to) (allBetween 32 to 126 && not (eqb (getD to 0 0) 32)) (t .also .usable-name) .0 ∙ sym (t .askable-name))
-            (found-here (look new) (sound-disk new now) to (t .slot) g (t .found .below) here named
+            (and-both (askable to) (allBetween 32 to 126 && not (eqb (getD to 0 0) 32)) (t .also .name) .0 ∙ sym (t .askable-name))
+            (found-here (look new) (disk-sound new now) to (t .slot) g (t .found .below) here named
             ∙ sym (found-here (look d) old-sound n (t .slot) f (t .found .below) (t .found .here) (t .found .name)));
         gone = gone-by new n now (t .askable-name)
             (rw z
@@ -337,7 +302,7 @@ module _ (d : List ℕ) (ok : checkDisk d ≡ none) (room : ℕ) (new ss : List 
             (λ h p q. other (sym named ∙ ap (λ (f : File). nameOf (f .bytes)) (Option·some-injective g h p) ∙ q))));
       }
 
-  pub after-mark : (k : Mark) (n : List ℕ) → run (mark k n) d room ≡ made new ss → AfterMark k d n new
+  pub after-mark : (k : Mark) (n : List ℕ) → run (mark k n) d room ≡ made new ss → AfterMark k d n new ss
   after-mark k n e =
       let t = marked-so d ok room new ss k n e in
       let f : File = t .file in
@@ -359,6 +324,7 @@ module _ (d : List ℕ) (ok : checkDisk d ≡ none) (room : ℕ) (new ss : List 
             ∙ ap (marked k)
             (first-here d n (t .slot) f (t .found));
         bytes = byte-kept d n 0 (marking k) (λ f. Unit {0}) new ss t refl refl;
+        sectors = t .sectors;
         now = record { below = t .found .below; here = swap-here d new (t .slot) f g (t .found .here) z; name = named ∙ t .found .name };
         hides = ap (λ (x : ℕ). eqb (x / 128 % 2) 1) b ∙ hidden-bit k x;
         protects = ap (λ (x : ℕ). eqb (x / 64 % 2) 1) b ∙ protected-bit k x;
@@ -376,9 +342,9 @@ marked-already protect x h p q = let z = eqb-true (x / 64 % 2) 1 (sym q) in omeg
 marked-already release x h p q = let z = eqb-false (x / 64 % 2) 1 (sym q) in omega arith
 
 -- and the disk stays as it is
-pub mark-already : (k : Mark) (d n new : List ℕ) → (t : AfterMark k d n new) → getD d (slotAt (t .slot)) 0 < 256
+pub mark-already : (k : Mark) (d n new ss : List ℕ) → (t : AfterMark k d n new ss) → getD d (slotAt (t .slot)) 0 < 256
     → hiddenBy k (hidden (t .file .bytes)) ≡ hidden (t .file .bytes) → protectedBy k (protected (t .file .bytes)) ≡ protected (t .file .bytes) → new ≡ d
-mark-already k d n new t h p q = ext-getD 0 new d (t .long) (λ j u. by j (ℕ-discrete j (slotAt (t .slot))))
+mark-already k d n new ss t h p q = ext-getD 0 new d (t .long) (λ j u. by j (ℕ-discrete j (slotAt (t .slot))))
   where
     e : getD (t .file .bytes) 0 0 ≡ getD d (slotAt (t .slot)) 0
     e = first-here d n (t .slot) (t .file) (t .found)

@@ -104,6 +104,10 @@ module _ (l : Look) (i : ℕ) (h : i < slots) (z : l .files i ≡ none) (f : Fil
 
 -- ---- after a save
 
+-- the free bits of a look
+abbrev freeIn : Look → ℕ → Bool
+freeIn l = freeBit (extra l) (slotsOf l)
+
 and-not : (a u v : Bool) → (a && not (u || v)) ≡ ((a && not u) && not v)
 and-not true true v = refl
 and-not true false v = refl
@@ -117,9 +121,9 @@ module _ (d : List ℕ) (ok : checkDisk d ≡ none) (room : ℕ) (w : Wish) (new
   l = look d
 
   abbrev f : File
-  f = newFile (look d) (it .slot) w (it .bits)
+  f = newFile (slotsOf (look d)) (it .slot) w (it .bits)
 
-  run-of : Run (freeBit l) 0 (it .bits)
+  run-of : Run (freeIn l) 0 (it .bits)
   run-of = it .ready .run
 
   -- one file more
@@ -127,16 +131,16 @@ module _ (d : List ℕ) (ok : checkDisk d ≡ none) (room : ℕ) (w : Wish) (new
   saved-files = ap (λ (x : Look). liveAmong (slotsOf x) slots) (it .seen) ∙ live-more l (it .slot) (it .lowest .below) (it .lowest .empty) f
 
   -- its entry: the slot's bytes, in the slot that was taken
-  pub saved-entry : slotsOf (look new) (it .slot) ≡ some (newSlot (look d) (it .slot) w (it .bits))
+  pub saved-entry : slotsOf (look new) (it .slot) ≡ some (newSlot (slotsOf (look d)) (it .slot) w (it .bits))
   saved-entry = ap (λ (x : Look). slotsOf x (it .slot)) (it .seen) ∙ slots-same l (it .slot) (some f)
 
   pub other-entries : (j : ℕ) → (j ≡ it .slot → ⊥) → slotsOf (look new) j ≡ slotsOf (look d) j
   other-entries j n = ap (λ (x : Look). slotsOf x j) (it .seen) ∙ slots-other l (it .slot) (some f) j n
 
   bits-new : (b : ℕ) → has (mapOf (f .bytes)) b ≡ listed b (it .bits)
-  bits-new b = ap (λ (m : List ℕ). has m b) (map-is l (it .slot) w (it .bits)) ∙ has-mapWith (freeBit l) 0 (it .bits) run-of b
+  bits-new b = ap (λ (m : List ℕ). has m b) (map-is (slotsOf l) (it .slot) w (it .bits)) ∙ has-mapWith (freeIn l) 0 (it .bits) run-of b
 
-  free-after : (b : ℕ) → b < 1560 → freeBit (upd l (it .slot) (some f)) b ≡ (freeBit l b && not (listed b (it .bits)))
+  free-after : (b : ℕ) → b < 1560 → freeIn (upd l (it .slot) (some f)) b ≡ (freeIn l b && not (listed b (it .bits)))
   free-after b h =
       ap₂ (λ (n : ℕ) (u : Bool). dataBit n b && not u) (extra-upd l (it .slot) (some f))
       (used-more l (it .slot) (it .lowest .below) (it .lowest .empty) f b h ∙ ap (λ (v : Bool). has (union (slotsOf l) slots) b || v) (bits-new b))
@@ -145,18 +149,18 @@ module _ (d : List ℕ) (ok : checkDisk d ≡ none) (room : ℕ) (w : Wish) (new
   count-taken : count 1560 (λ b. listed b (it .bits)) ≡ length (it .bits)
   unfolding bitsOf
   count-taken =
-      count-cong 1560 (λ b. listed b (it .bits)) (has (mapWith (it .bits))) (λ b h. sym (has-mapWith (freeBit l) 0 (it .bits) run-of b))
-      ∙ bits-mapWith (freeBit l) 0 (it .bits) run-of
+      count-cong 1560 (λ b. listed b (it .bits)) (has (mapWith (it .bits))) (λ b h. sym (has-mapWith (freeIn l) 0 (it .bits) run-of b))
+      ∙ bits-mapWith (freeIn l) 0 (it .bits) run-of
 
-  free-count : (x : Look) → free (extra x) (slotsOf x) ≡ count 1560 (freeBit x)
-  free-count x = sym (free-long x) ∙ passing-long (freeBit x) 1560 0 ∙ count-cong 1560 (λ j. freeBit x (0 + j)) (freeBit x) (λ j h. ap (freeBit x) (omega arith))
+  free-count : (x : Look) → free (extra x) (slotsOf x) ≡ count 1560 (freeIn x)
+  free-count x = sym (free-long x) ∙ passing-long (freeIn x) 1560 0 ∙ count-cong 1560 (λ j. freeIn x (0 + j)) (freeIn x) (λ j h. ap (freeIn x) (omega arith))
 
   -- n free sectors fewer
   pub saved-free : free (extra (look new)) (slotsOf (look new)) + sectorsFor (length (w .body)) ≡ free (extra (look d)) (slotsOf (look d))
   saved-free =
-      let a : free (extra (look new)) (slotsOf (look new)) ≡ count 1560 (λ b. freeBit l b && not (listed b (it .bits))) =
+      let a : free (extra (look new)) (slotsOf (look new)) ≡ count 1560 (λ b. freeIn l b && not (listed b (it .bits))) =
       ap (λ (x : Look). free (extra x) (slotsOf x)) (it .seen) ∙ free-count (upd l (it .slot) (some f))
-      ∙ count-cong 1560 (freeBit (upd l (it .slot) (some f))) (λ b. freeBit l b && not (listed b (it .bits))) (λ b h. free-after b h) in
-      let b : count 1560 (λ b. freeBit l b && not (listed b (it .bits))) + count 1560 (λ b. listed b (it .bits)) ≡ count 1560 (freeBit l) =
-      count-less 1560 (freeBit l) (λ b. listed b (it .bits)) (λ b h q. run-listed (freeBit l) 0 (it .bits) run-of b q .passes) in
+      ∙ count-cong 1560 (freeIn (upd l (it .slot) (some f))) (λ b. freeIn l b && not (listed b (it .bits))) (λ b h. free-after b h) in
+      let b : count 1560 (λ b. freeIn l b && not (listed b (it .bits))) + count 1560 (λ b. listed b (it .bits)) ≡ count 1560 (freeIn l) =
+      count-less 1560 (freeIn l) (λ b. listed b (it .bits)) (λ b h q. run-listed (freeIn l) 0 (it .bits) run-of b q .passes) in
       ap₂ _+_ a (sym (it .ready .long) ∙ sym count-taken) ∙ b ∙ sym (free-count l)

@@ -9,7 +9,8 @@ use native.Mathlib.Omega.{arith}
 use borrow.Author.Tests.{ltb-true, ltb-false, lt-ltb, le-ltb, eqb-true, eq-eqb, not-true, not-false}
 use lib.Dec.{eqb, ltb}
 use lib.ListN.{getD}
-use Rattle.refusals.specs.Order.{Refusal, refuse, _else_}
+use Rattle.buffers.proofs.Tests.{or-neither}
+use Rattle.refusals.specs.Order.{Refusal, refuse, _else_, SlotRow, FirstOf}
 use Rattle.slots.specs.Slot.{protected, carried, nameOf}
 use Rattle.slots.specs.Rows.{dataCount}
 use Rattle.chains.specs.File.{File, sectorsOf}
@@ -17,44 +18,25 @@ use Rattle.directory.specs.Places.{slots, slotBytes}
 use Rattle.directory.specs.Directory.{held, Directory}
 use Rattle.directory.specs.Survey.{usedMap, freeOf, free}
 use Rattle.directory.specs.Find.{find}
-use Rattle.directory.proofs.Search.{find-none, some-find, none-find}
 use Rattle.disk.specs.Look.{Look, look, slotsOf, extra}
 use Rattle.disk.specs.Check.{checkDisk}
-use Rattle.disk.specs.Sound.{Sound}
 use Rattle.disk.proofs.Look.{look-slots}
 use Rattle.disk.proofs.Rows.{carried-is, is-carried}
-use Rattle.disk.proofs.Sound.{sound}
 use Rattle.files.specs.Calls.{noFile, fileAt, fileNamed}
+use Rattle.files.specs.Asked.{someNamed, slotNamed, startOutside, row20, by-check, by-row}
+use Rattle.files.proofs.Asked.{some-named, none-named}
 use Rattle.plans.specs.Change.{Wish, Mark, save, erase, rename, mark, usable}
 use Rattle.plans.specs.Saving.{lowestSlot}
 use Rattle.plans.specs.Plan.{stopped, run}
-use Rattle.plans.specs.Refused.{SlotRow, FirstOf, someNamed, slotNamed, someFree, startOutside, row18, row19, row20, changeRows, Refuses, by-check, by-row, Accepts}
+use Rattle.plans.specs.Refused.{someFree, row18, row19, changeRows, Refuses, Accepts}
 use Rattle.plans.specs.Accepted.{Named, Fresh, Unprotected, Allowed, Renames, Empty, NoSlot, Asked, many, freeSectors, Savable}
-use Rattle.plans.proofs.Frame.{slots-some, entry-live, entry-dead, holds, look-entry}
-use Rattle.plans.proofs.Free.{lowest-slot, no-slot}
+use Rattle.plans.proofs.Frame.{disk-sound, entry-live, entry-dead, holds, look-entry}
+use Rattle.plans.proofs.Named.{fresh-find, find-fresh, found-here}
+use Rattle.plans.proofs.Free.{free-slot, no-free-slot}
 use Rattle.plans.proofs.Effect.{erased, marked-so, renamed}
-use Rattle.plans.proofs.Refused.{some-named, none-named, some-free, none-free, refused-exactly, accepted-exactly}
+use Rattle.plans.proofs.Refused.{some-free, none-free, refused-exactly, accepted-exactly}
 
 -- ---- the files of a name
-
--- the file in a live slot of a look's directory
-pub slot-file : (l : Look) (i : ℕ) (s : List ℕ) → slotsOf l i ≡ some s → (f : File) × (l .files i ≡ some f) × (f .bytes ≡ s)
-unfolding slotsOf
-slot-file l i s e = by (l .files i) refl e
-  where
-    by : (o : Option File) → l .files i ≡ o → held none (λ f. some (f .bytes)) o ≡ some s → (f : File) × (l .files i ≡ some f) × (f .bytes ≡ s)
-    by none q w = absurd (Option·some-ne-none s (sym w))
-    by (some f) q w = (f, q, cc)
-
-fresh-find : (d n : List ℕ) → Fresh d n → find (slotsOf (look d)) n ≡ none
-fresh-find d n h =
-    none-find (slotsOf (look d)) n
-    (λ k m s p q.
-    let g = slot-file (look d) k s p in
-    h k (g .0) (g .1) (ap nameOf (g .2) ∙ q))
-
-find-fresh : (d n : List ℕ) → find (slotsOf (look d)) n ≡ none → Fresh d n
-find-fresh d n e i f q = find-none (slotsOf (look d)) n e i (holds d i f q .here) (f .bytes) (slots-some (look d) i f q)
 
 -- the tests of names, by the slots
 fresh-named : (d n : List ℕ) → Fresh d n → someNamed (look d) n ≡ false
@@ -71,25 +53,10 @@ named-fresh d n e = find-fresh d n (by (find (slotsOf (look d)) n) refl)
 pub named-exactly : (d n : List ℕ) → (someNamed (look d) n ≡ false) ↔ Fresh d n
 named-exactly d n = (named-fresh d n, fresh-named d n)
 
--- an accepted disk is sound
-pub disk-sound : (d : List ℕ) → checkDisk d ≡ none → Sound (look d)
-unfolding checkDisk
-disk-sound d ok = sound (look d) ok
-
 -- on an accepted disk the slot that has the name is the one that is found, and the one that is given with a refusal
 module _ (d n : List ℕ) (ok : checkDisk d ≡ none) (i : ℕ) (f : File) (w : Named d n i f) where
   pub named-find : find (slotsOf (look d)) n ≡ some i
-  named-find =
-      some-find (slotsOf (look d)) n i
-      (record {
-        below = w .below;
-        bytes = f .bytes;
-        here = slots-some (look d) i f (w .here);
-        name = w .name;
-        before = λ k h s p q.
-            let g = slot-file (look d) k s p in
-            disk-sound d ok .names i k f (g .0) h (w .below) (w .here) (g .1) (ap nameOf (g .2) ∙ q ∙ sym (w .name));
-      })
+  named-find = found-here (look d) (disk-sound d ok) n i f (w .below) (w .here) (w .name)
 
   named-some : someNamed (look d) n ≡ true
   named-some = some-named (look d) n i named-find
@@ -148,7 +115,7 @@ module _ (d n : List ℕ) (room : ℕ) where
           slot = t .slot;
           file = t .file;
           found = t .found;
-          also = record { name = t .also .usable-name; fresh = find-fresh d new (t .also .fresh); unprotected = t .also .unprotected };
+          also = t .also;
           list = ltb-false room 1 (p .rows .1 .1 .1 .1 .0);
         },
     λ a. accepted-exactly (rename n new) d room .1
@@ -211,33 +178,33 @@ none-empty d i h e = by (eqb (getD (slotBytes d i) 0 0) 0) refl
 pub full-not : (d : List ℕ) (i : ℕ) (f : File) → look d .files i ≡ some f → Empty d i → ⊥
 full-not d i f q e = Option·some-ne-none f (sym q ∙ empty-none d i (holds d i f q .here) e)
 
-free-none : (d : List ℕ) → someFree (look d) ≡ false → NoSlot d
-free-none d e = by (lowestSlot (look d)) refl
+-- by whether a slot is free
+by-slot : (d : List ℕ) (P : Type 0) → ((i : ℕ) → lowestSlot (extra (look d)) (slotsOf (look d)) ≡ some i → P)
+    → (lowestSlot (extra (look d)) (slotsOf (look d)) ≡ none → P) → P
+by-slot d P f g = by (lowestSlot (extra (look d)) (slotsOf (look d))) refl
   where
-    by : (o : Option ℕ) → lowestSlot (look d) ≡ o → NoSlot d
-    by none q = λ i h. let f = no-slot (look d) q i h in full-not d i (f .0) (f .1)
-    by (some i) q = absurd (true≢false (sym (some-free (look d) i q) ∙ e))
+    by : (o : Option ℕ) → lowestSlot (extra (look d)) (slotsOf (look d)) ≡ o → P
+    by none q = g q
+    by (some i) q = f i q
+
+all-full : (d : List ℕ) → lowestSlot (extra (look d)) (slotsOf (look d)) ≡ none → NoSlot d
+all-full d q i h = let f = no-free-slot (look d) q i h in full-not d i (f .0) (f .1)
+
+free-none : (d : List ℕ) → someFree (look d) ≡ false → NoSlot d
+free-none d e = by-slot d (NoSlot d) (λ i q. absurd (true≢false (sym (some-free (look d) i q) ∙ e))) (all-full d)
 
 none-is-free : (d : List ℕ) → NoSlot d → someFree (look d) ≡ false
-none-is-free d n = by (lowestSlot (look d)) refl
-  where
-    by : (o : Option ℕ) → lowestSlot (look d) ≡ o → someFree (look d) ≡ false
-    by none q = none-free (look d) q
-    by (some i) q = let w = lowest-slot (look d) i q in absurd (n i (w .below) (none-empty d i (w .below) (w .empty)))
+none-is-free d n =
+    by-slot d (someFree (look d) ≡ false) (λ i q. let w = free-slot (look d) i q in absurd (n i (w .below) (none-empty d i (w .below) (w .empty))))
+    (none-free (look d))
 
 slot-is-free : (d : List ℕ) (i : ℕ) → i < slots → Empty d i → someFree (look d) ≡ true
-slot-is-free d i h e = by (lowestSlot (look d)) refl
-  where
-    by : (o : Option ℕ) → lowestSlot (look d) ≡ o → someFree (look d) ≡ true
-    by none q = let f = no-slot (look d) q i h in absurd (full-not d i (f .0) (f .1) e)
-    by (some j) q = some-free (look d) j q
+slot-is-free d i h e = by-slot d (someFree (look d) ≡ true) (some-free (look d)) (λ q. absurd (all-full d q i h e))
 
-free-slot : (d : List ℕ) → someFree (look d) ≡ true → (i : ℕ) × (i < slots) × Empty d i
-free-slot d e = by (lowestSlot (look d)) refl
-  where
-    by : (o : Option ℕ) → lowestSlot (look d) ≡ o → (i : ℕ) × (i < slots) × Empty d i
-    by none q = absurd (true≢false (sym e ∙ none-free (look d) q))
-    by (some i) q = let w = lowest-slot (look d) i q in (i, w .below, none-empty d i (w .below) (w .empty))
+slot-free : (d : List ℕ) → someFree (look d) ≡ true → (i : ℕ) × (i < slots) × Empty d i
+slot-free d e =
+    by-slot d ((i : ℕ) × (i < slots) × Empty d i) (λ i q. let w = free-slot (look d) i q in (i, w .below, none-empty d i (w .below) (w .empty)))
+    (λ q. absurd (true≢false (sym e ∙ none-free (look d) q)))
 
 -- the test of slots says whether one has byte 0 zero
 pub free-exactly : (d : List ℕ) → (someFree (look d) ≡ false) ↔ NoSlot d
@@ -248,10 +215,6 @@ free-exactly d = (free-none d, none-is-free d)
 pub free-sectors : (d : List ℕ) → free (extra (look d)) (slotsOf (look d)) ≡ freeSectors d
 unfolding extra free freeOf dataCount
 free-sectors d = ap (λ (v : Directory). 1560 - usedMap v .count) (look-slots d)
-
-or-none-of : (a b : Bool) → (a || b) ≡ false → (a ≡ false) × (b ≡ false)
-or-none-of true b e = absurd (true≢false e)
-or-none-of false b e = (refl, e)
 
 -- a row that does not hold is not the first
 peel : {A B : Type 0} {t : Bool} → t ≡ false → ((t ≡ true) × A) ⊎ ((t ≡ false) × B) → B
@@ -349,9 +312,9 @@ module _ (d : List ℕ) (w : Wish) (room : ℕ) where
   save-exactly = (
     λ a.
         let p = accepted-exactly (save w) d room .0 a in
-        let o = or-none-of (ltb 31 (w .page)) (ltb (w .offset) 32768 || ltb 49151 (w .offset)) (p .rows .1 .1 .0) in
-        let q = or-none-of (ltb (w .offset) 32768) (ltb 49151 (w .offset)) (o .1) in
-        let s = free-slot d (not-false (someFree l) (p .rows .1 .1 .1 .1 .0)) in
+        let o = or-neither (ltb 31 (w .page)) (ltb (w .offset) 32768 || ltb 49151 (w .offset)) (p .rows .1 .1 .0) in
+        let q = or-neither (ltb (w .offset) 32768) (ltb 49151 (w .offset)) (o .1) in
+        let s = slot-free d (not-false (someFree l) (p .rows .1 .1 .1 .1 .0)) in
         record {
           asked = record {
             disk = p .disk;

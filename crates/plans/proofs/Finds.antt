@@ -15,9 +15,8 @@ use Rattle.disk.specs.Look.{look}
 use Rattle.disk.specs.Check.{checkDisk}
 use Rattle.plans.specs.Change.{Wish, Mark, Change, save, erase, rename, mark}
 use Rattle.plans.specs.Plan.{finds}
-use Rattle.plans.proofs.Frame.{holds}
+use Rattle.plans.proofs.Frame.{disk-sound, holds}
 use Rattle.plans.proofs.Kept.{sound-apart}
-use Rattle.plans.proofs.Exactly.{disk-sound}
 
 same-exactly : (m k : List ℕ) → (sameName m k ≡ true) ↔ (m ≡ k)
 same-exactly m k = (same-is m k, λ e. ap (λ (x : List ℕ). sameName x k) e ∙ same-refl k)

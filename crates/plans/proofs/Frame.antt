@@ -1,5 +1,5 @@
 -- What bytes put into one slot, or into one data sector, change of a look, and what they leave.
-use Prim.Native.Nat.{ℕ, _+_, _≤_, _<_}
+use Prim.Native.Nat.{ℕ, _+_, _*_, _≤_, _<_}
 use mathlib.Core.Path.{_≡_, refl, sym, ap, ap₂, _∙_, fun-ext}
 use mathlib.Core.Bool.{Bool, true, false, cond, _&&_}
 use mathlib.Core.List.{List}
@@ -18,11 +18,14 @@ use Rattle.slots.specs.Slot.{isLive, mapOf}
 use Rattle.chains.specs.File.{File, sectorAt, sectorsOf, fileOf}
 use Rattle.chains.proofs.Laws.{map-small, sectors-own, file-agree}
 use Rattle.directory.specs.Places.{slots, slotAt, slotBytes, dirSector}
-use Rattle.directory.specs.Directory.{held, directory, seen}
+use Rattle.directory.specs.Directory.{held, slotsRead, seen, directory}
 use Rattle.directory.proofs.Places.{slots-count, slot-front, slot-sector, slots-apart, data-all, dir-not-data, slot-data-apart}
 use Rattle.directory.proofs.Live.{directory-some, directory-live, directory-dead, directory-past}
 use Rattle.disk.specs.Look.{Look, look, slotsOf, extra}
+use Rattle.disk.specs.Check.{checkDisk}
+use Rattle.disk.specs.Sound.{Sound}
 use Rattle.disk.proofs.Look.{look-some, look-none, look-agree}
+use Rattle.disk.proofs.Sound.{sound}
 use Rattle.steps.specs.Sectors.{sector}
 use Rattle.steps.specs.Steps.{Inside}
 use Rattle.steps.proofs.Steps.{put-other}
@@ -33,6 +36,28 @@ use Rattle.plans.specs.Plan.{upd, entryOf}
 pub slots-some : (l : Look) (i : ℕ) (f : File) → l .files i ≡ some f → slotsOf l i ≡ some (f .bytes)
 unfolding slotsOf
 slots-some l i f e = ap (held none (λ f. some (f .bytes))) e
+
+-- the file in a live slot of a look's directory
+pub slot-file : (l : Look) (i : ℕ) (s : List ℕ) → slotsOf l i ≡ some s → (f : File) × (l .files i ≡ some f) × (f .bytes ≡ s)
+unfolding slotsOf
+slot-file l i s e = by (l .files i) refl e
+  where
+    by : (o : Option File) → l .files i ≡ o → held none (λ f. some (f .bytes)) o ≡ some s → (f : File) × (l .files i ≡ some f) × (f .bytes ≡ s)
+    by none q w = absurd (Option·some-ne-none s (sym w))
+    by (some f) q w = (f, q, Option·some-injective (f .bytes) s w)
+
+pub slot-none : (l : Look) (i : ℕ) → slotsOf l i ≡ none → l .files i ≡ none
+unfolding slotsOf
+slot-none l i e = by (l .files i) refl e
+  where
+    by : (o : Option File) → l .files i ≡ o → held none (λ f. some (f .bytes)) o ≡ none → l .files i ≡ none
+    by none q w = q
+    by (some f) q w = absurd (Option·some-ne-none (f .bytes) w)
+
+-- an accepted disk is sound
+pub disk-sound : (d : List ℕ) → checkDisk d ≡ none → Sound (look d)
+unfolding checkDisk
+disk-sound d ok = sound (look d) ok
 
 module _ (l : Look) (i : ℕ) (o : Option File) where
   pub upd-same : upd l i o .files i ≡ o
@@ -128,7 +153,7 @@ look-entry d i h = by (isLive (slotBytes d i)) refl
 
 -- an image with the same bytes in a slot says the same of it
 directory-stays : (d e : List ℕ) (j : ℕ) → slotBytes e j ≡ slotBytes d j → directory e j ≡ directory d j
-unfolding directory seen
+unfolding directory seen slotsRead
 directory-stays d e j q = ap (λ (s : List ℕ). cond (ltb j slots && isLive s) (some s) none) q
 
 -- ---- bytes put inside one slot
@@ -149,12 +174,11 @@ module _ (d : List ℕ) (z : length d ≡ imageSize) (i : ℕ) (h : i < slots) (
   new = put d (slotAt i + o) y
 
   -- as a step's bytes in the slot's sector
-  pub inside-slot : Inside (length d) (dirSector i) (record { place = slotAt i + o; bytes = y })
-  inside-slot = record {
-    low = omega (arith, slot-sector i);
-    high = omega (arith, slot-sector i);
-    fits = omega (arith, slot-front i h);
-  }
+  pub inside-slot : Inside (dirSector i) (record { place = slotAt i + o; bytes = y })
+  inside-slot = record { low = omega (arith, slot-sector i); high = omega (arith, slot-sector i) }
+
+  pub there-slot : dirSector i * 512 + 512 ≤ length d
+  there-slot = omega (arith, slot-sector i, slot-front i h)
 
   pub slot-new : slotBytes (put d (slotAt i + o) y) i ≡ put (slotBytes d i) o y
   slot-new = part-put-inside d (slotAt i) 256 o y (omega (arith, slot-front i h)) k
@@ -167,7 +191,7 @@ module _ (d : List ℕ) (z : length d ≡ imageSize) (i : ℕ) (h : i < slots) (
 
   pub data-stays : (b : ℕ) → b < 1560 → sectorAt (put d (slotAt i + o) y) b ≡ sectorAt d b
   data-stays b l =
-      put-other (length d) (dirSector i) (record { place = slotAt i + o; bytes = y }) d inside-slot (bitNumber b)
+      put-other (dirSector i) (record { place = slotAt i + o; bytes = y }) d inside-slot (bitNumber b)
       (dir-not-data 0 b i (omega arith) (data-all b l) (omega (arith, slots-count)))
 
   files-stay : (s : List ℕ) → fileOf new s ≡ fileOf d s
@@ -197,15 +221,18 @@ module _ (d : List ℕ) (z : length d ≡ imageSize) (c : ℕ) (hc : c < 1560) (
   after = put d (bitPlace c) x
 
   -- as a step's bytes
-  pub inside-data : Inside (length d) (bitNumber c) (record { place = bitPlace c; bytes = x })
-  inside-data = record { low = omega arith; high = omega arith; fits = omega (arith, place-inside c hc) }
+  pub inside-data : Inside (bitNumber c) (record { place = bitPlace c; bytes = x })
+  inside-data = record { low = omega arith; high = omega arith }
+
+  pub there-data : bitNumber c * 512 + 512 ≤ length d
+  there-data = omega (arith, place-inside c hc)
 
   pub sector-new : sectorAt (put d (bitPlace c) x) c ≡ x
   sector-new = ap (λ (n : ℕ). part (bitPlace c) n after) (sym hx) ∙ part-put d (bitPlace c) x (omega (arith, place-inside c hc))
 
   -- by sector numbers, and by map bits
   pub number-else : (t : ℕ) → (t ≡ bitNumber c → ⊥) → sector (put d (bitPlace c) x) t ≡ sector d t
-  number-else = put-other (length d) (bitNumber c) (record { place = bitPlace c; bytes = x }) d inside-data
+  number-else = put-other (bitNumber c) (record { place = bitPlace c; bytes = x }) d inside-data
 
   pub sector-else : (b : ℕ) → b < 1560 → (b ≡ c → ⊥) → sectorAt (put d (bitPlace c) x) b ≡ sectorAt d b
   sector-else b hb n = number-else (bitNumber b) (λ q. n (number-injective b c hb hc q))

@@ -13,21 +13,22 @@ use lib.ListN.{length, getD, take}
 use lib.Seq.{length-take-le}
 use Rattle.buffers.specs.Bytes.{count, any}
 use Rattle.buffers.proofs.Counts.{count-add, count-cong, any-none}
-use Rattle.maps.specs.Bits.{has, bitsOf}
 use Rattle.refusals.proofs.First.{sweep-none, sweep-first}
+use Rattle.maps.specs.Bits.{has, bitsOf}
 use Rattle.slots.specs.Slot.{mapOf}
 use Rattle.slots.specs.Rows.{dataCount}
 use Rattle.chains.specs.File.{File}
-use Rattle.directory.specs.Places.{slots, dataBit}
-use Rattle.directory.specs.Directory.{held}
+use Rattle.directory.specs.Places.{slotCount, slots, dataBit}
+use Rattle.directory.specs.Directory.{held, Directory}
 use Rattle.directory.specs.Survey.{union, counted, usedMap, freeOf, free}
-use Rattle.directory.proofs.Places.{data-all}
+use Rattle.directory.proofs.Places.{slots-count, data-all}
 use Rattle.directory.proofs.Union.{has-union}
 use Rattle.disk.specs.Look.{Look, slotsOf, extra}
 use Rattle.steps.specs.Sectors.{listed}
 use Rattle.steps.proofs.Sectors.{listed-tail}
 use Rattle.plans.specs.Change.{Wish}
 use Rattle.plans.specs.Saving.{sectorsFor, passing, freeBit, taken, lowestSlot}
+use Rattle.plans.proofs.Frame.{slot-file, slot-none}
 
 -- ---- runs
 
@@ -144,22 +145,24 @@ module _ (p : ℕ → Bool) where
 -- ---- the free bits
 
 module _ (l : Look) where
-  pub free-long : length (passing 1560 0 (freeBit l)) ≡ free (extra l) (slotsOf l)
-  unfolding extra free freeOf usedMap counted dataCount bitsOf
-  free-long = passing-long (freeBit l) 1560 0 ∙ omega (arith, count-not 1560 (has (union (slotsOf l) slots)), same)
-    where
-      same : count 1560 (λ j. freeBit l (0 + j)) ≡ count 1560 (λ b. not (has (union (slotsOf l) slots) b))
-      same = count-cong 1560 (λ j. freeBit l (0 + j)) (λ b. not (has (union (slotsOf l) slots) b)) (λ b h. rw (zero-add, data-all b h))
+  abbrev freeIn : ℕ → Bool
+  freeIn = freeBit (extra l) (slotsOf l)
 
-  -- a free bit is in no live file's map
-  pub free-is : (b : ℕ) → freeBit l b ≡ true → (i : ℕ) (f : File) → i < slots → l .files i ≡ some f → has (mapOf (f .bytes)) b ≡ true → ⊥
-  unfolding dataBit slotsOf
-  free-is b e i f h q m =
-      let t = and-eq-true-iff (dataBit (extra l) b) (not (has (union (slotsOf l) slots) b)) .0 e in
-      let s : b < 1560 = ltb-true b 1560 (and-eq-true-iff (leb (10 * extra l) b) (ltb b 1560) .0 (t .0) .1) in
-      let n : any slots (λ j. held false (λ x. has (mapOf x) b) (slotsOf l j)) ≡ false =
-      sym (has-union (slotsOf l) slots b s) ∙ not-true (has (union (slotsOf l) slots) b) (t .1) in
-      true≢false (sym (rw (q, m)) ∙ any-none slots (λ j. held false (λ x. has (mapOf x) b) (slotsOf l j)) n i h)
+  pub free-long : length (passing 1560 0 freeIn) ≡ free (extra l) (slotsOf l)
+  unfolding extra free freeOf usedMap counted dataCount bitsOf
+  free-long = passing-long freeIn 1560 0 ∙ omega (arith, count-not 1560 (has (union (slotsOf l) slots)), same)
+    where
+      same : count 1560 (λ j. freeIn (0 + j)) ≡ count 1560 (λ b. not (has (union (slotsOf l) slots) b))
+      same = count-cong 1560 (λ j. freeIn (0 + j)) (λ b. not (has (union (slotsOf l) slots) b)) (λ b h. rw (zero-add, data-all b h))
+
+-- a free bit is in no live slot's map
+pub free-is : (n : ℕ) (v : Directory) (b : ℕ) → freeBit n v b ≡ true → (i : ℕ) (s : List ℕ) → i < slots → v i ≡ some s → has (mapOf s) b ≡ true → ⊥
+unfolding dataBit
+free-is n v b e i s h q m =
+    let t = and-eq-true-iff (dataBit n b) (not (has (union v slots) b)) .0 e in
+    let k : b < 1560 = ltb-true b 1560 (and-eq-true-iff (leb (10 * n) b) (ltb b 1560) .0 (t .0) .1) in
+    let u : any slots (λ j. held false (λ x. has (mapOf x) b) (v j)) ≡ false = sym (has-union v slots b k) ∙ not-true (has (union v slots) b) (t .1) in
+    true≢false (sym (rw (q, m)) ∙ any-none slots (λ j. held false (λ x. has (mapOf x) b) (v j)) u i h)
 
 -- ---- how many
 
@@ -173,53 +176,74 @@ sectors-some n = omega arith
 
 -- ---- what is taken
 
-module _ (l : Look) (w : Wish) where
-  pub taken-run : Run (freeBit l) 0 (taken l w)
+module _ (n : ℕ) (v : Directory) (w : Wish) where
+  pub taken-run : Run (freeBit n v) 0 (taken n v w)
   unfolding taken
-  taken-run = run-take (freeBit l) 0 (sectorsFor (length (w .body))) (passing 1560 0 (freeBit l)) (passing-run (freeBit l) 1560 0 (omega arith))
-
-  pub taken-long : sectorsFor (length (w .body)) ≤ free (extra l) (slotsOf l) → length (taken l w) ≡ sectorsFor (length (w .body))
-  unfolding taken
-  taken-long h = length-take-le (sectorsFor (length (w .body))) (passing 1560 0 (freeBit l)) (omega (arith, free-long l))
+  taken-run = run-take (freeBit n v) 0 (sectorsFor (length (w .body))) (passing 1560 0 (freeBit n v)) (passing-run (freeBit n v) 1560 0 (omega arith))
 
   -- "the n lowest free map bits": each free one below one that is taken is taken
-  pub taken-lowest : (b c : ℕ) → listed b (taken l w) ≡ true → c < b → freeBit l c ≡ true → listed c (taken l w) ≡ true
+  pub taken-lowest : (b c : ℕ) → listed b (taken n v w) ≡ true → c < b → freeBit n v c ≡ true → listed c (taken n v w) ≡ true
   unfolding taken
-  taken-lowest b c e h q = passing-lowest (freeBit l) 1560 0 (sectorsFor (length (w .body))) b c e (omega arith) h q
+  taken-lowest b c e h q = passing-lowest (freeBit n v) 1560 0 (sectorsFor (length (w .body))) b c e (omega arith) h q
+
+pub taken-long : (l : Look) (w : Wish) → sectorsFor (length (w .body)) ≤ free (extra l) (slotsOf l)
+    → length (taken (extra l) (slotsOf l) w) ≡ sectorsFor (length (w .body))
+unfolding taken
+taken-long l w h = length-take-le (sectorsFor (length (w .body))) (passing 1560 0 (freeBit (extra l) (slotsOf l))) (omega (arith, free-long l))
 
 -- ---- the slot
 
-pub record LowestFree (l : Look) (i : ℕ) : Type 0 where
+pub record LowestFree (n : ℕ) (v : Directory) (i : ℕ) : Type 0 where
+  pub below : i < slotCount n
+  pub empty : v i ≡ none
+  pub before : (k : ℕ) → k < i → (s : List ℕ) × (v k ≡ some s)
+
+module _ (n : ℕ) (v : Directory) where
+  abbrev emptyAt : ℕ → Option ℕ
+  emptyAt i = held (some i) (λ s. none) (v i)
+
+  full : (k : ℕ) → emptyAt k ≡ none → (s : List ℕ) × (v k ≡ some s)
+  full k e = by (v k) refl e
+    where
+      by : (o : Option (List ℕ)) → v k ≡ o → held (some k) (λ s. none) o ≡ none → (s : List ℕ) × (v k ≡ some s)
+      by none q w = absurd (Option·some-ne-none k w)
+      by (some s) q w = (s, q)
+
+  empty-is : (k i : ℕ) → emptyAt k ≡ some i → (k ≡ i) × (v k ≡ none)
+  empty-is k i e = by (v k) refl e
+    where
+      by : (o : Option (List ℕ)) → v k ≡ o → held (some k) (λ s. none) o ≡ some i → (k ≡ i) × (v k ≡ none)
+      by none q w = (cc, q)
+      by (some s) q w = absurd (Option·some-ne-none i (sym w))
+
+  pub lowest-slot : (i : ℕ) → lowestSlot n v ≡ some i → LowestFree n v i
+  unfolding lowestSlot
+  lowest-slot i e =
+      let f = sweep-first (slotCount n) emptyAt i e in
+      let t = empty-is (f .at) i (f .here) in
+      rw (← t .0) (record { below = f .below; empty = t .1; before = λ k h. full k (f .before k h) })
+
+  -- where none is free every slot holds a file
+  pub no-slot : lowestSlot n v ≡ none → (k : ℕ) → k < slotCount n → (s : List ℕ) × (v k ≡ some s)
+  unfolding lowestSlot
+  no-slot e k h = full k (sweep-none (slotCount n) emptyAt e k h)
+
+-- the same of the files of a look
+pub record FreeSlot (l : Look) (i : ℕ) : Type 0 where
   pub below : i < slots
   pub empty : l .files i ≡ none
   pub before : (k : ℕ) → k < i → (f : File) × (l .files k ≡ some f)
 
 module _ (l : Look) where
-  abbrev emptyAt : ℕ → Option ℕ
-  emptyAt i = held (some i) (λ f. none) (l .files i)
+  some-file : (k : ℕ) → ((s : List ℕ) × (slotsOf l k ≡ some s)) → (f : File) × (l .files k ≡ some f)
+  some-file k p = let g = slot-file l k (p .0) (p .1) in (g .0, g .1)
 
-  full : (k : ℕ) → emptyAt k ≡ none → (f : File) × (l .files k ≡ some f)
-  full k e = by (l .files k) refl e
-    where
-      by : (o : Option File) → l .files k ≡ o → held (some k) (λ f. none) o ≡ none → (f : File) × (l .files k ≡ some f)
-      by none q w = absurd (Option·some-ne-none k w)
-      by (some f) q w = (f, q)
+  pub free-slot : (i : ℕ) → lowestSlot (extra l) (slotsOf l) ≡ some i → FreeSlot l i
+  unfolding extra
+  free-slot i e =
+      let w = lowest-slot (extra l) (slotsOf l) i e in
+      record { below = rw slots-count (w .below); empty = slot-none l i (w .empty); before = λ k h. some-file k (w .before k h) }
 
-  empty-is : (k i : ℕ) → emptyAt k ≡ some i → (k ≡ i) × (l .files k ≡ none)
-  empty-is k i e = by (l .files k) refl e
-    where
-      by : (o : Option File) → l .files k ≡ o → held (some k) (λ f. none) o ≡ some i → (k ≡ i) × (l .files k ≡ none)
-      by none q w = (cc, q)
-      by (some f) q w = absurd (Option·some-ne-none i (sym w))
-
-  pub lowest-slot : (i : ℕ) → lowestSlot l ≡ some i → LowestFree l i
-  unfolding lowestSlot
-  lowest-slot i e =
-      let f = sweep-first slots emptyAt i e in
-      let t = empty-is (f .at) i (f .here) in
-      rw (← t .0) (record { below = f .below; empty = t .1; before = λ k h. full k (f .before k h) })
-
-  -- where none is free every slot holds a file
-  pub no-slot : lowestSlot l ≡ none → (k : ℕ) → k < slots → (f : File) × (l .files k ≡ some f)
-  unfolding lowestSlot
-  no-slot e k h = full k (sweep-none slots emptyAt e k h)
+  pub no-free-slot : lowestSlot (extra l) (slotsOf l) ≡ none → (k : ℕ) → k < slots → (f : File) × (l .files k ≡ some f)
+  unfolding extra
+  no-free-slot e k h = some-file k (no-slot (extra l) (slotsOf l) e k (rw slots-count at h))

@@ -26,7 +26,7 @@ use Rattle.disk.proofs.Look.{look-long}
 use Rattle.steps.specs.Steps.{Step, putAll, Does}
 use Rattle.plans.specs.Change.{Mark, hide, show, protect, release, marked, allBetween, usable}
 use Rattle.plans.specs.Plan.{upd, entryOf, slotStep}
-use Rattle.plans.proofs.Frame.{slots-some, upd-same, upd-other, upd-long, extra-upd, entry-alive, entry-is, Holds, holds, holds-long, inside-slot, slot-look}
+use Rattle.plans.proofs.Frame.{slots-some, upd-same, upd-other, upd-long, extra-upd, entry-alive, entry-is, Holds, holds, holds-long, inside-slot, there-slot, slot-look}
 
 -- ---- files apart
 
@@ -91,6 +91,7 @@ pub slot-does : (d : List ℕ) → Sound (look d) → (i : ℕ) → i < slots �
     → Does look Sound d (slotStep (look d) i o y (entryOf x sec))
 unfolding putAll
 slot-does d w i h o y k x sec ex es good apart = record {
+  there = there-slot d (sound-long d w) i h o y k;
   inside = (inside-slot d (sound-long d w) i h o y k, tt);
   sees = slot-look d (sound-long d w) i h o y k x sec ex es;
   ok = sound-upd (look d) w i h (entryOf x sec) (λ f q. rw (entry-is x sec f q) (good (entry-alive x sec f q)))

@@ -24,18 +24,16 @@ use Rattle.directory.specs.Find.{hit, find}
 use Rattle.directory.proofs.Search.{find-some}
 use Rattle.disk.specs.Look.{Look, look, slotsOf}
 use Rattle.disk.specs.Check.{checkLook, checkDisk}
-use Rattle.disk.specs.Sound.{Sound}
 use Rattle.disk.proofs.Look.{look-slots}
-use Rattle.disk.proofs.Sound.{sound}
 use Rattle.files.specs.Calls.{noFile, fileAt, fileNamed, notCarried, outOfRange, readReply, readLook, startReply, startOf, startLook}
 use Rattle.plans.specs.Change.{Mark, erase, rename, mark, marked}
 use Rattle.plans.specs.Plan.{upd, entryOf, made, run}
-use Rattle.plans.specs.Accepted.{Named, Unprotected}
+use Rattle.plans.specs.Accepted.{Named, Unprotected, Renames}
 use Rattle.plans.specs.After.{SameAnswers, marking}
-use Rattle.plans.proofs.Frame.{upd-other, slots-same, slots-other, entry-is, holds-long}
+use Rattle.plans.proofs.Frame.{disk-sound, upd-other, slots-same, slots-other, entry-is, holds-long}
 use Rattle.plans.proofs.Kept.{sound-long, usable-is}
 use Rattle.plans.proofs.Demand3.{change-accepted}
-use Rattle.plans.proofs.Effect.{Touched, erasing, Renamable, erased, marked-so, renamed}
+use Rattle.plans.proofs.Effect.{Touched, erasing, erased, marked-so, renamed}
 
 -- ---- what the answers hang on
 
@@ -216,11 +214,7 @@ touched-others d n o y Also new ss ok now t m u v =
     (λ f e q. v (ap (λ (f : File). nameOf (f .bytes)) (sym (entry-is s (t .file .sectors) f e)) ∙ q))
 
 module _ (d : List ℕ) (ok : checkDisk d ≡ none) (room : ℕ) (new ss : List ℕ) where
-  old-sound : Sound (look d)
-  unfolding checkDisk
-  old-sound = sound (look d) ok
-
-  -- "for every name but those the change names": the one of an erase or a mark
+  -- for every name but the one of an erase or a mark
   pub erase-others : (n : List ℕ) → run (erase n) d room ≡ made new ss → (m : List ℕ) → (padded m ≡ padded n → ⊥) → SameAnswers new m d m
   erase-others n e m u =
       let t = erased d ok room new ss n e in
@@ -237,6 +231,6 @@ module _ (d : List ℕ) (ok : checkDisk d ≡ none) (room : ℕ) (new ss : List 
       → SameAnswers new m d m
   rename-others n to e m u v =
       let t = renamed d ok room new ss n to e in
-      let l = holds-long d (t .slot) (t .file) (t .found .here) (sound-long d old-sound) in
-      touched-others d n 1 (λ f. padded to) (Renamable d to) new ss ok (change-accepted (rename n to) d room new ss ok e) t m u
-      (λ q. v (sym q ∙ name-put (t .file .bytes) (padded to) (usable-is to (t .also .usable-name) .1) (omega arith)))
+      let l = holds-long d (t .slot) (t .file) (t .found .here) (sound-long d (disk-sound d ok)) in
+      touched-others d n 1 (λ f. padded to) (Renames d to) new ss ok (change-accepted (rename n to) d room new ss ok e) t m u
+      (λ q. v (sym q ∙ name-put (t .file .bytes) (padded to) (usable-is to (t .also .name) .1) (omega arith)))

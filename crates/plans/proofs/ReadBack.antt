@@ -9,6 +9,7 @@ use borrow.Author.Tests.{le-ltb, leb-true}
 use lib.Dec.{leb, ltb}
 use lib.ListN.{length}
 use Rattle.buffers.specs.Bytes.{put}
+use Rattle.buffers.proofs.Tests.{and-both}
 use Rattle.geometry.specs.Disk.{bitNumber}
 use Rattle.refusals.specs.Order.{Reply, _else_, row}
 use Rattle.refusals.specs.Answers.{out, done}
@@ -20,21 +21,19 @@ use Rattle.directory.specs.Places.{dirSector}
 use Rattle.directory.specs.Directory.{held}
 use Rattle.directory.specs.Find.{find}
 use Rattle.directory.proofs.Search.{some-find, find-none}
-use Rattle.disk.specs.Look.{Look, look, slotsOf}
+use Rattle.disk.specs.Look.{Look, look, slotsOf, extra}
 use Rattle.disk.specs.Check.{checkLook, checkDisk}
-use Rattle.disk.proofs.Rows.{and-both, is-carried}
-use Rattle.disk.proofs.Sound.{sound}
+use Rattle.disk.proofs.Rows.{is-carried}
 use Rattle.files.specs.Calls.{noFile, fileAt, fileNamed, named, notCarried, outOfRange, readReply, readLook, reading, startReply, startLook, starting, startOf, address}
 use Rattle.steps.specs.Steps.{enact, numbers}
-use Rattle.steps.proofs.Steps.{numbers-append}
 use Rattle.plans.specs.Change.{Wish, save, usable, between}
-use Rattle.plans.specs.Saving.{freeBit, taken, stream, chained, newSlot}
-use Rattle.plans.specs.Plan.{upd, dataSteps, saveSteps, slotStep, entryOf, made, run}
-use Rattle.plans.proofs.Frame.{upd-same, slots-same, slots-other}
+use Rattle.plans.specs.Saving.{freeBit, taken, slotTaken, newSlot}
+use Rattle.plans.specs.Plan.{upd, saveSteps, made, run}
+use Rattle.plans.proofs.Frame.{disk-sound, upd-same, slots-same, slots-other}
 use Rattle.plans.proofs.Kept.{usable-is}
-use Rattle.plans.proofs.Free.{LowestFree, lowest-slot}
+use Rattle.plans.proofs.Free.{FreeSlot, free-slot}
 use Rattle.plans.proofs.NewFile.{newFile, Ready, taken-ready, name-is, kind-is, length-is, page-is, offset-is}
-use Rattle.plans.proofs.Saved.{data-numbers, save-look, reads-back}
+use Rattle.plans.proofs.Saved.{save-numbers, save-look, reads-back}
 use Rattle.plans.proofs.Crash.{run-made}
 use Rattle.plans.proofs.Sure.{saves}
 use Rattle.plans.proofs.Demand3.{change-accepted}
@@ -72,38 +71,36 @@ module _ (l : Look) (ok : checkLook l ≡ none) (n : List ℕ) (u : askable n �
 pub record Stored (d : List ℕ) (w : Wish) (new ss : List ℕ) : Type 0 where
   pub slot : ℕ
   pub bits : List ℕ
-  pub lowest : LowestFree (look d) slot
-  pub ready : Ready (freeBit (look d)) w bits
+  pub lowest : FreeSlot (look d) slot
+  pub ready : Ready (extra (look d)) (freeBit (extra (look d)) (slotsOf (look d))) w bits
   pub range : (leb (w .page) 31 && between 32768 (w .offset) 49151) ≡ true
   pub fresh : find (slotsOf (look d)) (w .name) ≡ none
-  pub takes : bits ≡ taken (look d) w
-  pub seen : look new ≡ upd (look d) slot (some (newFile (look d) slot w bits))
+  pub takes : bits ≡ taken (extra (look d)) (slotsOf (look d)) w
+  pub disk : new ≡ enact d (saveSteps (look d) slot w bits)
+  pub seen : look new ≡ upd (look d) slot (some (newFile (slotsOf (look d)) slot w bits))
   -- "for a save the n data sectors in chain order and then the directory sector"
   pub sectors : ss ≡ map bitNumber bits ++ (dirSector slot ∷ [])
 
 pub stored : (d : List ℕ) → checkDisk d ≡ none → (room : ℕ) (w : Wish) (new ss : List ℕ) → run (save w) d room ≡ made new ss → Stored d w new ss
-unfolding checkDisk numbers
 stored d ok room w new ss e =
     let m = run-made (save w) d room new ss ok e in
-    let k = saves d (sound (look d) ok) (m .steps) w (m .planned) in
-    let i : ℕ = k .slot in
-    let bs : List ℕ = taken (look d) w in
-    let r = taken-ready (look d) w (k .usable-name) (k .carried-kind) (k .room) in
-    let at = lowest-slot (look d) i (k .lowest) in
-    let q = k .steps in
-    let s : saveSteps (look d) i w bs ≡ m .steps = cc in
+    let k = saves d (disk-sound d ok) (m .steps) w (m .planned) in
+    let t = k .tested in
+    let i : ℕ = slotTaken (extra (look d)) (slotsOf (look d)) in
+    let bs : List ℕ = taken (extra (look d)) (slotsOf (look d)) w in
+    let r = taken-ready (look d) w (t .usable-name) (t .carried-kind) (t .room) in
+    let at = free-slot (look d) i (t .lowest) in
     record {
       slot = i;
       bits = bs;
       lowest = at;
       ready = r;
-      range = k .range;
-      fresh = k .fresh;
+      range = t .range;
+      fresh = t .fresh;
       takes = refl;
-      seen = ap look (sym (m .disk) ∙ ap (enact d) (sym s)) ∙ save-look d (sound (look d) ok) i (at .below) w bs r (k .fresh);
-      sectors = sym (m .named) ∙ ap numbers (sym s)
-          ∙ numbers-append (dataSteps (stream w) 0 bs) (slotStep (look d) i 0 (newSlot (look d) i w bs) (entryOf (newSlot (look d) i w bs) (chained (stream w) 0 bs)) ∷ [])
-          ∙ ap (λ (x : List ℕ). x ++ (dirSector i ∷ [])) (data-numbers (stream w) 0 bs);
+      disk = sym (m .disk) ∙ ap (enact d) (sym (k .steps));
+      seen = ap look (sym (m .disk) ∙ ap (enact d) (sym (k .steps))) ∙ save-look d (disk-sound d ok) i (at .below) w bs r (t .fresh);
+      sectors = sym (m .named) ∙ ap numbers (sym (k .steps)) ∙ save-numbers (look d) i w bs;
     }
 
 -- ---- the saved file
@@ -113,10 +110,10 @@ module _ (d : List ℕ) (ok : checkDisk d ≡ none) (room : ℕ) (w : Wish) (new
   k = stored d ok room w new ss e
 
   abbrev l : Look
-  l = upd (look d) (k .slot) (some (newFile (look d) (k .slot) w (k .bits)))
+  l = upd (look d) (k .slot) (some (newFile (slotsOf (look d)) (k .slot) w (k .bits)))
 
   abbrev saved : File
-  saved = newFile (look d) (k .slot) w (k .bits)
+  saved = newFile (slotsOf (look d)) (k .slot) w (k .bits)
 
   accepted : checkLook l ≡ none
   unfolding checkDisk
@@ -125,14 +122,14 @@ module _ (d : List ℕ) (ok : checkDisk d ≡ none) (room : ℕ) (w : Wish) (new
   kind-range : (16 ≤ w .kind) × (w .kind ≤ 20)
   kind-range = k .ready .kind
 
-  kind-kept : kindOf (newSlot (look d) (k .slot) w (k .bits)) ≡ w .kind
-  kind-kept = kind-is (look d) (k .slot) w (k .bits) (omega (arith, kind-range))
+  kind-kept : kindOf (newSlot (slotsOf (look d)) (k .slot) w (k .bits)) ≡ w .kind
+  kind-kept = kind-is (slotsOf (look d)) (k .slot) w (k .bits) (omega (arith, kind-range))
 
-  carried-new : carried (kindOf (newSlot (look d) (k .slot) w (k .bits))) ≡ true
+  carried-new : carried (kindOf (newSlot (slotsOf (look d)) (k .slot) w (k .bits))) ≡ true
   carried-new = ap carried kind-kept ∙ is-carried (w .kind) kind-range
 
-  named-so : nameOf (newSlot (look d) (k .slot) w (k .bits)) ≡ padded (w .name)
-  named-so = name-is (look d) (k .slot) w (k .bits) (usable-is (w .name) (k .ready .name) .1)
+  named-so : nameOf (newSlot (slotsOf (look d)) (k .slot) w (k .bits)) ≡ padded (w .name)
+  named-so = name-is (slotsOf (look d)) (k .slot) w (k .bits) (usable-is (w .name) (k .ready .name) .1)
 
   askable-so : askable (w .name) ≡ true
   unfolding usable
@@ -143,7 +140,7 @@ module _ (d : List ℕ) (ok : checkDisk d ≡ none) (room : ℕ) (w : Wish) (new
       some-find (slotsOf l) (w .name) (k .slot)
       (record {
         below = k .lowest .below;
-        bytes = newSlot (look d) (k .slot) w (k .bits);
+        bytes = newSlot (slotsOf (look d)) (k .slot) w (k .bits);
         here = slots-same (look d) (k .slot) (some saved);
         name = named-so;
         before = λ j h t p q.
@@ -151,20 +148,20 @@ module _ (d : List ℕ) (ok : checkDisk d ≡ none) (room : ℕ) (w : Wish) (new
             (sym (slots-other (look d) (k .slot) (some saved) j (omega arith)) ∙ p) q;
       })
 
-  -- "A saved file reads back byte for byte": the body and its length, into any buffer long enough
+  -- a saved file reads back byte for byte: the body and its length, into any buffer long enough
   pub read-back : (buf : List ℕ) → length (w .body) ≤ length buf → reading new (w .name) buf ≡ out (done (length (w .body)) 0) (put buf 0 (w .body))
   read-back buf h =
-      let n : lengthOf (facts (newSlot (look d) (k .slot) w (k .bits))) ≡ length (w .body) = length-is (look d) (k .slot) w (k .bits) in
+      let n : lengthOf (facts (newSlot (slotsOf (look d)) (k .slot) w (k .bits))) ≡ length (w .body) = length-is (slotsOf (look d)) (k .slot) w (k .bits) in
       ap (λ (l : Look). readLook l (w .name) buf) (k .seen)
       ∙ read-here l accepted (w .name) askable-so (k .slot) saved found (upd-same (look d) (k .slot) (some saved)) carried-new buf (subst (λ (m : ℕ). m ≤ length buf) (sym n) h)
-      ∙ ap₂ (λ (m : ℕ) (x : List ℕ). out (done m 0) (put buf 0 x)) n (reads-back (look d) (k .slot) (freeBit (look d)) w (k .bits) (k .ready))
+      ∙ ap₂ (λ (m : ℕ) (x : List ℕ). out (done m 0) (put buf 0 x)) n (reads-back (slotsOf (look d)) (k .slot) (extra (look d)) (freeBit (extra (look d)) (slotsOf (look d))) w (k .bits) (k .ready))
 
   -- and the start address is the one of the page and offset given
   pub start-back : starting new (w .name) ≡ done (address (w .page) (w .offset)) 0
   start-back =
       let r = and-both (leb (w .page) 31) (between 32768 (w .offset) 49151) (k .range) in
-      let p : pageOf (newSlot (look d) (k .slot) w (k .bits)) ≡ w .page = page-is (look d) (k .slot) w (k .bits) (omega (arith, leb-true (w .page) 31 (r .0))) in
-      let o : offsetOf (newSlot (look d) (k .slot) w (k .bits)) ≡ w .offset = offset-is (look d) (k .slot) w (k .bits) in
+      let p : pageOf (newSlot (slotsOf (look d)) (k .slot) w (k .bits)) ≡ w .page = page-is (slotsOf (look d)) (k .slot) w (k .bits) (omega (arith, leb-true (w .page) 31 (r .0))) in
+      let o : offsetOf (newSlot (slotsOf (look d)) (k .slot) w (k .bits)) ≡ w .offset = offset-is (slotsOf (look d)) (k .slot) w (k .bits) in
       ap (λ (l : Look). startLook l (w .name)) (k .seen)
       ∙ start-here l accepted (w .name) askable-so (k .slot) saved found (upd-same (look d) (k .slot) (some saved)) carried-new
       (ap (λ (x : ℕ). leb 32768 x && leb x 49151) o ∙ r .1)

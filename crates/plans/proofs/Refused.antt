@@ -2,21 +2,23 @@
 use Prim.Native.Nat.{ℕ, suc, _+_, _<_}
 use mathlib.Core.Path.{_≡_, refl, sym, ap, _∙_, subst}
 use mathlib.Core.Bool.{Bool, true, false, not, _&&_, _||_, true≢false}
-use mathlib.Core.List.{List, [], _∷_}
-use mathlib.Core.Logic.{inl, inr, ⊎-elim, _↔_}
-use mathlib.Core.Option.{Option, none, some}
+use mathlib.Core.List.{List, [], _∷_, map}
+use mathlib.Core.Logic.{_⊎_, inl, inr, _≢_, _↔_}
+use mathlib.Core.Option.{Option, none, some, Option·some-ne-none}
 use native.Mathlib.Omega.{arith}
 use borrow.Author.Tests.{ltb-true, ltb-false, le-leb, lt-leb}
 use lib.Dec.{leb, ltb}
-use lib.ListN.{length, getD, length-append}
+use lib.ListN.{length, getD, length-append, length-map}
 use Rattle.buffers.proofs.Counts.{any-some, none-any}
-use Rattle.refusals.specs.Order.{Refusal, refuse, Reply, _else_, row}
+use Rattle.geometry.specs.Disk.{bitNumber}
+use Rattle.refusals.specs.Order.{Refusal, refuse, Reply, _else_, row, SlotRow, rowAt, NoRow, FirstOf, bare, rises, Lowest}
 use Rattle.refusals.specs.Answers.{done, refused, filled}
+use Rattle.refusals.proofs.First.{first-same, first-none}
 use Rattle.slots.specs.Slot.{protected, carried, nameOf}
 use Rattle.slots.specs.Name.{sameName, askable, padded}
 use Rattle.slots.proofs.Names.{same-refl, same-is}
 use Rattle.chains.specs.File.{File}
-use Rattle.directory.specs.Places.{slots}
+use Rattle.directory.specs.Places.{slotCount, slots, dirSector}
 use Rattle.directory.specs.Directory.{held}
 use Rattle.directory.specs.Survey.{free}
 use Rattle.directory.specs.Find.{find}
@@ -24,15 +26,17 @@ use Rattle.directory.proofs.Search.{find-some, find-none}
 use Rattle.disk.specs.Look.{Look, look, slotsOf, extra}
 use Rattle.disk.specs.Check.{checkLook, checkDisk}
 use Rattle.files.specs.Calls.{noFile, fileAt, fileNamed, entries, listLook, readReply, readLook, listing, reading}
+use Rattle.files.specs.Asked.{someNamed, slotNamed, startOutside, row15, row20, by-check, by-row}
+use Rattle.files.proofs.Asked.{some-named, none-named, outside-is, by-lowest, by-positive}
 use Rattle.steps.specs.Steps.{Step, enact, numbers}
 use Rattle.steps.proofs.Steps.{length-numbers}
 use Rattle.plans.specs.Change.{Wish, Mark, Change, save, erase, rename, mark, marked, between, usable}
-use Rattle.plans.specs.Saving.{sectorsFor, taken, lowestSlot, stream, newSlot, chained}
-use Rattle.plans.specs.Plan.{slotStep, entryOf, dataSteps, touch, saveSteps, Plan, no, go, orNo, byName, nameTaken, isProtected, planOf, Result, stopped, made, settle, checked, run, changedBy, change}
-use Rattle.plans.specs.Refused.{SlotRow, rowAt, NoRow, FirstOf, someNamed, slotNamed, someFree, startOutside, row14, row15, row16, row17, row18, row19, row20, changeRows, Refuses, by-check, by-row, Passes, Accepts}
+use Rattle.plans.specs.Saving.{sectorsFor, taken, lowestSlot, slotTaken}
+use Rattle.plans.specs.Plan.{touch, saveSteps, Plan, no, go, orNo, byName, nameTaken, isProtected, saveReply, planOf, Result, stopped, made, settle, checked, run, changedBy, change}
+use Rattle.plans.specs.Refused.{someFree, row14, row16, row17, row18, row19, changeRows, Refuses, Passes, Accepts}
 use Rattle.plans.specs.Accepted.{many}
-use Rattle.plans.proofs.Frame.{slots-some}
 use Rattle.plans.proofs.Free.{lowest-slot, no-slot, taken-long}
+use Rattle.plans.proofs.Saved.{save-numbers}
 
 -- ---- nothing lent changes
 
@@ -46,32 +50,7 @@ refused-unchanged c d buf r e = by (run c d (length buf)) e
     by (stopped s) w = (refl, refl)
     by (made new ss) w = (cc, cc)
 
-filled-unchanged : (q : Reply) (v f : ℕ) (x buf : List ℕ) (r : Refusal) → filled q (done v f) x buf .outcome ≡ refused r
-    → filled q (done v f) x buf .buffer ≡ buf
-filled-unchanged (some s) v f x buf r e = refl
-filled-unchanged none v f x buf r e = cc
-
--- a refused listing or read leaves its buffer as it was
-pub listing-unchanged : (d buf : List ℕ) (r : Refusal) → listing d buf .outcome ≡ refused r → listing d buf .buffer ≡ buf
-unfolding listLook
-listing-unchanged d buf r e =
-    filled-unchanged (checkLook (look d) else row 20 0 (ltb (length buf) (length (entries (slotsOf (look d)) slots)))) _ _ _ buf r e
-
-pub reading-unchanged : (d n buf : List ℕ) (r : Refusal) → reading d n buf .outcome ≡ refused r → reading d n buf .buffer ≡ buf
-unfolding readLook
-reading-unchanged d n buf r e = filled-unchanged (readReply (look d) n (length buf)) _ _ _ buf r e
-
 -- ---- the first row that holds
-
-first-same : (rs : List SlotRow) (x y : Refusal) → FirstOf x rs → FirstOf y rs → x ≡ y
-first-same [] x y p q = absurd p
-first-same (r ∷ rs) x y p q =
-    ⊎-elim (λ a. ⊎-elim (λ b. sym (a .1) ∙ b .1) (λ b. absurd (true≢false (sym (a .0) ∙ b .0))) q)
-    (λ a. ⊎-elim (λ b. absurd (true≢false (sym (b .0) ∙ a .0))) (λ b. first-same rs x y (a .1) (b .1)) q) p
-
-first-none : (rs : List SlotRow) (x : Refusal) → FirstOf x rs → NoRow rs → ⊥
-first-none [] x p q = p
-first-none (r ∷ rs) x p q = ⊎-elim (λ a. true≢false (sym (a .0) ∙ q .0)) (λ a. first-none rs x (a .1) (q .1)) p
 
 -- a result is the first row that holds, or none holds
 data Settled (rs : List SlotRow) (x : Result) : Type 0 where
@@ -88,28 +67,6 @@ later n s t rs x e (goes c new ss w) = goes (e, c) new ss w
 -- ---- the tests
 
 module _ (l : Look) (n : List ℕ) where
-  abbrev has-name : ℕ → Bool
-  has-name i = held false (λ s. sameName (nameOf s) (padded n)) (slotsOf l i)
-
-  pub some-named : (i : ℕ) → find (slotsOf l) n ≡ some i → someNamed l n ≡ true
-  unfolding someNamed
-  some-named i e =
-      let w = find-some (slotsOf l) n i e in
-      any-some slots has-name i (w .below)
-      (ap (held false (λ s. sameName (nameOf s) (padded n))) (w .here) ∙ ap (λ (m : List ℕ). sameName m (padded n)) (w .name) ∙ same-refl (padded n))
-
-  pub none-named : find (slotsOf l) n ≡ none → someNamed l n ≡ false
-  unfolding someNamed
-  none-named e = none-any slots has-name (λ k h. by k h (slotsOf l k) refl)
-    where
-      differs : (k : ℕ) → k < slots → (s : List ℕ) → slotsOf l k ≡ some s → (t : Bool) → sameName (nameOf s) (padded n) ≡ t → t ≡ false
-      differs k h s q true w = absurd (find-none (slotsOf l) n e k h s q (same-is (nameOf s) (padded n) w))
-      differs k h s q false w = refl
-
-      by : (k : ℕ) → k < slots → (o : Option (List ℕ)) → slotsOf l k ≡ o → held false (λ s. sameName (nameOf s) (padded n)) o ≡ false
-      by k h none q = refl
-      by k h (some s) q = differs k h s q (sameName (nameOf s) (padded n)) refl
-
   row17-is : (i : ℕ) → find (slotsOf l) n ≡ some i → row17 l n ≡ rowAt 17 (suc i) (protected (fileAt l i .bytes))
   unfolding slotNamed fileNamed
   row17-is i e = ap (λ (o : Option ℕ). rowAt 17 (held 0 suc o) (protected (held noFile (fileAt l) o .bytes))) e
@@ -118,45 +75,28 @@ module _ (l : Look) where
   abbrev is-free : ℕ → Bool
   is-free i = held true (λ s. false) (slotsOf l i)
 
-  pub some-free : (i : ℕ) → lowestSlot l ≡ some i → someFree l ≡ true
-  unfolding someFree slotsOf
-  some-free i e =
-      let w = lowest-slot l i e in
-      any-some slots is-free i (w .below) (ap (λ (o : Option File). held true (λ s. false) (held none (λ f. some (f .bytes)) o)) (w .empty))
-
-  pub none-free : lowestSlot l ≡ none → someFree l ≡ false
+  pub some-free : (i : ℕ) → lowestSlot (extra l) (slotsOf l) ≡ some i → someFree l ≡ true
   unfolding someFree
-  none-free e = none-any slots is-free (λ k h. let f = no-slot l e k h in ap (held true (λ s. false)) (slots-some l k (f .0) (f .1)))
+  some-free i e =
+      let w = lowest-slot (extra l) (slotsOf l) i e in
+      any-some (slotCount (extra l)) is-free i (w .below) (ap (held true (λ s. false)) (w .empty))
 
--- a start is in range exactly where it is not outside
-pub outside-is : (page offset : ℕ) → not (leb page 31 && between 32768 offset 49151) ≡ startOutside page offset
-outside-is page offset = rw (flip page 31, flip 32768 offset, flip offset 49151) (by (ltb 31 page) (ltb offset 32768) (ltb 49151 offset))
-  where
-    at : (a b : ℕ) (t : Bool) → ltb b a ≡ t → leb a b ≡ not t
-    at a b true e = lt-leb a b (ltb-true b a e)
-    at a b false e = le-leb a b (ltb-false b a e)
+  pub none-free : lowestSlot (extra l) (slotsOf l) ≡ none → someFree l ≡ false
+  unfolding someFree
+  none-free e =
+      none-any (slotCount (extra l)) is-free (λ k h. ap (held true (λ s. false)) (no-slot (extra l) (slotsOf l) e k h .1))
 
-    flip : (a b : ℕ) → leb a b ≡ not (ltb b a)
-    flip a b = at a b (ltb b a) refl
-
-    by : (x y z : Bool) → not (not x && (not y && not z)) ≡ (x || (y || z))
-    by true y z = refl
-    by false true z = refl
-    by false false true = refl
-    by false false false = refl
+  no-free : held true (λ i. false) (lowestSlot (extra l) (slotsOf l)) ≡ not (someFree l)
+  no-free = by (lowestSlot (extra l) (slotsOf l)) refl
+    where
+      by : (o : Option ℕ) → lowestSlot (extra l) (slotsOf l) ≡ o → held true (λ i. false) o ≡ not (someFree l)
+      by none q = sym (ap not (none-free q))
+      by (some i) q = sym (ap not (some-free i q))
 
 -- ---- how many numbers
 
-pub data-long : (st : List ℕ) (f : ℕ) (bs : List ℕ) → length (dataSteps st f bs) ≡ length bs
-unfolding dataSteps
-data-long st f [] = refl
-data-long st f (b ∷ bs) = ap suc (data-long st (f + 510) bs)
-
 pub save-long : (l : Look) (i : ℕ) (w : Wish) (bs : List ℕ) → length (numbers (saveSteps l i w bs)) ≡ length bs + 1
-save-long l i w bs =
-    length-numbers (saveSteps l i w bs)
-    ∙ length-append (dataSteps (stream w) 0 bs) (slotStep l i 0 (newSlot l i w bs) (entryOf (newSlot l i w bs) (chained (stream w) 0 bs)) ∷ [])
-    ∙ ap (λ (n : ℕ). n + 1) (data-long (stream w) 0 bs)
+save-long l i w bs = ap length (save-numbers l i w bs) ∙ length-append (map bitNumber bs) (dirSector i ∷ []) ∙ ap (λ (n : ℕ). n + 1) (length-map bs bitNumber)
 
 -- ---- a plan by its rows
 
@@ -188,7 +128,7 @@ module _ (d : List ℕ) (room : ℕ) where
         by none q = here 15 0 (not (someNamed l n)) rs (ap not (none-named l n q))
         by (some i) q = later 15 0 (not (someNamed l n)) rs (settle d room (at i (fileAt l i))) (ap not (some-named l n i q)) (k i q)
 
-    by-taken : (n : List ℕ) (rs : List SlotRow) (q : Plan) → By rs q → By (row16 l n ∷ rs) (orNo (nameTaken l n) q)
+    by-taken : (n : List ℕ) (rs : List SlotRow) (q : Plan) → By rs q → By (row16 l n ∷ rs) (orNo (nameTaken (slotsOf l) n) q)
     unfolding slotNamed
     by-taken n rs q k = by (find (slotsOf l) n) refl
       where
@@ -209,41 +149,56 @@ module _ (d : List ℕ) (room : ℕ) where
     -- ---- each change
 
     by-save : (w : Wish) → By (changeRows (save w) l room) (planOf (save w) l)
-    unfolding changeRows planOf
+    unfolding changeRows planOf saveReply
     by-save w =
-        by-else (row 12 0 (not (usable (w .name)))) (row 13 0 (not (carried (w .kind))) else test14 else nameTaken l (w .name)) _ rest
+        by-else (row 12 0 (not (usable (w .name)))) (r13 else r14 else r16 else r18 else r19) _ steps
         (by-test 12 0 (not (usable (w .name))) _ _
-        (λ a. by-else (row 13 0 (not (carried (w .kind)))) (test14 else nameTaken l (w .name)) _ rest
+        (λ a. by-else r13 (r14 else r16 else r18 else r19) _ steps
         (by-test 13 0 (not (carried (w .kind))) _ _
-        (λ b. by-else test14 (nameTaken l (w .name)) _ rest
-        (subst (λ (t : Bool). By (row14 w ∷ rows16) (orNo (row 14 0 t) (orNo (nameTaken l (w .name)) rest))) (sym (outside-is (w .page) (w .offset)))
-        (by-test 14 0 (startOutside (w .page) (w .offset)) _ _ (λ c. by-taken (w .name) _ rest (by-slot (lowestSlot l) refl))))))))
+        (λ b. by-else r14 (r16 else r18 else r19) _ steps
+        (subst (λ (t : Bool). By (row14 w ∷ rows16) (orNo (row 14 0 t) (orNo (r16 else r18 else r19) steps))) (sym (outside-is (w .page) (w .offset)))
+        (by-test 14 0 (startOutside (w .page) (w .offset)) _ _
+        (λ c. by-else r16 (r18 else r19) _ steps
+        (by-taken (w .name) _ (orNo (r18 else r19) steps)
+        (by-else r18 r19 _ steps
+        (subst (λ (t : Bool). By (row18 l ∷ rows19) (orNo (row 18 0 t) (orNo r19 steps))) (sym (no-free l))
+        (by-test 18 0 (not (someFree l)) _ _
+        (λ e. by-test 19 0 (ltb (free (extra l) (slotsOf l)) many) _ _
+        (λ f. by-room (saveSteps l slot w bits) (many + 1)
+        (save-long l slot w bits ∙ ap (λ (n : ℕ). n + 1) (taken-long l w (ltb-false (free (extra l) (slotsOf l)) many f))))))))))))))))
       where
-        test14 : Reply
-        test14 = row 14 0 (not (leb (w .page) 31 && between 32768 (w .offset) 49151))
-
         many : ℕ
         many = sectorsFor (length (w .body))
+
+        slot : ℕ
+        slot = slotTaken (extra l) (slotsOf l)
+
+        bits : List ℕ
+        bits = taken (extra l) (slotsOf l) w
+
+        steps : Plan
+        steps = go (saveSteps l slot w bits)
+
+        r13 : Reply
+        r13 = row 13 0 (not (carried (w .kind)))
+
+        r14 : Reply
+        r14 = row 14 0 (not (leb (w .page) 31 && between 32768 (w .offset) 49151))
+
+        r16 : Reply
+        r16 = nameTaken (slotsOf l) (w .name)
+
+        r18 : Reply
+        r18 = row 18 0 (held true (λ i. false) (lowestSlot (extra l) (slotsOf l)))
+
+        r19 : Reply
+        r19 = row 19 0 (ltb (free (extra l) (slotsOf l)) many)
 
         rows19 : List SlotRow
         rows19 = row19 l w ∷ row20 room (many + 1) ∷ []
 
         rows16 : List SlotRow
         rows16 = row16 l (w .name) ∷ row18 l ∷ rows19
-
-        then : Option ℕ → Plan
-        then = held (no (refuse 18 0)) (λ i. orNo (row 19 0 (ltb (free (extra l) (slotsOf l)) many)) (go (saveSteps l i w (taken l w))))
-
-        rest : Plan
-        rest = then (lowestSlot l)
-
-        by-slot : (o : Option ℕ) → lowestSlot l ≡ o → By (row18 l ∷ rows19) (then o)
-        by-slot none e = here 18 0 (not (someFree l)) rows19 (ap not (none-free l e))
-        by-slot (some i) e =
-            later 18 0 (not (someFree l)) rows19 (settle d room (then (some i))) (ap not (some-free l i e))
-            (by-test 19 0 (ltb (free (extra l) (slotsOf l)) many) _ _
-            (λ a. by-room (saveSteps l i w (taken l w)) (many + 1)
-            (save-long l i w (taken l w) ∙ ap (λ (n : ℕ). n + 1) (taken-long l w (ltb-false (free (extra l) (slotsOf l)) many a)))))
 
     by-erase : (n : List ℕ) → By (changeRows (erase n) l room) (planOf (erase n) l)
     unfolding changeRows planOf
@@ -256,8 +211,8 @@ module _ (d : List ℕ) (room : ℕ) where
     unfolding changeRows planOf
     by-rename n new =
         by-test 12 0 (not (askable n && usable new)) _ _
-        (λ a. by-found n (λ i f. orNo (nameTaken l new else isProtected i f) (go (touch l i f 1 (padded new)))) _
-        (λ i e. by-else (nameTaken l new) (isProtected i (fileAt l i)) _ (go (touch l i (fileAt l i) 1 (padded new)))
+        (λ a. by-found n (λ i f. orNo (nameTaken (slotsOf l) new else isProtected i f) (go (touch l i f 1 (padded new)))) _
+        (λ i e. by-else (nameTaken (slotsOf l) new) (isProtected i (fileAt l i)) _ (go (touch l i (fileAt l i) 1 (padded new)))
         (by-taken new _ _ (by-protected n i e _ _ (by-touch i (fileAt l i) 1 (padded new))))))
 
     by-mark : (m : Mark) (n : List ℕ) → By (changeRows (mark m n) l room) (planOf (mark m n) l)
@@ -325,6 +280,22 @@ module _ (c : Change) (d : List ℕ) (room : ℕ) where
 
   pub accepted-exactly : Accepts c d room ↔ Passes c d room
   accepted-exactly = (run-passes, passes-run)
+
+-- "the lowest that applies of 12 to 20": the rows of each change rise in number, so that the first that holds is the lowest
+pub rows-rise : (c : Change) (l : Look) (room : ℕ) → rises (bare (changeRows c l room)) ≡ true
+unfolding changeRows
+rows-rise (save w) l room = refl
+rows-rise (erase n) l room = refl
+rows-rise (rename n new) l room = refl
+rows-rise (mark m n) l room = refl
+
+pub refused-lowest : (c : Change) (d : List ℕ) (room : ℕ) (r : Refusal) → run c d room ≡ stopped r
+    → (checkDisk d ≡ some r) ⊎ Lowest (r .number) (bare (changeRows c (look d) room))
+refused-lowest c d room r e = by-lowest d (changeRows c (look d) room) r (rows-rise c (look d) room) (refused-exactly c d room r .0 e)
+
+-- no refusal has the number 0
+pub refused-positive : (c : Change) (d : List ℕ) (room : ℕ) (r : Refusal) → run c d room ≡ stopped r → r .number ≢ 0
+refused-positive c d room r e = by-positive d (changeRows c (look d) room) r (rows-rise c (look d) room) (refused-exactly c d room r .0 e)
 
 -- the same of the call: its outcome is a refusal exactly then
 pub change-refused : (c : Change) (d buf : List ℕ) (r : Refusal) → (change c d buf .outcome ≡ refused r) ↔ Refuses c d (length buf) r

@@ -8,16 +8,16 @@ use Rattle.slots.specs.Slot.{nameOf}
 use Rattle.slots.specs.Name.{askable, padded}
 use Rattle.chains.specs.File.{File}
 use Rattle.directory.specs.Directory.{directory}
-use Rattle.disk.specs.Look.{look}
+use Rattle.disk.specs.Look.{look, slotsOf}
 use Rattle.disk.specs.Check.{checkDisk}
 use Rattle.plans.specs.Change.{Wish, Change, save, erase, rename, mark}
 use Rattle.plans.specs.Plan.{finds, made, run}
-use Rattle.plans.specs.Accepted.{Unprotected}
+use Rattle.plans.specs.Accepted.{Unprotected, Renames}
 use Rattle.plans.specs.After.{SameAnswers, Other, Unasked, marking}
 use Rattle.plans.proofs.Kept.{usable-is}
 use Rattle.plans.proofs.NewFile.{newFile, name-is}
 use Rattle.plans.proofs.Demand3.{change-accepted}
-use Rattle.plans.proofs.Effect.{erased, marked-so, renamed, erasing, Renamable}
+use Rattle.plans.proofs.Effect.{erased, marked-so, renamed, erasing}
 use Rattle.plans.proofs.ReadBack.{stored}
 use Rattle.plans.proofs.Others.{Unnamed, others, unusable-same, other-slots, touched-slots, erase-others, mark-others, rename-others}
 use Rattle.plans.proofs.Finds.{finds-erase, finds-rename, finds-mark}
@@ -26,12 +26,12 @@ module _ (d : List ℕ) (ok : checkDisk d ≡ none) (room : ℕ) (new ss : List 
   save-others : (w : Wish) → run (save w) d room ≡ made new ss → (m : List ℕ) → (padded m ≡ padded (w .name) → ⊥) → SameAnswers new m d m
   save-others w e m u =
       let k = stored d ok room w new ss e in
-      let f : File = newFile (look d) (k .slot) w (k .bits) in
+      let f : File = newFile (slotsOf (look d)) (k .slot) w (k .bits) in
       others d new (k .slot) (some f) (k .seen) ok (change-accepted (save w) d room new ss ok e) m
       (λ g q p. Option·some-ne-none g (sym q ∙ k .lowest .empty))
       (λ g q p.
       u (sym p ∙ ap (λ (f : File). nameOf (f .bytes)) (sym (Option·some-injective f g q))
-      ∙ name-is (look d) (k .slot) w (k .bits) (usable-is (w .name) (k .ready .name) .1)))
+      ∙ name-is (slotsOf (look d)) (k .slot) w (k .bits) (usable-is (w .name) (k .ready .name) .1)))
 
   unfound : (j : ℕ) (f : File) (n : List ℕ) → look d .files j ≡ some f → (nameOf (f .bytes) ≡ padded n → ⊥) → Unnamed n (look d .files j)
   unfound j f n h u g q p = u (ap (λ (f : File). nameOf (f .bytes)) (Option·some-injective f g (sym h ∙ q)) ∙ p)
@@ -48,7 +48,7 @@ module _ (d : List ℕ) (ok : checkDisk d ≡ none) (room : ℕ) (new ss : List 
       let a = unusable-same (look new) (look d) (change-accepted c d room new ss ok e) ok m u in
       record { readings = a .0; starts = a .1 }
 
-  -- "for every name but those the change names, the whole answer of read and start is the old one"
+  -- for every name but those the change names, the whole answer of read and start is the old one
   pub stays : (c : Change) → run c d room ≡ made new ss → (m : List ℕ) → Unasked c m → SameAnswers new m d m
   stays c e m u = by (askable m) refl
     where
@@ -56,16 +56,16 @@ module _ (d : List ℕ) (ok : checkDisk d ≡ none) (room : ℕ) (new ss : List 
       by true q = others-stay c e m (u q)
       by false q = unusable-stay c e m q
 
-  -- "and so is every other listing entry": the slot of each live file that the change does not find
+  -- and so is every other listing entry: the slot of each live file that the change does not find
   pub entries-stay : (c : Change) → run c d room ≡ made new ss → (j : ℕ) (f : File) → look d .files j ≡ some f → finds c f ≡ false → directory new j ≡ directory d j
   entries-stay (save w) e j f h n =
       let k = stored d ok room w new ss e in
-      other-slots d new (k .slot) (some (newFile (look d) (k .slot) w (k .bits))) (k .seen) j
+      other-slots d new (k .slot) (some (newFile (slotsOf (look d)) (k .slot) w (k .bits))) (k .seen) j
       (λ q. Option·some-ne-none f (sym h ∙ ap (look d .files) q ∙ k .lowest .empty))
   entries-stay (erase n) e j f h x =
       touched-slots d n 0 erasing Unprotected new ss (erased d ok room new ss n e) j (unfound j f n h (λ p. false≢true (sym x ∙ finds-erase n f .1 p)))
   entries-stay (rename n to) e j f h x =
-      touched-slots d n 1 (λ f. padded to) (Renamable d to) new ss (renamed d ok room new ss n to e) j
+      touched-slots d n 1 (λ f. padded to) (Renames d to) new ss (renamed d ok room new ss n to e) j
       (unfound j f n h (λ p. false≢true (sym x ∙ finds-rename n to f .1 p)))
   entries-stay (mark k n) e j f h x =
       touched-slots d n 0 (marking k) (λ f. Unit {0}) new ss (marked-so d ok room new ss k n e) j

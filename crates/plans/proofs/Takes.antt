@@ -1,37 +1,52 @@
--- What an accepted save takes: the least number of sectors, the lowest free bits, the lowest free slot.
-use Prim.Native.Nat.{ℕ, _+_, _-_, _≤_, _<_}
+-- What an accepted save takes, the least number of sectors, the lowest free bits, the lowest free slot, and what it leaves, byte by byte.
+use Prim.Native.Nat.{ℕ, zero, suc, _+_, _*_, _/_, _%_, _≤_, _<_}
 use mathlib.Core.Path.{_≡_, refl, sym, ap, _∙_}
-use mathlib.Core.Bool.{Bool, true, false, not, _&&_}
-use mathlib.Core.List.{List}
+use mathlib.Core.Bool.{Bool, true, false, not}
+use mathlib.Core.List.{List, [], _∷_, map}
+use mathlib.Core.Logic.{⊎-elim}
 use mathlib.Core.Option.{Option, none, some}
 use native.Mathlib.Omega.{arith}
-use lib.Dec.{leb, ltb}
-use lib.ListN.{length}
+use borrow.Author.Tests.{ne-eqb}
+use lib.ListN.{length, getD, drop}
+use Rattle.buffers.specs.Bytes.{put}
+use Rattle.buffers.proofs.Lists.{part-at, put-before, put-after}
 use Rattle.buffers.proofs.Counts.{none-any}
+use Rattle.geometry.specs.Disk.{bitNumber, bitPlace}
 use Rattle.maps.specs.Bits.{has}
-use Rattle.refusals.specs.Order.{refuse, Reply, _else_, row}
-use Rattle.slots.specs.Slot.{carried, mapOf}
+use Rattle.slots.specs.Slot.{mapOf}
 use Rattle.chains.specs.File.{File}
-use Rattle.directory.specs.Places.{slots}
+use Rattle.directory.specs.Places.{slots, slotAt}
 use Rattle.directory.specs.Directory.{held}
-use Rattle.directory.specs.Survey.{free}
 use Rattle.directory.proofs.Places.{data-all}
 use Rattle.directory.proofs.Union.{has-union}
-use Rattle.disk.specs.Look.{Look, look, slotsOf, extra}
-use Rattle.steps.specs.Steps.{Step, enact, numbers}
-use Rattle.plans.specs.Change.{Wish, save, between, usable}
-use Rattle.plans.specs.Saving.{freeBit, taken, lowestSlot}
-use Rattle.plans.specs.Plan.{saveSteps, Plan, no, go, orNo, nameTaken, planOf, made, run}
-use Rattle.plans.specs.Refused.{Accepts}
-use Rattle.plans.specs.Accepted.{many, Savable, Unused, Takes}
-use Rattle.plans.proofs.Frame.{holds}
-use Rattle.plans.proofs.Free.{run-listed, run-rises, sectors-least, free-is, taken-run, taken-long, taken-lowest, lowest-slot}
-use Rattle.plans.proofs.Crash.{Made, run-made}
-use Rattle.plans.proofs.Sure.{or-none}
-use Rattle.plans.proofs.Refused.{save-long}
-use Rattle.plans.proofs.Exactly.{slot-file, free-sectors, none-empty, full-not, save-exactly}
+use Rattle.disk.specs.Look.{look, slotsOf, extra}
+use Rattle.disk.specs.Check.{checkDisk}
+use Rattle.disk.specs.Sound.{Sound}
+use Rattle.steps.specs.Sectors.{sector, listed}
+use Rattle.steps.specs.Steps.{putAll, enact, numbers}
+use Rattle.steps.proofs.Sectors.{at-sector}
+use Rattle.steps.proofs.Steps.{enact-append, goes-long, goes-other}
+use Rattle.plans.specs.Change.{Wish, save}
+use Rattle.plans.specs.Saving.{freeBit, stream, block, nextTrack, nextSector, slotByte}
+use Rattle.plans.specs.Plan.{dataSteps, slotSteps, saveSteps, made, run}
+use Rattle.plans.specs.Accepted.{many, Unused, Takes}
+use Rattle.plans.specs.After.{Outside, AfterSave}
+use Rattle.plans.proofs.Frame.{slots-some, slot-file, disk-sound, upd-same, holds, holds-sector}
+use Rattle.plans.proofs.Kept.{usable-is}
+use Rattle.plans.proofs.Free.{From, run-listed, run-rises, sectors-least, free-is, taken-lowest}
+use Rattle.plans.proofs.NewFile.{newFile, length-slot, slot-byte, name-is, block-byte, block-track, block-sector, filled, sector-at}
+use Rattle.plans.proofs.Good.{own-bit, slot-names}
+use Rattle.plans.proofs.Saved.{data-numbers, data-goes}
+use Rattle.plans.proofs.Demand3.{run-room}
+use Rattle.plans.proofs.ReadBack.{Stored, stored}
+use Rattle.plans.proofs.Exactly.{none-empty, full-not}
 
-unused-free : (d : List ℕ) (b : ℕ) → b < 1560 → Unused d b → freeBit (look d) b ≡ true
+-- a sector that is none of a chain's
+unlisted : (s : ℕ) (bs : List ℕ) → ((j : ℕ) → j < length bs → s ≡ bitNumber (getD bs j 0) → ⊥) → listed s (map bitNumber bs) ≡ false
+unlisted s [] h = refl
+unlisted s (b ∷ bs) h = rw (ne-eqb s (bitNumber b) (h 0 (omega arith))) (unlisted s bs (λ j (q : j < length bs). h (suc j) (omega arith)))
+
+unused-free : (d : List ℕ) (b : ℕ) → b < 1560 → Unused d b → freeBit (extra (look d)) (slotsOf (look d)) b ≡ true
 unfolding extra
 unused-free d b h u =
     rw (data-all b h)
@@ -48,60 +63,110 @@ unused-free d b h u =
     by i (some s) q = let g = slot-file (look d) i s q in at s i (g .0) (g .1) (g .2) (has (mapOf s) b) refl
 
 module _ (d : List ℕ) (w : Wish) (room : ℕ) (new ss : List ℕ) (e : run (save w) d room ≡ made new ss) where
-  abbrev ls : Look
-  ls = look d
+  ok : checkDisk d ≡ none
+  ok = run-room (save w) d room new ss e .accepted
 
-  accepts : Accepts (save w) d room
-  accepts = record { new = new; sectors = ss; gives = e }
+  k : Stored d w new ss
+  k = stored d ok room w new ss e
 
-  was : Savable d w room
-  was = save-exactly d w room .0 accepts
+  abbrev free : ℕ → Bool
+  free = freeBit (extra (look d)) (slotsOf (look d))
 
-  takes : (sts : List (Step Look)) (i : ℕ) → lowestSlot ls ≡ some i → saveSteps ls i w (taken ls w) ≡ sts
-      → enact d sts ≡ new → numbers sts ≡ ss → Takes d w new ss
-  takes sts i q z p r =
-      let k = lowest-slot ls i q in
-      let enough-free : many w ≤ free (extra ls) (slotsOf ls) = omega (arith, free-sectors d, was .sectors) in
-      let t : length (taken ls w) ≡ many w = taken-long ls w enough-free in
-      let s : ss ≡ numbers (saveSteps ls i w (taken ls w)) = sym (ap numbers z ∙ r) in
-      record {
-        enough = sectors-least (length (w .body)) .0;
-        least = sectors-least (length (w .body)) .1;
-        bits = taken ls w;
-        long = t;
-        small = λ b m. run-listed (freeBit ls) 0 (taken ls w) (taken-run ls w) b m .small;
-        unused = λ b m j f g. free-is ls b (run-listed (freeBit ls) 0 (taken ls w) (taken-run ls w) b m .passes) j f (holds d j f g .here) g;
-        rises = run-rises (freeBit ls) 0 (taken ls w) (taken-run ls w);
-        lowest = λ b c m h u.
-            let x : b < 1560 = run-listed (freeBit ls) 0 (taken ls w) (taken-run ls w) b m .small in
-            taken-lowest ls w b c m h (unused-free d c (omega arith) u);
-        slot = i;
-        below = k .below;
-        empty = none-empty d i (k .below) (k .empty);
-        before = λ j h. let f = k .before j h in full-not d j (f .0) (f .1);
-        disk = sym (ap (enact d) z ∙ p);
-        sectors = s;
-        named = ap length s ∙ save-long ls i w (taken ls w) ∙ ap (λ (n : ℕ). n + 1) t;
-      }
+  taken-from : (b : ℕ) → listed b (k .bits) ≡ true → From free 0 b
+  taken-from b m = run-listed free 0 (k .bits) (k .ready .run) b m
 
-  pub save-takes : Takes d w new ss
-  unfolding planOf
-  save-takes = by (lowestSlot ls) refl (or-none tests (then (lowestSlot ls)) (m .steps) (m .planned) .1)
+  pub save-takes : Takes d w ss
+  save-takes = record {
+    enough = sectors-least (length (w .body)) .0;
+    least = sectors-least (length (w .body)) .1;
+    bits = k .bits;
+    long = k .ready .long;
+    small = λ b m. taken-from b m .small;
+    unused = λ b m j f g.
+        free-is (extra (look d)) (slotsOf (look d)) b (taken-from b m .passes) j (f .bytes) (holds d j f g .here) (slots-some (look d) j f g);
+    rises = run-rises free 0 (k .bits) (k .ready .run);
+    lowest = λ b c m h u.
+        let x : b < 1560 = taken-from b m .small in
+        rw (k .takes)
+        (taken-lowest (extra (look d)) (slotsOf (look d)) w b c (rw (k .takes) at m) h (unused-free d c (omega arith) u));
+    slot = k .slot;
+    below = k .lowest .below;
+    empty = none-empty d (k .slot) (k .lowest .below) (k .lowest .empty);
+    before = λ j h. let f = k .lowest .before j h in full-not d j (f .0) (f .1);
+    sectors = k .sectors;
+  }
+
+  -- ---- byte by byte
+
+  abbrev saved : File
+  saved = newFile (slotsOf (look d)) (k .slot) w (k .bits)
+
+  here : look new .files (k .slot) ≡ some saved
+  here = rw (k .seen) (upd-same (look d) (k .slot) (some saved))
+
+  slot-now : (j : ℕ) → j < 256 → getD new (slotAt (k .slot) + j) 0 ≡ slotByte w (k .bits) j
+  slot-now j h =
+      sym (part-at (slotAt (k .slot)) 256 new j h) ∙ ap (λ (s : List ℕ). getD s j 0) (holds new (k .slot) saved here .bytes)
+      ∙ slot-byte (slotsOf (look d)) (k .slot) w (k .bits) j h
+
+  module _ (j : ℕ) (h : j < many w) where
+    inside : j < length (k .bits)
+    inside = omega (arith, k .ready .long)
+
+    -- the sector of the j-th bit
+    sector-now : (m : ℕ) → m < 512
+        → getD new (bitPlace (getD (k .bits) j 0) + m) 0 ≡ getD (block (stream w) (510 * j) (nextTrack (drop (suc j) (k .bits))) (nextSector (drop (suc j) (k .bits)))) m 0
+    sector-now m q =
+        sym (part-at (bitPlace (getD (k .bits) j 0)) 512 new m q)
+        ∙ ap (λ (s : List ℕ). getD s m 0)
+        (holds-sector new (k .slot) saved here (getD (k .bits) j 0)
+        (own-bit free (saved .bytes) (k .bits) (k .ready .run) (filled (slotsOf (look d)) (k .slot) (extra (look d)) free w (k .bits) (k .ready))
+        (slot-names (slotsOf (look d)) (k .slot) w (k .bits)) j inside)
+        ∙ sector-at (slotsOf (look d)) (k .slot) (extra (look d)) free w (k .bits) (k .ready) j inside
+        ∙ ap (λ (f : ℕ). block (stream w) f (nextTrack (drop (suc j) (k .bits))) (nextSector (drop (suc j) (k .bits)))) (omega arith))
+
+  -- the disk before the slot is written
+  abbrev mid : List ℕ
+  mid = enact d (dataSteps (stream w) 0 (k .bits))
+
+  new-is : new ≡ put mid (slotAt (k .slot)) (saved .bytes)
+  unfolding enact putAll
+  new-is =
+      k .disk ∙ enact-append (dataSteps (stream w) 0 (k .bits)) (slotSteps (look d) (k .slot) (saved .bytes) (saved .sectors)) d
+      ∙ ap (λ (a : ℕ). put mid a (saved .bytes)) (omega arith)
+
+  -- place m is in no sector of the chain
+  apart : (m : ℕ) → ((j : ℕ) → j < many w → Outside m (bitPlace (getD (k .bits) j 0)) 512) → listed (m / 512) (numbers (dataSteps (stream w) 0 (k .bits))) ≡ false
+  apart m h = rw data-numbers (unlisted (m / 512) (k .bits) (λ j q z. away (bitNumber (getD (k .bits) j 0)) z (h j (omega (arith, k .ready .long)))))
     where
-      m : Made (save w) d new ss
-      m = run-made (save w) d room new ss (was .asked .disk) e
+      away : (b : ℕ) → m / 512 ≡ b → Outside m (b * 512) 512 → ⊥
+      away b z o = ⊎-elim (λ (q : m < b * 512). omega arith) (λ (q : b * 512 + 512 ≤ m). omega arith) o
 
-      tests : Reply
-      tests =
-          row 12 0 (not (usable (w .name))) else row 13 0 (not (carried (w .kind)))
-          else row 14 0 (not (leb (w .page) 31 && between 32768 (w .offset) 49151)) else nameTaken ls (w .name)
+  others-now : (m : ℕ) → Outside m (slotAt (k .slot)) 256 → ((j : ℕ) → j < many w → Outside m (bitPlace (getD (k .bits) j 0)) 512) → getD new m 0 ≡ getD d m 0
+  others-now m o h =
+      let z = length-slot (slotsOf (look d)) (k .slot) w (k .bits) in
+      ap (λ (x : List ℕ). getD x m 0) new-is
+      ∙ ⊎-elim (put-before mid (slotAt (k .slot)) (saved .bytes) m)
+      (λ (q : slotAt (k .slot) + 256 ≤ m). put-after mid (slotAt (k .slot)) (saved .bytes) m (omega arith)) o
+      ∙ sym (at-sector mid m) ∙ ap (λ (s : List ℕ). getD s (m % 512) 0) (data-other m (apart m h)) ∙ at-sector d m
+    where
+      data-other : (m : ℕ) → listed (m / 512) (numbers (dataSteps (stream w) 0 (k .bits))) ≡ false → sector mid (m / 512) ≡ sector d (m / 512)
+      data-other m q = goes-other look Sound (dataSteps (stream w) 0 (k .bits)) d (data-goes d (disk-sound d ok) (k .slot) (k .lowest .below) w (k .bits) (k .ready)) (m / 512) q
 
-      then : Option ℕ → Plan
-      then = held (no (refuse 18 0)) (λ i. orNo (row 19 0 (ltb (free (extra ls) (slotsOf ls)) (many w))) (go (saveSteps ls i w (taken ls w))))
-
-      by : (o : Option ℕ) → lowestSlot ls ≡ o → then o ≡ go (m .steps) → Takes d w new ss
-      by none q p = let z : _≡_ {A = ℕ} 0 1 = cc in absurd (omega arith)
-      by (some i) q p =
-          let g = or-none (row 19 0 (ltb (free (extra ls) (slotsOf ls)) (many w))) (go (saveSteps ls i w (taken ls w))) (m .steps) p .1 in
-          let z : saveSteps ls i w (taken ls w) ≡ m .steps = cc in
-          takes (m .steps) i q z (m .disk) (m .named)
+  pub after-save : AfterSave d w new ss
+  unfolding save-takes
+  after-save = record {
+    takes = save-takes;
+    long = ap length (k .disk) ∙ goes-long (saveSteps (look d) (k .slot) w (k .bits)) d;
+    slot = slot-now;
+    payload = λ j m h q. sector-now j h m (omega arith) ∙ block-byte (stream w) (510 * j) _ _ m q;
+    track = λ j h. sector-now j h 510 (omega arith) ∙ block-track (stream w) (510 * j) _ _;
+    sector = λ j h. sector-now j h 511 (omega arith) ∙ block-sector (stream w) (510 * j) _ _;
+    bytes = others-now;
+    file = saved;
+    now = record {
+      below = k .lowest .below;
+      here = here;
+      name = name-is (slotsOf (look d)) (k .slot) w (k .bits) (usable-is (w .name) (k .ready .name) .1);
+    };
+  }

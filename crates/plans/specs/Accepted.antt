@@ -2,24 +2,23 @@
 use Prim.Native.Nat.{ℕ, _+_, _-_, _*_, _≤_, _<_}
 use mathlib.Core.Path.{_≡_}
 use mathlib.Core.Bool.{true, false}
-use mathlib.Core.List.{List}
+use mathlib.Core.List.{List, [], _∷_, _++_, map}
 use mathlib.Core.Option.{none, some}
 use lib.ListN.{length, getD}
+use Rattle.geometry.specs.Disk.{bitNumber}
 use Rattle.maps.specs.Bits.{has}
 use Rattle.slots.specs.Slot.{protected, nameOf, mapOf}
 use Rattle.slots.specs.Name.{askable, padded}
 use Rattle.chains.specs.File.{File}
-use Rattle.directory.specs.Places.{slots, slotBytes}
+use Rattle.directory.specs.Places.{slots, slotBytes, dirSector}
 use Rattle.directory.specs.Directory.{directory}
 use Rattle.directory.specs.Survey.{usedMap}
 use Rattle.disk.specs.Look.{look}
 use Rattle.disk.specs.Check.{checkDisk}
 use Rattle.disk.specs.Sound.{Carried}
 use Rattle.steps.specs.Sectors.{listed}
-use Rattle.steps.specs.Steps.{enact, numbers}
 use Rattle.plans.specs.Change.{Wish, usable}
 use Rattle.plans.specs.Saving.{sectorsFor}
-use Rattle.plans.specs.Plan.{saveSteps}
 
 -- a slot that holds a file with the name
 pub record Named (d n : List ℕ) (i : ℕ) (f : File) : Type 0 where
@@ -91,7 +90,7 @@ abbrev pub Unused : List ℕ → ℕ → Type 0
 Unused d b = (i : ℕ) (f : File) → look d .files i ≡ some f → has (mapOf (f .bytes)) b ≡ true → ⊥
 
 -- what a save takes, of an accepted disk
-pub record Takes (d : List ℕ) (w : Wish) (new ss : List ℕ) : Type 0 where
+pub record Takes (d : List ℕ) (w : Wish) (ss : List ℕ) : Type 0 where
   -- "It takes the least n with 510 × n ≥ 9 + length,"
   pub enough : 9 + length (w .body) ≤ 510 * many w
   pub least : 510 * (many w - 1) < 9 + length (w .body)
@@ -107,7 +106,5 @@ pub record Takes (d : List ℕ) (w : Wish) (new ss : List ℕ) : Type 0 where
   pub below : slot < slots
   pub empty : Empty d slot
   pub before : (k : ℕ) → k < slot → Empty d k → ⊥
-  -- these are what is written
-  pub disk : new ≡ enact d (saveSteps (look d) slot w bits)
-  pub sectors : ss ≡ numbers (saveSteps (look d) slot w bits)
-  pub named : length ss ≡ many w + 1
+  -- "for a save the n data sectors in chain order and then the directory sector"
+  pub sectors : ss ≡ map bitNumber bits ++ (dirSector slot ∷ [])

@@ -1,26 +1,27 @@
 -- What a change leaves: the name that it finds, and every other. The words of document 01 stand above what they define.
-use Prim.Native.Nat.{ℕ, _+_, _≤_, _<_}
+use Prim.Native.Nat.{ℕ, suc, _+_, _*_, _≤_, _<_}
 use mathlib.Core.Path.{_≡_}
 use mathlib.Core.Bool.{Bool, true, false}
 use mathlib.Core.List.{List, [], _∷_}
 use mathlib.Core.Logic.{_⊎_}
 use mathlib.Core.Option.{none}
-use lib.ListN.{length, getD}
+use lib.ListN.{length, getD, drop}
 use Rattle.buffers.specs.Bytes.{put}
-use Rattle.maps.specs.Bits.{has}
+use Rattle.geometry.specs.Disk.{bitPlace}
 use Rattle.refusals.specs.Order.{refuse}
 use Rattle.refusals.specs.Answers.{refused, out}
+use Rattle.maps.specs.Bits.{has}
 use Rattle.slots.specs.Slot.{hidden, protected, kindOf, countOf, mapOf}
 use Rattle.slots.specs.Name.{askable, padded}
 use Rattle.chains.specs.File.{File}
-use Rattle.directory.specs.Places.{slotAt}
+use Rattle.directory.specs.Places.{slotAt, dirSector}
 use Rattle.directory.specs.Directory.{directory}
 use Rattle.directory.specs.Survey.{free}
 use Rattle.disk.specs.Look.{look}
 use Rattle.files.specs.Calls.{reading, starting}
-use Rattle.plans.specs.Change.{Mark, hide, show, protect, release, Change, save, erase, rename, mark, marked}
-use Rattle.plans.specs.Saving.{freeBit}
-use Rattle.plans.specs.Accepted.{Named}
+use Rattle.plans.specs.Change.{Wish, Mark, hide, show, protect, release, Change, save, erase, rename, mark, marked}
+use Rattle.plans.specs.Saving.{freeBit, stream, nextTrack, nextSector, slotByte}
+use Rattle.plans.specs.Accepted.{Named, many, Takes}
 
 -- reading and the start address, asked for m on one disk, give what they give for n on another: length, address, refusal with its
 -- slot, and every output buffer at return
@@ -35,7 +36,7 @@ Other (erase n) m = padded m ≡ padded n → ⊥
 Other (rename n to) m = (padded m ≡ padded n → ⊥) × (padded m ≡ padded to → ⊥)
 Other (mark k n) m = padded m ≡ padded n → ⊥
 
--- "every name but those the change names": one that cannot be asked for is none of them, whatever its bytes
+-- every name but those the change names: one that cannot be asked for is none of them, whatever its bytes
 abbrev pub Unasked : Change → List ℕ → Type 0
 Unasked c m = askable m ≡ true → Other c m
 
@@ -45,7 +46,7 @@ pub record Gone (new n : List ℕ) : Type 0 where
   pub unstarted : starting new n ≡ refused (refuse 15 0)
 
 -- "Erase sets byte 0 to 0 and changes no other byte."
-pub record AfterErase (d n new : List ℕ) : Type 0 where
+pub record AfterErase (d n new ss : List ℕ) : Type 0 where
   pub slot : ℕ
   pub file : File
   pub found : Named d n slot file
@@ -56,18 +57,20 @@ pub record AfterErase (d n new : List ℕ) : Type 0 where
   pub empty : look new .files slot ≡ none
   -- the name is refused 15
   pub gone : Gone new n
+  pub sectors : ss ≡ dirSector slot ∷ []
   -- "So freed sectors and slots are used again."
-  pub freed : (b : ℕ) → has (mapOf (file .bytes)) b ≡ true → freeBit (look new) b ≡ true
+  pub freed : (b : ℕ) → has (mapOf (file .bytes)) b ≡ true → freeBit 0 (directory new) b ≡ true
   pub more : free 0 (directory new) ≡ free 0 (directory d) + countOf (file .bytes)
 
 -- "Rename changes bytes 1 to 10"
-pub record AfterRename (d n to new : List ℕ) : Type 0 where
+pub record AfterRename (d n to new ss : List ℕ) : Type 0 where
   pub slot : ℕ
   pub file : File
   pub found : Named d n slot file
   pub long : length new ≡ length d
   pub name : (k : ℕ) → k < 10 → getD new (slotAt slot + (1 + k)) 0 ≡ getD (padded to) k 0
   pub bytes : (k : ℕ) → (k < slotAt slot + 1) ⊎ (slotAt slot + 11 ≤ k) → getD new k 0 ≡ getD d k 0
+  pub sectors : ss ≡ dirSector slot ∷ []
   -- the file in the slot has the new name, and its sectors
   pub now : Named new to slot (record { bytes = put (file .bytes) 1 (padded to); sectors = file .sectors })
   -- reading and the start address give for the new name what they gave for the old one, and refuse that 15
@@ -92,13 +95,14 @@ abbrev pub marking : Mark → File → List ℕ
 marking m f = marked m (getD (f .bytes) 0 0) ∷ []
 
 -- "Hide, show, protect, release set or clear one bit": no other byte changes, and of this one no other bit
-pub record AfterMark (k : Mark) (d n new : List ℕ) : Type 0 where
+pub record AfterMark (k : Mark) (d n new ss : List ℕ) : Type 0 where
   pub slot : ℕ
   pub file : File
   pub found : Named d n slot file
   pub long : length new ≡ length d
   pub byte : getD new (slotAt slot) 0 ≡ marked k (getD d (slotAt slot) 0)
   pub bytes : (j : ℕ) → (j ≡ slotAt slot → ⊥) → getD new j 0 ≡ getD d j 0
+  pub sectors : ss ≡ dirSector slot ∷ []
   -- the file in the slot has its name and sectors
   pub now : Named new n slot (record { bytes = put (file .bytes) 0 (marking k file); sectors = file .sectors })
   pub hides : hidden (put (file .bytes) 0 (marking k file)) ≡ hiddenBy k (hidden (file .bytes))
@@ -106,3 +110,24 @@ pub record AfterMark (k : Mark) (d n new : List ℕ) : Type 0 where
   pub kind : kindOf (put (file .bytes) 0 (marking k file)) ≡ kindOf (file .bytes)
   -- reading and the start address give for every name, its own too, what they gave
   pub answers : (m : List ℕ) → SameAnswers new m d m
+
+-- place k lies outside the n bytes from a on
+abbrev pub Outside : ℕ → ℕ → ℕ → Type 0
+Outside k a n = (k < a) ⊎ (a + n ≤ k)
+
+-- "Save takes kind, new name, start page, offset, execution bytes, kind information and body.": what it leaves, byte by byte
+pub record AfterSave (d : List ℕ) (w : Wish) (new ss : List ℕ) : Type 0 where
+  pub takes : Takes d w ss
+  pub long : length new ≡ length d
+  -- the slot's 256 bytes
+  pub slot : (k : ℕ) → k < 256 → getD new (slotAt (takes .slot) + k) 0 ≡ slotByte w (takes .bits) k
+  -- each data sector's 512: "510 payload bytes to a sector", then "the next track and sector. The last sector has 0, 0"
+  pub payload : (j k : ℕ) → j < many w → k < 510 → getD new (bitPlace (getD (takes .bits) j 0) + k) 0 ≡ getD (stream w) (510 * j + k) 0
+  pub track : (j : ℕ) → j < many w → getD new (bitPlace (getD (takes .bits) j 0) + 510) 0 ≡ nextTrack (drop (suc j) (takes .bits))
+  pub sector : (j : ℕ) → j < many w → getD new (bitPlace (getD (takes .bits) j 0) + 511) 0 ≡ nextSector (drop (suc j) (takes .bits))
+  -- every other byte
+  pub bytes : (k : ℕ) → Outside k (slotAt (takes .slot)) 256 → ((j : ℕ) → j < many w → Outside k (bitPlace (getD (takes .bits) j 0)) 512)
+      → getD new k 0 ≡ getD d k 0
+  -- the file in the slot has the name
+  pub file : File
+  pub now : Named new (w .name) (takes .slot) file

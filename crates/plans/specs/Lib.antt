@@ -3,6 +3,5 @@ pub mod Saving
 pub mod Plan
 pub mod Safe
 pub mod Refused
-pub mod Asked
 pub mod Accepted
 pub mod After

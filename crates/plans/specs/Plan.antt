@@ -1,6 +1,6 @@
 -- What each change refuses, and which steps it makes. The words of document 01 stand above what they define.
 use Prim.Native.Nat.{ℕ, suc, _+_}
-use mathlib.Core.Bool.{Bool, false, cond, not, _&&_}
+use mathlib.Core.Bool.{Bool, true, false, cond, not, _&&_}
 use mathlib.Core.List.{List, [], _∷_, _++_}
 use mathlib.Core.Option.{Option, none, some}
 use lib.Dec.{eqb, leb, ltb}
@@ -13,7 +13,7 @@ use Rattle.slots.specs.Slot.{isLive, protected, carried, nameOf}
 use Rattle.slots.specs.Name.{sameName, askable, padded}
 use Rattle.chains.specs.File.{File}
 use Rattle.directory.specs.Places.{slotAt, dirSector}
-use Rattle.directory.specs.Directory.{held}
+use Rattle.directory.specs.Directory.{held, Directory}
 use Rattle.directory.specs.Survey.{free}
 use Rattle.directory.specs.Find.{find}
 use Rattle.disk.specs.Look.{Look, look, slotsOf, extra}
@@ -21,7 +21,7 @@ use Rattle.disk.specs.Check.{checkDisk}
 use Rattle.files.specs.Calls.{fileAt}
 use Rattle.steps.specs.Steps.{Put, Step, enact, numbers}
 use Rattle.plans.specs.Change.{Wish, Change, save, erase, rename, mark, marked, between, usable}
-use Rattle.plans.specs.Saving.{sectorsFor, taken, lowestSlot, stream, block, nextTrack, nextSector, chained, newSlot}
+use Rattle.plans.specs.Saving.{sectorsFor, taken, lowestSlot, slotTaken, stream, block, nextTrack, nextSector, chained, newSlot}
 
 -- ---- steps
 
@@ -50,10 +50,13 @@ dataSteps st f (b ∷ bs) =
 abbrev pub touch : Look → ℕ → File → ℕ → List ℕ → List (Step Look)
 touch l i f o y = slotStep l i o y (entryOf (put (f .bytes) o y) (f .sectors)) ∷ []
 
+-- the directory's part of a save: slot i gets these bytes, and then holds the file that they say
+abbrev pub slotSteps : Look → ℕ → List ℕ → (ℕ → List ℕ) → List (Step Look)
+slotSteps l i s sec = slotStep l i 0 s (entryOf s sec) ∷ []
+
 -- "for a save the n data sectors in chain order and then the directory sector"
 abbrev pub saveSteps : Look → ℕ → Wish → List ℕ → List (Step Look)
-saveSteps l i w bs =
-    dataSteps (stream w) 0 bs ++ (slotStep l i 0 (newSlot l i w bs) (entryOf (newSlot l i w bs) (chained (stream w) 0 bs)) ∷ [])
+saveSteps l i w bs = dataSteps (stream w) 0 bs ++ slotSteps l i (newSlot (slotsOf l) i w bs) (chained (stream w) 0 bs)
 
 -- ---- what is refused, and what is done
 
@@ -70,12 +73,19 @@ abbrev pub byName : Look → List ℕ → (ℕ → File → Plan) → Plan
 byName l n at = held (no (refuse 15 0)) (λ i. at i (fileAt l i)) (find (slotsOf l) n)
 
 -- 16, at the live slot that has the new name
-abbrev pub nameTaken : Look → List ℕ → Reply
-nameTaken l n = held none (λ i. some (refuse 16 (suc i))) (find (slotsOf l) n)
+abbrev pub nameTaken : Directory → List ℕ → Reply
+nameTaken v n = held none (λ i. some (refuse 16 (suc i))) (find v n)
 
 -- 17
 abbrev pub isProtected : ℕ → File → Reply
 isProtected i f = row 17 (suc i) (protected (f .bytes))
+
+-- a save is refused by its arguments and the directory alone: 12, 13, 14, 16, 18, 19
+unfoldable pub saveReply : ℕ → Directory → Wish → Reply
+saveReply n v w =
+    row 12 0 (not (usable (w .name))) else row 13 0 (not (carried (w .kind)))
+    else row 14 0 (not (leb (w .page) 31 && between 32768 (w .offset) 49151)) else nameTaken v (w .name)
+    else row 18 0 (held true (λ i. false) (lowestSlot n v)) else row 19 0 (ltb (free n v) (sectorsFor (length (w .body))))
 
 unfoldable pub planOf : Change → Look → Plan
 -- "Erase sets byte 0 to 0 and changes no other byte."
@@ -84,17 +94,13 @@ planOf (erase n) l =
 -- "Rename changes bytes 1 to 10; a new name equal to the old is refused (16)."
 planOf (rename n new) l =
     orNo (row 12 0 (not (askable n && usable new)))
-    (byName l n (λ i f. orNo (nameTaken l new else isProtected i f) (go (touch l i f 1 (padded new)))))
+    (byName l n (λ i f. orNo (nameTaken (slotsOf l) new else isProtected i f) (go (touch l i f 1 (padded new)))))
 -- "Hide, show, protect, release set or clear one bit; where it is so already the call is accepted."
 planOf (mark m n) l =
     orNo (row 12 0 (not (askable n))) (byName l n (λ i f. go (touch l i f 0 (marked m (getD (f .bytes) 0 0) ∷ []))))
 planOf (save w) l =
-    orNo
-    (row 12 0 (not (usable (w .name))) else row 13 0 (not (carried (w .kind)))
-    else row 14 0 (not (leb (w .page) 31 && between 32768 (w .offset) 49151)) else nameTaken l (w .name))
-    (held (no (refuse 18 0))
-    (λ i. orNo (row 19 0 (ltb (free (extra l) (slotsOf l)) (sectorsFor (length (w .body))))) (go (saveSteps l i w (taken l w))))
-    (lowestSlot l))
+    orNo (saveReply (extra l) (slotsOf l) w)
+    (go (saveSteps l (slotTaken (extra l) (slotsOf l)) w (taken (extra l) (slotsOf l) w)))
 
 -- the steps may hang on more of the disk than its look; what they commit may not
 abbrev pub plan : Change → List ℕ → Plan

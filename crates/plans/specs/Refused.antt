@@ -1,71 +1,33 @@
 -- When a change is refused: "A number is given when its row holds and nothing before it in the order does, and only then."
-use Prim.Native.Nat.{ℕ, suc, _+_}
-use mathlib.Core.Bool.{Bool, true, false, not, _&&_, _||_}
+use Prim.Native.Nat.{ℕ, _+_}
+use mathlib.Core.Bool.{Bool, true, false, not, _&&_}
 use mathlib.Core.List.{List, [], _∷_}
-use mathlib.Core.Logic.{_⊎_}
-use mathlib.Core.Option.{none, some}
+use mathlib.Core.Option.{none}
 use mathlib.Core.Path.{_≡_}
 use lib.Dec.{ltb}
 use lib.ListN.{length}
 use Rattle.buffers.specs.Bytes.{any}
-use Rattle.refusals.specs.Order.{Refusal, refuse}
-use Rattle.slots.specs.Slot.{protected, carried, nameOf}
-use Rattle.slots.specs.Name.{sameName, askable, padded}
-use Rattle.directory.specs.Places.{slots}
+use Rattle.refusals.specs.Order.{Refusal, SlotRow, rowAt, NoRow}
+use Rattle.slots.specs.Slot.{protected, carried}
+use Rattle.slots.specs.Name.{askable}
+use Rattle.directory.specs.Places.{slotCount}
 use Rattle.directory.specs.Directory.{held}
 use Rattle.directory.specs.Survey.{free}
-use Rattle.directory.specs.Find.{find}
 use Rattle.disk.specs.Look.{Look, look, slotsOf, extra}
 use Rattle.disk.specs.Check.{checkDisk}
 use Rattle.files.specs.Calls.{fileNamed}
+use Rattle.files.specs.Asked.{someNamed, slotNamed, startOutside, row12, row15, row20, RefusesBy}
 use Rattle.plans.specs.Change.{Wish, Change, save, erase, rename, mark, usable}
 use Rattle.plans.specs.Saving.{sectorsFor}
 use Rattle.plans.specs.Plan.{made, run}
 
--- ---- rows, each with its slot
-
--- a row of the table: its number, and the slot that it is given at, where its test holds
-pub record SlotRow : Type 0 where
-  pub number : ℕ
-  pub slot : ℕ
-  pub holds : Bool
-
-abbrev pub rowAt : ℕ → ℕ → Bool → SlotRow
-rowAt n s t = record { number = n; slot = s; holds = t }
-
--- no row holds
-abbrev pub NoRow : List SlotRow → Type 0
-NoRow [] = Unit {0}
-NoRow (r ∷ rs) = (r .holds ≡ false) × NoRow rs
-
--- a refusal whose row holds, and no row before it does
-abbrev pub FirstOf : Refusal → List SlotRow → Type 0
-FirstOf x [] = ⊥
-FirstOf x (r ∷ rs) = ((r .holds ≡ true) × (refuse (r .number) (r .slot) ≡ x)) ⊎ ((r .holds ≡ false) × FirstOf x rs)
-
 -- ---- the tests
-
--- a live slot has the name
-unfoldable pub someNamed : Look → List ℕ → Bool
-someNamed l n = any slots (λ i. held false (λ s. sameName (nameOf s) (padded n)) (slotsOf l i))
-
--- its number, from 1; 0 where none has the name
-unfoldable pub slotNamed : Look → List ℕ → ℕ
-slotNamed l n = held 0 suc (find (slotsOf l) n)
 
 -- a slot has byte 0 zero
 unfoldable pub someFree : Look → Bool
-someFree l = any slots (λ i. held true (λ s. false) (slotsOf l i))
-
--- start page above 31, or offset outside 32,768 to 49,151
-abbrev pub startOutside : ℕ → ℕ → Bool
-startOutside page offset = ltb 31 page || (ltb offset 32768 || ltb 49151 offset)
+someFree l = any (slotCount (extra l)) (λ i. held true (λ s. false) (slotsOf l i))
 
 -- ---- the rows of the table
-
--- the name is not usable
-abbrev pub row12 : Bool → SlotRow
-row12 good = rowAt 12 0 (not good)
 
 -- the kind asked for is not carried
 abbrev pub row13 : Wish → SlotRow
@@ -74,10 +36,6 @@ row13 w = rowAt 13 0 (not (carried (w .kind)))
 -- start page above 31, or offset outside 32,768 to 49,151
 abbrev pub row14 : Wish → SlotRow
 row14 w = rowAt 14 0 (startOutside (w .page) (w .offset))
-
--- no live slot has the name
-abbrev pub row15 : Look → List ℕ → SlotRow
-row15 l n = rowAt 15 0 (not (someNamed l n))
 
 -- a live slot has the new name
 abbrev pub row16 : Look → List ℕ → SlotRow
@@ -95,10 +53,6 @@ row18 l = rowAt 18 0 (not (someFree l))
 abbrev pub row19 : Look → Wish → SlotRow
 row19 l w = rowAt 19 0 (ltb (free (extra l) (slotsOf l)) (sectorsFor (length (w .body))))
 
--- the lent list is too short for so many sector numbers
-abbrev pub row20 : ℕ → ℕ → SlotRow
-row20 room many = rowAt 20 0 (ltb room many)
-
 -- "then the lowest that applies of 12 to 20": the rows of each change, with a list of so many numbers
 unfoldable pub changeRows : Change → Look → ℕ → List SlotRow
 changeRows (save w) l room =
@@ -109,10 +63,9 @@ changeRows (mark m n) l room = row12 (askable n) ∷ row15 l n ∷ row20 room 1 
 
 -- ---- refused, and accepted
 
--- the check refuses the disk; or it does not, and of the rows 12 to 20 this is the first that holds
-pub data Refuses (c : Change) (d : List ℕ) (room : ℕ) (r : Refusal) : Type 0 where
-  by-check : checkDisk d ≡ some r → Refuses c d room r
-  by-row : checkDisk d ≡ none → FirstOf r (changeRows c (look d) room) → Refuses c d room r
+-- the check refuses the disk; or it does not, and of its rows this is the first that holds
+abbrev pub Refuses : Change → List ℕ → ℕ → Refusal → Type 0
+Refuses c d room r = RefusesBy d (changeRows c (look d) room) r
 
 -- neither the check nor a row refuses
 pub record Passes (c : Change) (d : List ℕ) (room : ℕ) : Type 0 where

@@ -7,13 +7,12 @@ use lib.Dec.{eqb, ltb}
 use lib.ListN.{length, getD, take}
 use Rattle.buffers.specs.Bytes.{tab}
 use Rattle.geometry.specs.Disk.{trackOf, sectorOf}
-use Rattle.maps.specs.Bits.{has, clear, marked}
 use Rattle.refusals.specs.Order.{sweep}
+use Rattle.maps.specs.Bits.{has, clear, marked}
 use Rattle.slots.specs.Name.{padded}
-use Rattle.directory.specs.Places.{slots, dataBit}
-use Rattle.directory.specs.Directory.{held}
+use Rattle.directory.specs.Places.{slotCount, slots, dataBit}
+use Rattle.directory.specs.Directory.{held, Directory}
 use Rattle.directory.specs.Survey.{union}
-use Rattle.disk.specs.Look.{Look, slotsOf, extra}
 use Rattle.plans.specs.Change.{Wish}
 
 -- ---- how much, and where
@@ -27,17 +26,21 @@ unfoldable pub passing : ℕ → ℕ → (ℕ → Bool) → List ℕ
 passing zero i p = []
 passing (suc n) i p = cond (p i) (i ∷ passing n (suc i) p) (passing n (suc i) p)
 
--- a data sector whose bit is clear in the used map
-abbrev pub freeBit : Look → ℕ → Bool
-freeBit l b = dataBit (extra l) b && not (has (union (slotsOf l) slots) b)
+-- a data sector whose bit is clear in the used map, with n directory tracks beyond the four
+abbrev pub freeBit : ℕ → Directory → ℕ → Bool
+freeBit n v b = dataBit n b && not (has (union v slots) b)
 
 -- "the n lowest free map bits, rising, as chain"
-unfoldable pub taken : Look → Wish → List ℕ
-taken l w = take (sectorsFor (length (w .body))) (passing 1560 0 (freeBit l))
+unfoldable pub taken : ℕ → Directory → Wish → List ℕ
+taken n v w = take (sectorsFor (length (w .body))) (passing 1560 0 (freeBit n v))
 
 -- "and the lowest free slot": the lowest that holds no file
-unfoldable pub lowestSlot : Look → Option ℕ
-lowestSlot l = sweep slots (λ i. held (some i) (λ f. none) (l .files i))
+unfoldable pub lowestSlot : ℕ → Directory → Option ℕ
+lowestSlot n v = sweep (slotCount n) (λ i. held (some i) (λ s. none) (v i))
+
+-- its number from 0; 0 where there is none, and the save is refused
+abbrev pub slotTaken : ℕ → Directory → ℕ
+slotTaken n v = held 0 (λ i. i) (lowestSlot n v)
 
 -- ---- the data sectors
 
@@ -105,6 +108,6 @@ slotByte w bs k =
     (cond (ltb k 245) (getD (w .exec) (k - 242) 0)
     (cond (ltb k 246) 255 0)))))))))))))))))
 
--- the slot that a save writes at slot i of a disk with this look, of which it keeps nothing
-unfoldable pub newSlot : Look → ℕ → Wish → List ℕ → List ℕ
-newSlot l i w bs = tab 256 (slotByte w bs)
+-- the slot that a save writes at slot i of a directory, of which it keeps nothing
+unfoldable pub newSlot : Directory → ℕ → Wish → List ℕ → List ℕ
+newSlot v i w bs = tab 256 (slotByte w bs)

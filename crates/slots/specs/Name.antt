@@ -5,7 +5,7 @@ use mathlib.Core.List.{List, [], _∷_, _++_}
 use lib.Bits.{bitXor}
 use lib.Dec.{eqb, leb}
 use lib.ListN.{length, getD, replicate}
-use Rattle.maps.specs.Bits.{wordOr}
+use Rattle.buffers.specs.Bytes.{wordOr}
 
 -- "Names compare byte for byte."
 unfoldable pub sameName : List ℕ → List ℕ → Bool

@@ -80,7 +80,7 @@ pub fn first_of(s: &[u8]) -> usize
 pub fn map_of(s: &[u8]) -> &[u8]
     ensures { λ r. ⌜ now r ≡ mapOf (now (s .entry)) ⌝ }
 {
-    buffers::part_at(s, 15, 195)
+    buffers::part_at(s, 15, maps::MAP_BYTES)
 }
 
 pub fn page_of(s: &[u8]) -> usize
@@ -135,7 +135,7 @@ pub fn same_name(a: &[u8], b: &[u8]) -> bool
 pub fn key_of(name: &[u8]) -> u64
     ensures { λ r. ⌜ r ≡ keyOf (now (name .entry)) ⌝ }
 {
-    maps::word_at(name, 0) ^ maps::word_at(name, 2)
+    buffers::word_at(name, 0) ^ buffers::word_at(name, 2)
 }
 
 // Whether a name can be asked for.
@@ -175,7 +175,7 @@ pub fn own_rows(s: &[u8], slot: usize) -> Verdict
     if count < 1 {
         return refusals::unsound(Reason::CountOutOfRange, slot);
     }
-    if 1560 < count {
+    if geometry::DATA_SECTORS < count {
         return refusals::unsound(Reason::CountOutOfRange, slot);
     }
     let map = map_of(s);

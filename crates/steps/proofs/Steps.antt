@@ -1,11 +1,13 @@
 -- Laws of steps: a disk cut after k of their sectors is the disk after the first k of them, and what is seen of it is the last commit among those.
-use Prim.Native.Nat.{ℕ, zero, suc, _*_, _≤_, _<_}
+use Prim.Native.Nat.{ℕ, zero, suc, _+_, _*_, _≤_, _<_}
 use mathlib.Core.Path.{_≡_, refl, sym, ap, _∙_}
 use mathlib.Core.List.{List, [], _∷_, _++_}
-use mathlib.Core.Bool.{Bool, true, false}
+use mathlib.Core.Bool.{Bool, true, false, _||_, false≢true}
 use mathlib.Core.Logic.{_≢_, ⊎-elim}
 use mathlib.Core.Option.{Option, none, some}
 use native.Mathlib.Omega.{arith}
+use borrow.Author.Tests.{eqb-true}
+use lib.Dec.{eqb}
 use lib.ListN.{length, take, drop, length-append, take-append-drop}
 use lib.Seq.{take-nil, take-append-le, take-append-seam}
 use Rattle.buffers.specs.Bytes.{put}
@@ -22,17 +24,17 @@ putAll-long [] d = refl
 putAll-long (p ∷ ps) d = putAll-long ps (put d (p .place) (p .bytes)) ∙ length-put d (p .place) (p .bytes)
 
 -- what lies inside one sector leaves another as it was
-pub put-other : (n s : ℕ) (p : Put) (d : List ℕ) → Inside n s p → (t : ℕ) → t ≢ s → sector (put d (p .place) (p .bytes)) t ≡ sector d t
-put-other n s p d w t q =
+pub put-other : (s : ℕ) (p : Put) (d : List ℕ) → Inside s p → (t : ℕ) → t ≢ s → sector (put d (p .place) (p .bytes)) t ≡ sector d t
+put-other s p d w t q =
     ⊎-elim (λ (l : t < s). part-put-before d (p .place) (p .bytes) (t * 512) 512 (omega arith))
     (λ (l : s ≤ t).
     let m : s < t = omega arith in
     part-put-after d (p .place) (p .bytes) (t * 512) 512 (omega arith)) (below-or-not t s)
 
-pub putAll-other : (n s : ℕ) (ps : List Put) (d : List ℕ) → AllInside n s ps → (t : ℕ) → t ≢ s → sector (putAll d ps) t ≡ sector d t
+pub putAll-other : (s : ℕ) (ps : List Put) (d : List ℕ) → AllInside s ps → (t : ℕ) → t ≢ s → sector (putAll d ps) t ≡ sector d t
 unfolding putAll
-putAll-other n s [] d w t q = refl
-putAll-other n s (p ∷ ps) d w t q = putAll-other n s ps (put d (p .place) (p .bytes)) (w .1) t q ∙ put-other n s p d (w .0) t q
+putAll-other s [] d w t q = refl
+putAll-other s (p ∷ ps) d w t q = putAll-other s ps (put d (p .place) (p .bytes)) (w .1) t q ∙ put-other s p d (w .0) t q
 
 -- ---- steps
 
@@ -128,7 +130,18 @@ module _ {S : Type 0} (look : List ℕ → S) (Ok : S → Type 0) where
   goes-other [] d g s e = refl
   goes-other (st ∷ sts) d g s e =
       let c = listed-no s (st .at) (numbers sts) e in
-      goes-other sts (putAll d (st .puts)) (g .1) s (c .1) ∙ putAll-other (length d) (st .at) (st .puts) d (g .0 .inside) s (c .0)
+      goes-other sts (putAll d (st .puts)) (g .1) s (c .1) ∙ putAll-other (st .at) (st .puts) d (g .0 .inside) s (c .0)
+
+  -- a sector that is listed is one of the disk's
+  pub goes-there : (sts : List (Step S)) (d : List ℕ) → Goes look Ok d sts → (s : ℕ) → listed s (numbers sts) ≡ true → s * 512 + 512 ≤ length d
+  unfolding numbers
+  goes-there [] d g s e = absurd (false≢true e)
+  goes-there (st ∷ sts) d g s e = by (eqb s (st .at)) refl e (goes-there sts (putAll d (st .puts)) (g .1) s)
+    where
+      by : (t : Bool) → eqb s (st .at) ≡ t → (t || listed s (numbers sts)) ≡ true
+          → (listed s (numbers sts) ≡ true → s * 512 + 512 ≤ length (putAll d (st .puts))) → s * 512 + 512 ≤ length d
+      by true q w f = rw (eqb-true s (st .at) q) (g .0 .there)
+      by false q w f = rw putAll-long at (f w)
 
   -- what is seen is the last commit, else what was seen before; and it is accepted
   pub goes-look : (sts : List (Step S)) (d : List ℕ) → Goes look Ok d sts → look (enact d sts) ≡ lastOf (look d) (commits sts)

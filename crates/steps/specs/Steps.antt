@@ -22,15 +22,14 @@ pub record Step (S : Type 0) : Type 0 where
   pub puts : List Put
   pub left : Option S
 
--- the bytes lie inside sector s of an image of n bytes
-pub record Inside (n s : ℕ) (p : Put) : Type 0 where
+-- the bytes lie inside sector s
+pub record Inside (s : ℕ) (p : Put) : Type 0 where
   pub low : s * 512 ≤ p .place
   pub high : p .place + length (p .bytes) ≤ s * 512 + 512
-  pub fits : p .place + length (p .bytes) ≤ n
 
-abbrev pub AllInside : ℕ → ℕ → List Put → Type 0
-AllInside n s [] = Unit {0}
-AllInside n s (p ∷ ps) = Inside n s p × AllInside n s ps
+abbrev pub AllInside : ℕ → List Put → Type 0
+AllInside s [] = Unit {0}
+AllInside s (p ∷ ps) = Inside s p × AllInside s ps
 
 module _ {S : Type 0} where
   -- the disk after the steps
@@ -63,9 +62,11 @@ module _ {S : Type 0} where
   lastOf s (t ∷ ts) = lastOf t ts
 
 module _ {S : Type 0} (look : List ℕ → S) (Ok : S → Type 0) where
-  -- a step does to a disk what it says: its bytes lie in its sector, what is seen after it is what it left, and that is accepted
+  -- a step does to a disk what it says: its sector is one of the disk's, its bytes lie in it, what is seen after it is what it
+  -- left, and that is accepted
   pub record Does (d : List ℕ) (st : Step S) : Type 0 where
-    pub inside : AllInside (length d) (st .at) (st .puts)
+    pub there : st .at * 512 + 512 ≤ length d
+    pub inside : AllInside (st .at) (st .puts)
     pub sees : look (putAll d (st .puts)) ≡ orStay (look d) (st .left)
     pub ok : Ok (orStay (look d) (st .left))
 

@@ -3,23 +3,23 @@ use Prim.Native.Nat.{_-_, _≤_}
 use mathlib.Core.Path.{_≡_, sym, _∙_}
 use native.Mathlib.Omega.{arith}
 use Rattle.refusals.specs.Order.{sweepFrom}
-use Rattle.refusals.proofs.First.{sweep-skip, sweep-stop, sweep-end}
+use Rattle.refusals.proofs.First.{sweep-skip, sweep-stop}
 use Rattle.slots.specs.Name.{padded}
 use Rattle.slots.proofs.Names.{padded-whole}
 use Rattle.directory.specs.Places.{slots}
-use Rattle.directory.specs.Directory.{directory}
+use Rattle.directory.specs.Directory.{slotsRead, directory}
 use Rattle.directory.specs.Find.{hit, find}
 use Rattle.directory.proofs.Keys.{hit-named}
-use Rattle.directory.proofs.Search.{find-start, find-long}
+use Rattle.directory.proofs.Search.{find-start, find-rest, find-long}
 use borrow.Author.Needs.{needs}
 use Rattle.directory.proofs.find.Statement.{statement}
 use Rattle.directory.proofs.find.Tie as tie
 
 abbrev Inv-loop : tie.InvT-loop
-Inv-loop dir name filled i₀ i = (i ≤ slots) × (filled ≡ padded name) × (find (directory dir) name ≡ sweepFrom (slots - i) i (hit (directory dir) name))
+Inv-loop dir name filled end i₀ i = (i ≤ slotsRead dir) × (filled ≡ padded name) × (find (directory dir) name ≡ sweepFrom (slots - i) i (hit (directory dir) name))
 
 abbrev μ-loop : tie.MeasureT-loop
-μ-loop dir name filled i₀ i = slots - i
+μ-loop dir name filled end i₀ i = end - i
 
 returns : tie.Need-returns Inv-loop μ-loop
 returns c = find-long _ _ (c .if1 .taken)
@@ -27,8 +27,11 @@ returns c = find-long _ _ (c .if1 .taken)
 padded-name-requires : tie.Need-padded-name-requires Inv-loop μ-loop
 padded-name-requires c κs = search needs
 
+slots-read-requires : tie.Need-slots-read-requires Inv-loop μ-loop
+slots-read-requires c κs = search needs
+
 loop-holds : tie.Need-loop-holds Inv-loop μ-loop
-loop-holds c = (omega arith, c .padded-name .ensures ∙ padded-whole _ (c .before .if1 .left), find-start _ _)
+loop-holds c = (omega arith, c .before .padded-name .ensures ∙ padded-whole _ (c .before .before .if1 .left), find-start _ _)
 
 add-i : tie.Need-add-i Inv-loop μ-loop
 add-i c = search needs
@@ -43,7 +46,7 @@ returns-2 : tie.Need-returns-2 Inv-loop μ-loop
 returns-2 c =
     let l = c .before .before .before in
     let a = l .before .loop in
-    sym (a .inv .2 ∙ sweep-stop slots (a .i) _ (a .i) (l .loop-test .taken) (hit-named _ _ (a .i) _ (a .inv .1) (sym (c .before .is-named .ensures) ∙ c .if2 .taken)))
+    sym (a .inv .2 ∙ sweep-stop slots (a .i) _ (a .i) (omega arith) (hit-named _ _ (a .i) _ (a .inv .1) (sym (c .before .is-named .ensures) ∙ c .if2 .taken)))
 
 loop-less : tie.Need-loop-less Inv-loop μ-loop
 loop-less c = search needs
@@ -52,10 +55,10 @@ loop-again : tie.Need-loop-again Inv-loop μ-loop
 loop-again c =
     let l = c .before .before .before in
     let a = l .before .loop in
-    (omega arith, a .inv .1, a .inv .2 ∙ sweep-skip slots (a .i) _ (l .loop-test .taken) (hit-named _ _ (a .i) _ (a .inv .1) (sym (c .before .is-named .ensures) ∙ c .if2 .left)))
+    (omega arith, a .inv .1, a .inv .2 ∙ sweep-skip slots (a .i) _ (omega arith) (hit-named _ _ (a .i) _ (a .inv .1) (sym (c .before .is-named .ensures) ∙ c .if2 .left)))
 
 returns-3 : tie.Need-returns-3 Inv-loop μ-loop
-returns-3 c = let a = c .before .loop in sym (a .inv .2 ∙ sweep-end (slots - a .i) (a .i) _ (omega arith))
+returns-3 c = let a = c .before .loop in sym (a .inv .2 ∙ find-rest _ _ (a .i) (omega arith))
 
 pub find-spec : {M : Type 1} → statement M
 find-spec =
@@ -65,6 +68,7 @@ find-spec =
     μ-loop
     returns
     padded-name-requires
+    slots-read-requires
     loop-holds
     add-i
     slice-aggregate-is-named

@@ -21,11 +21,18 @@ returns : tie.Need-returns
 returns c =
     let l = c .before .before in
     let s = l .before .before in
-    named-live _ _ _ _ (met-live _ _ (s .slot-at .ensures) (l .before .is-live .ensures) (l .if1 .taken)) (c .before .name-of .ensures) (c .same-name .ensures)
+    named-live _ _ _ _ (met-live _ _ (s .slot-at .ensures) (l .before .is-live .ensures) (s .before .before .before .pre) (l .if1 .taken)) (c .before .name-of .ensures) (c .same-name .ensures)
 
 returns-2 : tie.Need-returns-2
 returns-2 c = named-dead _ _ _ (met-dead _ _ (c .before .before .slot-at .ensures) (c .before .is-live .ensures) (c .if1 .left))
 
 pub is-named-spec : {M : Type 1} → statement M
 is-named-spec =
-    tie.close (tie.spec slot-at-requires is-live-requires name-of-requires same-name-requires returns returns-2)
+    tie.close
+    (tie.spec
+    slot-at-requires
+    is-live-requires
+    name-of-requires
+    same-name-requires
+    returns
+    returns-2)

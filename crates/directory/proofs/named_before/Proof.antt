@@ -32,7 +32,7 @@ mul-if1 : tie.Need-mul-if1 Inv-loop μ-loop
 mul-if1 c = search needs
 
 shared-slice-read-if1 : tie.Need-shared-slice-read-if1 Inv-loop μ-loop
-shared-slice-read-if1 c = omega (arith, c .before .before .before .before .before .before .before .pre .room)
+shared-slice-read-if1 c = omega (arith, c .before .before .before .before .before .before .before .pre .1 .room)
 
 is-named-requires : tie.Need-is-named-requires Inv-loop μ-loop
 is-named-requires c κs = search needs
@@ -56,7 +56,7 @@ loop-less-2 c = search needs
 loop-again-2 : tie.Need-loop-again-2 Inv-loop μ-loop
 loop-again-2 c =
     let l = c .before .before .before in
-    (omega arith, not-named _ _ (l .loop .j) (key-other _ _ (l .loop .j) _ _ (l .before .before .before .before .before .pre) (c .before .before .loop-test .taken) _ (l .before .key-of .ensures) (c .if1 .left)) (l .loop .inv .1))
+    (omega arith, not-named _ _ (l .loop .j) (key-other _ _ (l .loop .j) _ _ (l .before .before .before .before .before .pre .1) (c .before .before .loop-test .taken) _ (l .before .key-of .ensures) (c .if1 .left)) (l .loop .inv .1))
 
 returns-2 : tie.Need-returns-2 Inv-loop μ-loop
 returns-2 c =

@@ -6,7 +6,7 @@ use Rattle.refusals.specs.Order.{sweepFrom}
 use Rattle.refusals.specs.Answers.{replyOf}
 use Rattle.refusals.proofs.First.{sweep-skip}
 use Rattle.directory.specs.Places.{slots}
-use Rattle.directory.specs.Directory.{directory}
+use Rattle.directory.specs.Directory.{slotsRead, directory}
 use Rattle.directory.specs.Survey.{surveyAt, survey, union, counted}
 use Rattle.directory.proofs.Live.{met-live, met-dead}
 use Rattle.directory.proofs.Keys.{Noted, noted-none, noted-few, noted-dead, noted-live}
@@ -16,11 +16,14 @@ use Rattle.directory.proofs.survey_slots.Statement.{statement}
 use Rattle.directory.proofs.survey_slots.Tie as tie
 
 abbrev Inv-loop : tie.InvT-loop
-Inv-loop dir used₀ keys₀ files₀ i₀ used keys files i =
-    (i ≤ slots) × (used ≡ counted (union (directory dir) i)) × (survey 0 (directory dir) ≡ sweepFrom (slots - i) i (surveyAt 0 (directory dir))) × Noted dir i keys files
+Inv-loop dir end used₀ keys₀ files₀ i₀ used keys files i =
+    (i ≤ slotsRead dir) × (used ≡ counted (union (directory dir) i)) × (survey 0 (directory dir) ≡ sweepFrom (slots - i) i (surveyAt 0 (directory dir))) × Noted dir i keys files
 
 abbrev μ-loop : tie.MeasureT-loop
-μ-loop dir used₀ keys₀ files₀ i₀ used keys files i = slots - i
+μ-loop dir end used₀ keys₀ files₀ i₀ used keys files i = end - i
+
+slots-read-requires : tie.Need-slots-read-requires Inv-loop μ-loop
+slots-read-requires c κs = search needs
 
 unused-requires : tie.Need-unused-requires Inv-loop μ-loop
 unused-requires c κs = search needs
@@ -44,19 +47,20 @@ live-rows-requires : tie.Need-live-rows-requires Inv-loop μ-loop
 live-rows-requires c κs =
     let y = c .before .before .before .before in
     let a = y .before .before .before .before .loop in
-    reached _ (a .i) _ (a .inv .1) _ (met-live _ _ (y .before .before .slot-at .ensures) (y .before .is-live .ensures) (y .if1 .taken)) (omega arith) (a .inv .3 .keyed)
+    reached _ (a .i) _ (a .inv .1) _ (met-live _ _ (y .before .before .slot-at .ensures) (y .before .is-live .ensures) (omega arith) (y .if1 .taken)) (omega arith) (a .inv .3 .keyed)
 
 enum-known-f : tie.Need-enum-known-f Inv-loop μ-loop
 enum-known-f c = search needs
 
-unused-requires-2 : tie.Need-unused-requires-2 Inv-loop μ-loop
-unused-requires-2 c κs = search needs
+refused-requires : tie.Need-refused-requires Inv-loop μ-loop
+refused-requires c κs = search needs
 
 returns : tie.Need-returns Inv-loop μ-loop
 returns c =
     let f = c .before .before in
-    let a = f .before .before .before .before .before .before .before .before .before .before .before .loop in
-    pass-stops _ _ (a .i) (a .inv .2) _ (omega arith) refl (ap replyOf (sym (f .f .given .1)) ∙ f .before .before .live-rows .ensures) (c .unused2 .ensures) refl
+    let l = f .before .before .before .before .before .before .before .before .before .before in
+    let a = l .before .loop in
+    pass-stops _ _ (a .i) (a .inv .2) _ (omega (arith, l .before .before .before .slots-read .ensures .0)) (ap replyOf (sym (f .f .given .1)) ∙ f .before .before .live-rows .ensures) (c .refused .ensures)
 
 enum-told : tie.Need-enum-told Inv-loop μ-loop
 enum-told c = search needs
@@ -89,7 +93,7 @@ joined-requires c κs =
     let t = c .before .before .before .before in
     let y = t .before .before .before .before .before .before .before in
     let a = y .before .before .before .before .loop in
-    apart _ (a .i) _ (a .inv .1) _ (met-live _ _ (y .before .before .slot-at .ensures) (y .before .is-live .ensures) (y .if1 .taken)) (c .before .map-of .ensures) (c .count-of .ensures .0) (sym (ap replyOf (sym (t .enum-told .given .1)) ∙ t .before .before .live-rows .ensures))
+    apart _ (a .i) _ (a .inv .1) _ (met-live _ _ (y .before .before .slot-at .ensures) (y .before .is-live .ensures) (omega arith) (y .if1 .taken)) (c .before .map-of .ensures) (c .count-of .ensures .0) (sym (ap replyOf (sym (t .enum-told .given .1)) ∙ t .before .before .live-rows .ensures))
 
 loop-less : tie.Need-loop-less Inv-loop μ-loop
 loop-less c = search needs
@@ -99,7 +103,7 @@ loop-again c =
     let t = c .before .before .before .before .before in
     let y = t .before .before .before .before .before .before .before in
     let a = y .before .before .before .before .loop in
-    let e = met-live _ _ (y .before .before .slot-at .ensures) (y .before .is-live .ensures) (y .if1 .taken) in (
+    let e = met-live _ _ (y .before .before .slot-at .ensures) (y .before .is-live .ensures) (omega arith) (y .if1 .taken) in (
       omega arith,
       used-more _ (a .i) _ (a .inv .1) _ e (c .before .before .map-of .ensures) _ (c .joined .ensures),
       a .inv .2 ∙ sweep-skip slots (a .i) _ (omega arith) (sym (ap replyOf (sym (t .enum-told .given .1)) ∙ t .before .before .live-rows .ensures)),
@@ -117,7 +121,7 @@ loop-again-2 c =
     (omega arith, used-dead _ (a .i) _ (a .inv .1) e, a .inv .2 ∙ sweep-skip slots (a .i) _ (omega arith) (survey-dead 0 _ (a .i) e), noted-dead _ _ _ _ (a .inv .3) (omega arith) e)
 
 returns-2 : tie.Need-returns-2 Inv-loop μ-loop
-returns-2 c = let a = c .before .loop in pass-ends _ _ (a .i) (a .inv .2) (c .loop-test .left) (a .inv .0) refl (a .inv .1) (a .inv .3 .live)
+returns-2 c = let a = c .before .loop in pass-ends _ _ (a .i) (a .inv .2) (omega arith) (omega arith) refl (a .inv .1) (a .inv .3 .live)
 
 pub survey-slots-spec : {M : Type 1} → statement M
 survey-slots-spec =
@@ -125,6 +129,7 @@ survey-slots-spec =
     (tie.spec
     Inv-loop
     μ-loop
+    slots-read-requires
     unused-requires
     loop-holds
     slot-at-requires
@@ -133,7 +138,7 @@ survey-slots-spec =
     slice-aggregate-live-rows
     live-rows-requires
     enum-known-f
-    unused-requires-2
+    refused-requires
     returns
     enum-told
     name-of-requires
