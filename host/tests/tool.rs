@@ -7,6 +7,8 @@ mod flushes;
 mod input;
 #[path = "tool/lock.rs"]
 mod lock;
+#[path = "tool/lost.rs"]
+mod lost;
 #[path = "tool/map.rs"]
 mod map;
 #[path = "tool/names.rs"]

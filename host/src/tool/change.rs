@@ -18,12 +18,13 @@ pub fn perform<'a>(given: &Given, done: &str, what: &str, change: impl FnOnce() 
         let numbers = change().and_then(|change| disk.try_change(&change)).map_err(refused)?;
         return output::print(planned(&numbers));
     }
-    let (mut file, mut disk) = source::changing(given)?;
+    let (mut held, mut disk) = source::changing(given)?;
     let change = change().map_err(refused)?;
     let mut sectors = disk.change(&change).map_err(refused)?;
     let mut progress = Progress::new();
-    let written = sectors.write_to(&mut file, |written, of| progress.step(written, of));
+    let written = sectors.write_to(&mut held, |written, of| progress.step(written, of));
     drop(progress);
+    held.still_whole().map_err(|lost| Failure::io(given.word(0), lost))?;
     written.map_err(|error| Failure::Write(output::shown(given.word(0)), error))?;
     output::confirm(&format!(
         "{done} {what}: {} written",

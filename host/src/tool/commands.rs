@@ -94,7 +94,8 @@ begins with `-` write `--`.";
 /// What is said of every change.
 const SAFE: &str = "The sectors are written in the order that keeps the disk sound, each flushed
 to the disk before the next: cut short anywhere, IMAGE holds the old disk
-until the last one is written. IMAGE is locked meanwhile.";
+until the last one is written. IMAGE is locked meanwhile; where it is removed,
+replaced or cut short all the same, the change fails (status 3).";
 
 /// What is said of IMAGE where it is only read.
 const PIPE: &str = "IMAGE may be a pipe, read to its end: one that nobody writes to is waited for.";

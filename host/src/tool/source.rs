@@ -2,10 +2,11 @@
 use super::failure::Failure;
 use super::output::shown;
 use super::words::Given;
-use std::ffi::OsStr;
-use std::fs::{File, TryLockError};
+use std::ffi::{OsStr, OsString};
+use std::fs::{self, File, TryLockError};
 use std::io::{self, ErrorKind, Read, Write};
-use varnucht::{Disk, IMAGE_LENGTH, Image};
+use std::os::unix::fs::MetadataExt;
+use varnucht::{Disk, IMAGE_LENGTH, Image, SECTOR_LENGTH, SectorNumber, Store};
 
 /// The image in the file at the first place. The file is locked while it is read, so that no change of another program
 /// comes in between.
@@ -25,13 +26,72 @@ pub fn disk(given: &Given) -> Result<Disk, Failure> {
     Disk::open(image(given)?).map_err(|unsound| Failure::unsound(given.word(0), unsound))
 }
 
-/// The disk in the file at the first place, to be changed. The file is locked for this process alone as long as it is open.
-pub fn changing(given: &Given) -> Result<(File, Disk), Failure> {
+/// The disk in the file at the first place, to be changed. The file is locked for this process alone as long as it is held.
+pub fn changing(given: &Given) -> Result<(Held, Disk), Failure> {
     let path = given.word(0);
-    let mut file = open_to_change(path).map_err(|error| Failure::io(path, error))?;
-    lock(&file, given, true)?;
-    let disk = Disk::open(read(&mut file, path)?).map_err(|unsound| Failure::unsound(path, unsound))?;
-    Ok((file, disk))
+    let failed = |error| Failure::io(path, error);
+    let mut held = Held {
+        file: open_to_change(path).map_err(failed)?,
+        path: path.into(),
+    };
+    let whole = held.length().map_err(failed)? == WHOLE;
+    lock(&held.file, given, true)?;
+    let image = read(&mut held.file, path);
+    // A file that was no image from the start is refused as one.
+    if whole { held.still_whole() } else { held.still_there() }.map_err(failed)?;
+    let disk = Disk::open(image?).map_err(|unsound| Failure::unsound(path, unsound))?;
+    Ok((held, disk))
+}
+
+/// An image's file, open and locked to be changed, and the path that led to it.
+pub struct Held {
+    file: File,
+    path: OsString,
+}
+
+impl Held {
+    /// Whether the path still leads to this file, and the file has an image's length: else what is written to it is lost.
+    pub fn still_whole(&self) -> io::Result<()> {
+        self.still_there()?;
+        match self.length()? {
+            WHOLE => Ok(()),
+            length => Err(io::Error::other(format!("it has {length} bytes now{NOT_SAVED}"))),
+        }
+    }
+
+    /// Whether the path still leads to this file.
+    fn still_there(&self) -> io::Result<()> {
+        let place = |found: fs::Metadata| (found.dev(), found.ino());
+        match fs::metadata(&self.path).map(place) {
+            Ok(found) if found == place(self.file.metadata()?) => Ok(()),
+            Ok(_) => Err(io::Error::other(format!(
+                "another file has taken its place meanwhile{NOT_SAVED}"
+            ))),
+            Err(error) if error.kind() == ErrorKind::NotFound => {
+                Err(io::Error::other(format!("it was removed meanwhile{NOT_SAVED}")))
+            }
+            Err(error) => Err(error),
+        }
+    }
+
+    /// How many bytes the file has.
+    fn length(&self) -> io::Result<u64> {
+        Ok(self.file.metadata()?.len())
+    }
+}
+
+/// An image's length, as files give theirs.
+const WHOLE: u64 = IMAGE_LENGTH as u64;
+
+/// What follows when the file is not there as it was.
+const NOT_SAVED: &str = ": the change is not saved";
+
+/// Each sector is written where the file is still there as it was. That is asked again when all are written.
+impl Store for Held {
+    fn write_sector(&mut self, number: SectorNumber, bytes: &[u8; SECTOR_LENGTH]) -> io::Result<()> {
+        self.still_whole()?;
+        self.file.write_sector(number, bytes)
+    }
 }
 
 /// Opens a file for reading and writing. A pipe or a terminal holds no disk, and reading it could wait for ever.
