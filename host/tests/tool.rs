@@ -9,6 +9,8 @@ mod input;
 mod lock;
 #[path = "tool/lost.rs"]
 mod lost;
+#[path = "tool/making.rs"]
+mod making;
 #[path = "tool/map.rs"]
 mod map;
 #[path = "tool/names.rs"]

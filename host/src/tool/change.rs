@@ -3,6 +3,7 @@ use super::failure::{Failure, Outcome};
 use super::output::{self, counted};
 use super::progress::Progress;
 use super::source;
+use super::system::Hold;
 use super::values::AskedName;
 use super::words::Given;
 use varnucht::{Change, Name, NewName, Refused, SectorNumber};
@@ -21,11 +22,11 @@ pub fn perform<'a>(given: &Given, done: &str, what: &str, change: impl FnOnce() 
     let (mut held, mut disk) = source::changing(given)?;
     let change = change().map_err(refused)?;
     let mut sectors = disk.change(&change).map_err(refused)?;
-    let mut progress = Progress::new();
+    let (hold, mut progress) = (Hold::new(), Progress::new());
     let written = sectors.write_to(&mut held, |written, of| progress.step(written, of));
-    drop(progress);
+    drop((hold, progress));
     held.still_whole().map_err(|lost| Failure::io(given.word(0), lost))?;
-    written.map_err(|error| Failure::Write(output::shown(given.word(0)), error))?;
+    written.map_err(|error| Failure::write(given.word(0), error))?;
     output::confirm(&format!(
         "{done} {what}: {} written",
         counted(sectors.numbers().len(), "sector")

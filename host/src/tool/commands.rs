@@ -69,7 +69,11 @@ const OUTPUT: Choice = valued(
     "FILE",
     "write the body to FILE and not to standard output",
 );
-const FORCE: Choice = flag(&["--force"], "let FILE take the place of an older one");
+const FORCE: Choice = flag(
+    &["--force"],
+    "let FILE take the place of an older one, with its
+permissions; other hard links keep the older bytes",
+);
 const KIND: Choice = valued(
     &["--kind"],
     "KIND",
@@ -96,6 +100,10 @@ const SAFE: &str = "The sectors are written in the order that keeps the disk sou
 to the disk before the next: cut short anywhere, IMAGE holds the old disk
 until the last one is written. IMAGE is locked meanwhile; where it is removed,
 replaced or cut short all the same, the change fails (status 3).";
+
+/// What is said of files that are made.
+const WHOLE: &str = "FILE gets its name when it is whole: a failure or a signal leaves an older one
+as it was. Setuid, setgid and sticky are not kept.";
 
 /// What is said of IMAGE where it is only read.
 const PIPE: &str = "IMAGE may be a pipe, read to its end: one that nobody writes to is waited for.";
@@ -157,7 +165,7 @@ second. Each file has a sign, and the signs are named below.",
         places: &["IMAGE", "NAME"],
         options: &[&OUTPUT, &FORCE, &NO_WAIT],
         brief: "give a file's body",
-        more: &[PIPE, NAMES],
+        more: &[WHOLE, PIPE, NAMES],
         run: read::run,
     },
     Command {

@@ -1,7 +1,7 @@
 //! What a command could not do: its words and its exit status.
 use super::output::shown;
 use std::ffi::OsStr;
-use std::io;
+use std::io::{self, ErrorKind};
 use varnucht::{Refused, WriteError};
 
 /// What a command gives back.
@@ -41,6 +41,20 @@ impl Failure {
     /// This file could not be read or written.
     pub fn io(path: &OsStr, error: io::Error) -> Failure {
         Failure::Io(shown(path), error)
+    }
+
+    /// The sectors of a change could not all be written to this file. A signal stops between two of them: then the next was not
+    /// tried, even the last.
+    pub fn write(path: &OsStr, error: WriteError) -> Failure {
+        match error {
+            WriteError::Stopped { written, of, error } if error.kind() == ErrorKind::Interrupted => {
+                let words = format!(
+                    "{written} of {of} sectors were written when {error}. The old disk is still there and reads as before."
+                );
+                Failure::io(path, io::Error::other(words))
+            }
+            error => Failure::Write(shown(path), error),
+        }
     }
 
     /// The exit status.

@@ -27,6 +27,11 @@ pub fn confirm(words: &str) {
     let _ = print(format!("{words}\n"));
 }
 
+/// Says something on standard error. Nothing can be done where that is closed.
+pub fn say(words: &str) {
+    let _ = writeln!(io::stderr(), "varnucht: {words}");
+}
+
 /// So many of something.
 pub fn counted(many: usize, one: &str) -> String {
     if many == 1 {

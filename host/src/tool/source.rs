@@ -1,10 +1,11 @@
 //! Image files: opened, locked and read.
 use super::failure::Failure;
-use super::output::shown;
+use super::output;
+use super::system;
 use super::words::Given;
 use std::ffi::{OsStr, OsString};
 use std::fs::{self, File, TryLockError};
-use std::io::{self, ErrorKind, Read, Write};
+use std::io::{self, ErrorKind, Read};
 use std::os::unix::fs::MetadataExt;
 use varnucht::{Disk, IMAGE_LENGTH, Image, SECTOR_LENGTH, SectorNumber, Store};
 
@@ -86,9 +87,11 @@ const WHOLE: u64 = IMAGE_LENGTH as u64;
 /// What follows when the file is not there as it was.
 const NOT_SAVED: &str = ": the change is not saved";
 
-/// Each sector is written where the file is still there as it was. That is asked again when all are written.
+/// A sector is written where the file is still there as it was, and no signal came. The file is asked for again when all are
+/// written.
 impl Store for Held {
     fn write_sector(&mut self, number: SectorNumber, bytes: &[u8; SECTOR_LENGTH]) -> io::Result<()> {
+        system::came()?;
         self.still_whole()?;
         self.file.write_sector(number, bytes)
     }
@@ -115,11 +118,10 @@ fn lock(file: &File, given: &Given, alone: bool) -> Result<(), Failure> {
             io::Error::new(ErrorKind::WouldBlock, "another program has locked it"),
         )),
         Err(TryLockError::WouldBlock) => {
-            let _ = writeln!(
-                io::stderr(),
-                "varnucht: {}: waiting for another program that has locked it",
-                shown(path)
-            );
+            output::say(&format!(
+                "{}: waiting for another program that has locked it",
+                output::shown(path)
+            ));
             let waited = if alone { file.lock() } else { file.lock_shared() };
             waited.map_err(|error| Failure::io(path, error))
         }

@@ -23,12 +23,12 @@ const DEEDS: [(&str, &str); 6] = [
     ("echo >> disk.mgt", "disk.mgt: it has 819201 bytes now"),
 ];
 
-/// A folder with an image, another one, and a body that takes 40 sectors.
+/// A folder with an image, another one, and a body that takes four sectors.
 fn scene() -> Folder {
     let folder = Folder::new();
     folder.image(&disk(&[("ONE", 10), ("TWO", 600)]));
     folder.file("other.mgt", disk(&[("OTHER", 3_000)]).image().as_bytes());
-    folder.file("body", &body(20_000));
+    folder.file("body", &body(2_000));
     folder
 }
 
@@ -96,13 +96,13 @@ fn meddled(folder: &Folder, library: &Path, at: &str, deed: &str) -> Run {
     Run::of(command.output().expect("the tool runs"))
 }
 
-/// Before the first sector, between two, and after the last of the 41.
+/// Before the first sector, between two, and after the last of the five.
 #[test]
 fn while_it_writes() {
     let made = Folder::new();
     let library = library(&made, "meddle.c");
     for at in [
-        "lock 1", "read 1", "write 1", "flush 1", "write 20", "flush 40", "write 41", "flush 41",
+        "lock 1", "read 1", "write 1", "flush 1", "write 3", "flush 4", "write 5", "flush 5",
     ] {
         for (deed, said) in DEEDS {
             let folder = scene();
@@ -114,7 +114,7 @@ fn while_it_writes() {
         }
         let folder = scene();
         let run = meddled(&folder, &library, at, "true");
-        assert_eq!(run.done(), "saved NEW: 41 sectors written\n", "{at}");
+        assert_eq!(run.done(), "saved NEW: 5 sectors written\n", "{at}");
     }
 }
 
@@ -123,10 +123,10 @@ fn while_it_writes() {
 fn a_cut_that_the_writing_hides() {
     let folder = scene();
     let library = library(&folder, "meddle.c");
-    let full = disk(&[("LONG", LONGEST_BODY - 40 * 510)]);
+    let full = disk(&[("LONG", LONGEST_BODY - 4 * 510)]);
     folder.image(&full);
-    assert_eq!(full.listing().free(), 40);
-    for at in ["flush 1", "flush 39"] {
+    assert_eq!(full.listing().free(), 4);
+    for at in ["flush 1", "flush 3"] {
         let run = meddled(&folder, &library, at, ": > disk.mgt");
         run.fails(3, "disk.mgt: it has 0 bytes now");
         assert_eq!(
