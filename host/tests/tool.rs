@@ -15,6 +15,8 @@ mod making;
 mod map;
 #[path = "tool/names.rs"]
 mod names;
+#[path = "tool/standard.rs"]
+mod standard;
 #[path = "tool/support.rs"]
 mod support;
 #[path = "tool/terminal.rs"]

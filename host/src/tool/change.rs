@@ -19,6 +19,7 @@ pub fn perform<'a>(given: &Given, done: &str, what: &str, change: impl FnOnce() 
         let numbers = change().and_then(|change| disk.try_change(&change)).map_err(refused)?;
         return output::print(planned(&numbers));
     }
+    source::not_standard(given)?;
     let (mut held, mut disk) = source::changing(given)?;
     let change = change().map_err(refused)?;
     let mut sectors = disk.change(&change).map_err(refused)?;

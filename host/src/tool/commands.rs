@@ -56,7 +56,8 @@ const NO_WAIT: Choice = flag(
 const DRY_RUN: Choice = flag(
     &["--dry-run"],
     "print the sectors that would be written, in their
-order, and write nothing",
+order, and write nothing; then IMAGE may be `-`,
+standard input",
 );
 const COLOR: Choice = valued(
     &["--color"],
@@ -106,7 +107,8 @@ const WHOLE: &str = "FILE gets its name when it is whole: a failure or a signal 
 as it was. Setuid, setgid and sticky are not kept.";
 
 /// What is said of IMAGE where it is only read.
-const PIPE: &str = "IMAGE may be a pipe, read to its end: one that nobody writes to is waited for.";
+const PIPE: &str = "IMAGE may be a pipe, read to its end: one that nobody writes to is waited for.
+`-` is standard input.";
 
 /// What is said of a save.
 const START: &str = "The usual start, page 1 and offset 32768, is address 32768.";

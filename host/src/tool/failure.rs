@@ -1,5 +1,5 @@
 //! What a command could not do: its words and its exit status.
-use super::output::shown;
+use super::output::shown_file;
 use std::ffi::OsStr;
 use std::io::{self, ErrorKind};
 use varnucht::{Refused, WriteError};
@@ -25,12 +25,12 @@ pub enum Failure {
 impl Failure {
     /// The library refused the disk in this file.
     pub fn unsound(path: &OsStr, refused: impl Into<Refused>) -> Failure {
-        Failure::Refused(shown(path), refused.into())
+        Failure::Refused(shown_file(path), refused.into())
     }
 
     /// The library refused a request on the disk in this file; `what` says on which of its files.
     pub fn refused(path: &OsStr, what: &str, refused: Refused) -> Failure {
-        Failure::Refused(format!("{}: {what}", shown(path)), refused)
+        Failure::Refused(format!("{}: {what}", shown_file(path)), refused)
     }
 
     /// The command line was not understood.
@@ -40,7 +40,7 @@ impl Failure {
 
     /// This file could not be read or written.
     pub fn io(path: &OsStr, error: io::Error) -> Failure {
-        Failure::Io(shown(path), error)
+        Failure::Io(shown_file(path), error)
     }
 
     /// The sectors of a change could not all be written to this file. A signal stops between two of them: then the next was not
@@ -53,7 +53,7 @@ impl Failure {
                 );
                 Failure::io(path, io::Error::other(words))
             }
-            error => Failure::Write(shown(path), error),
+            error => Failure::Write(shown_file(path), error),
         }
     }
 

@@ -2,7 +2,7 @@
 use super::failure::{Failure, Outcome};
 use super::make::make;
 use super::output;
-use super::source;
+use super::source::{self, STANDARD};
 use super::values::AskedName;
 use super::words::Given;
 use std::ffi::OsStr;
@@ -28,10 +28,11 @@ pub fn run(given: &Given) -> Outcome {
     }
 }
 
-/// Whether two paths lead to one file.
-fn same(one: &OsStr, other: &OsStr) -> bool {
-    match (fs::canonicalize(one), fs::canonicalize(other)) {
-        (Ok(one), Ok(other)) => one == other,
+/// Whether a file's path and an image's lead to one file.
+fn same(file: &OsStr, image: &OsStr) -> bool {
+    let image = if image == STANDARD { "/dev/stdin".as_ref() } else { image };
+    match (fs::canonicalize(file), fs::canonicalize(image)) {
+        (Ok(file), Ok(image)) => file == image,
         _ => false,
     }
 }

@@ -1,11 +1,12 @@
 //! Image files: opened, locked and read.
-use super::failure::Failure;
+use super::failure::{Failure, Outcome};
 use super::output;
 use super::system;
 use super::words::Given;
 use std::ffi::{OsStr, OsString};
 use std::fs::{self, File, TryLockError};
 use std::io::{self, ErrorKind, Read};
+use std::mem::ManuallyDrop;
 use std::os::unix::fs::MetadataExt;
 use varnucht::{Disk, IMAGE_LENGTH, Image, SECTOR_LENGTH, SectorNumber, Store};
 
@@ -13,13 +14,41 @@ use varnucht::{Disk, IMAGE_LENGTH, Image, SECTOR_LENGTH, SectorNumber, Store};
 /// comes in between.
 pub fn image(given: &Given) -> Result<Image, Failure> {
     let path = given.word(0);
-    let mut file = File::open(path).map_err(|error| Failure::io(path, error))?;
-    match lock(&file, given, false) {
-        // What cannot be locked can be read all the same.
-        Err(Failure::Io(_, error)) if error.kind() != ErrorKind::WouldBlock => {}
-        locked => locked?,
+    if path == STANDARD {
+        // A lock on standard input would be that of whoever opened it, so the file is opened anew for the lock.
+        let anew = File::open("/dev/stdin");
+        if let Ok(file) = &anew {
+            share(file, given)?;
+        }
+        return read(&mut *standard_input()?, path);
     }
+    let mut file = File::open(path).map_err(|error| Failure::io(path, error))?;
+    share(&file, given)?;
     read(&mut file, path)
+}
+
+/// Locks a file that is read. What cannot be locked can be read all the same.
+fn share(file: &File, given: &Given) -> Outcome {
+    match lock(file, given, false) {
+        Err(Failure::Io(_, error)) if error.kind() != ErrorKind::WouldBlock => Ok(()),
+        locked => locked,
+    }
+}
+
+/// Stands for standard input in the place of a file.
+pub const STANDARD: &str = "-";
+
+/// Standard input.
+pub fn standard_input() -> Result<ManuallyDrop<File>, Failure> {
+    system::standard(system::INPUT).map_err(|error| Failure::io(STANDARD.as_ref(), error))
+}
+
+/// Fails where the image is standard input and the command writes to it.
+pub fn not_standard(given: &Given) -> Outcome {
+    match given.word(0) == STANDARD {
+        true => Err(given.usage("IMAGE is written to, and `-` is standard input: write `./-` for a file of that name")),
+        false => Ok(()),
+    }
 }
 
 /// The disk in the file at the first place.
@@ -120,7 +149,7 @@ fn lock(file: &File, given: &Given, alone: bool) -> Result<(), Failure> {
         Err(TryLockError::WouldBlock) => {
             output::say(&format!(
                 "{}: waiting for another program that has locked it",
-                output::shown(path)
+                output::shown_file(path)
             ));
             let waited = if alone { file.lock() } else { file.lock_shared() };
             waited.map_err(|error| Failure::io(path, error))

@@ -1,12 +1,54 @@
 //! What the tool asks of the system itself. All its unsafe code stands in this file. Linux alone.
 use std::ffi::c_int;
+use std::fs::File;
 use std::io::{self, ErrorKind};
-use std::sync::atomic::{AtomicI32, Ordering};
+use std::mem::ManuallyDrop;
+use std::os::fd::FromRawFd;
+use std::sync::atomic::{AtomicBool, AtomicI32, Ordering};
 
 unsafe extern "C" {
+    fn fcntl(file: c_int, command: c_int, ...) -> c_int;
+    fn socket(family: c_int, kind: c_int, protocol: c_int) -> c_int;
     fn umask(mask: u32) -> u32;
     fn signal(number: c_int, action: usize) -> usize;
     fn raise(number: c_int) -> c_int;
+}
+
+/// Whether standard input and standard output were closed when the tool was started.
+static CLOSED: [AtomicBool; 2] = [AtomicBool::new(false), AtomicBool::new(false)];
+
+/// The system calls this before the standard library begins.
+#[used]
+#[unsafe(link_section = ".init_array")]
+static EARLY: extern "C" fn() = early;
+
+/// Notes which standard files are closed. The standard library would open the null device in their place, which takes all and
+/// gives nothing: what is lost would look well. A socket that leads nowhere takes their place, so that `/dev/stdin` and
+/// `/dev/stdout` fail too.
+extern "C" fn early() {
+    for (file, closed) in (0..).zip(&CLOSED) {
+        // SAFETY: the first asks for the marks of a file, by a number alone; the second makes a new file, with the lowest number
+        // that is free, and that is this one.
+        unsafe {
+            if fcntl(file, 1) < 0 {
+                closed.store(true, Ordering::Relaxed);
+                socket(1, 1, 0);
+            }
+        }
+    }
+}
+
+/// The numbers of standard input and standard output.
+pub const INPUT: usize = 0;
+pub const OUTPUT: usize = 1;
+
+/// A standard file by its number. Unlike the standard library's own it hides no error.
+pub fn standard(number: usize) -> io::Result<ManuallyDrop<File>> {
+    match CLOSED[number].load(Ordering::Relaxed) {
+        true => Err(io::Error::other("it is closed")),
+        // SAFETY: the file is open as long as the tool runs, because nothing closes it; neither does this.
+        false => Ok(ManuallyDrop::new(unsafe { File::from_raw_fd(number as c_int) })),
+    }
 }
 
 /// The rights that a new file has: all may read and write it but those whom the process's mask keeps out.
