@@ -13,6 +13,8 @@ mod lost;
 mod making;
 #[path = "tool/map.rs"]
 mod map;
+#[path = "tool/messages.rs"]
+mod messages;
 #[path = "tool/names.rs"]
 mod names;
 #[path = "tool/standard.rs"]

@@ -9,6 +9,7 @@ mod colour;
 mod commands;
 mod dump;
 mod failure;
+mod forms;
 mod help;
 mod list;
 mod make;

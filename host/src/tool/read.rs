@@ -7,7 +7,6 @@ use super::values::AskedName;
 use super::words::Given;
 use std::ffi::OsStr;
 use std::fs;
-use varnucht::Name;
 
 /// Gives the body of the file named.
 pub fn run(given: &Given) -> Outcome {
@@ -20,8 +19,8 @@ pub fn run(given: &Given) -> Outcome {
         return Err(given.usage("FILE is IMAGE itself, which would be lost"));
     }
     let disk = source::disk(given)?;
-    let body = Name::new(name.bytes()).and_then(|name| disk.read(&name));
-    let body = body.map_err(|refused| Failure::refused(given.word(0), &name.to_string(), refused))?;
+    let body = name.name("it").and_then(|name| Ok(disk.read(&name)?));
+    let body = body.map_err(|reason| Failure::refused(given.word(0), &name.to_string(), reason))?;
     match file {
         Some(file) => make(file, &body, given.has("--force")),
         None => output::print(body),

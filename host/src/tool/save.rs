@@ -6,7 +6,7 @@ use super::values::{self, AskedName};
 use super::words::Given;
 use std::ffi::OsStr;
 use std::fs::File;
-use varnucht::{CarriedKind, Change, LONGEST_BODY, NO_EXECUTION, NewFile, NewName, Start};
+use varnucht::{CarriedKind, Change, LONGEST_BODY, NO_EXECUTION, NewFile, Start};
 
 /// Saves the body under the name.
 pub fn run(given: &Given) -> Outcome {
@@ -31,7 +31,7 @@ pub fn run(given: &Given) -> Outcome {
     let body = body(given.word(2))?;
     perform(given, "saved", &name.to_string(), || {
         // In the order of their refusals: 12, 13, 14.
-        let (name, kind) = (NewName::new(name.bytes())?, CarriedKind::from_number(kind)?);
+        let (name, kind) = (name.new_name("it")?, CarriedKind::from_number(kind)?);
         let file = NewFile::new(kind, name, Start::new(page, offset)?, &body);
         Ok(Change::Save(NewFile {
             execution,

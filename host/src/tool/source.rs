@@ -1,5 +1,6 @@
 //! Image files: opened, locked and read.
-use super::failure::{Failure, Outcome};
+use super::failure::{Failure, Outcome, Reason};
+use super::forms;
 use super::output;
 use super::system;
 use super::words::Given;
@@ -8,7 +9,7 @@ use std::fs::{self, File, TryLockError};
 use std::io::{self, ErrorKind, Read};
 use std::mem::ManuallyDrop;
 use std::os::unix::fs::MetadataExt;
-use varnucht::{Disk, IMAGE_LENGTH, Image, SECTOR_LENGTH, SectorNumber, Store};
+use varnucht::{Disk, IMAGE_LENGTH, Image, Refusal, SECTOR_LENGTH, SectorNumber, Store, WrongLength};
 
 /// The image in the file at the first place. The file is locked while it is read, so that no change of another program
 /// comes in between.
@@ -160,7 +161,22 @@ fn lock(file: &File, given: &Given, alone: bool) -> Result<(), Failure> {
 /// The image that a file holds. Of a longer file no more is read than shows that it is too long.
 fn read(file: &mut File, path: &OsStr) -> Result<Image, Failure> {
     let bytes = front(file, IMAGE_LENGTH).map_err(|error| Failure::io(path, error))?;
-    Image::from_bytes(bytes).map_err(|wrong| Failure::unsound(path, wrong))
+    Image::from_bytes(bytes).map_err(|wrong| Failure::unsound(path, no_image(file, wrong)))
+}
+
+/// Refusal 1, how long the file is, and what it looks like, where that is known.
+fn no_image(file: &File, wrong: WrongLength) -> Reason {
+    let bytes = wrong.into_bytes();
+    let length = match (bytes.len() > IMAGE_LENGTH, file.metadata()) {
+        (false, _) => bytes.len().to_string(),
+        (true, Ok(found)) if found.is_file() => found.len().to_string(),
+        (true, _) => "more".into(),
+    };
+    let looks = forms::known(&bytes).map_or(String::new(), |words| format!("\n{words}"));
+    Reason {
+        refused: Refusal::ImageLength.into(),
+        more: Some(format!("it has {length}{looks}")),
+    }
 }
 
 /// All bytes that a source gives, where they are no more than `most`; else one more than `most` of them.
