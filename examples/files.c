@@ -6,8 +6,8 @@
 static uint8_t image[VARNUCHT_IMAGE_BYTES + 1];
 static uint8_t listing[VARNUCHT_LISTING_BYTES];
 
-/* Prints a name as the tool does: a byte outside 32 to 126 and a space in front as \xHH, a backslash as two. A disk may hold any
- * bytes in a name, and those that give orders to a terminal must not get there. */
+/* Prints a name as the tool does: a byte outside 32 to 126 and a space in front as \xHH, a backslash as two. A disk may hold
+ * any bytes in a name, and those that give orders to a terminal must not get there. */
 static void print_name(const uint8_t *entry) {
     const uint8_t *name = varnucht_entry_name(entry);
     int width = 0;

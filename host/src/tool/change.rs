@@ -25,7 +25,7 @@ pub fn perform<'a>(given: &Given, done: &str, what: &str, change: impl FnOnce() 
     let mut sectors = disk.change(&change).map_err(|no| refused(no.into()))?;
     let (hold, mut progress) = (Hold::new(), Progress::new());
     let written = sectors.write_to(&mut held, |written, of| progress.step(written, of));
-    drop((hold, progress));
+    drop((progress, hold));
     held.still_whole().map_err(|lost| Failure::io(given.word(0), lost))?;
     written.map_err(|error| Failure::write(given.word(0), error))?;
     output::confirm(&format!(

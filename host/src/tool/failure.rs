@@ -62,8 +62,8 @@ impl Failure {
         Failure::Io(shown_file(path), error)
     }
 
-    /// The sectors of a change could not all be written to this file. A signal stops between two of them: then the next was not
-    /// tried, even the last.
+    /// The sectors of a change could not all be written to this file. A signal stops between two of them: then the next was
+    /// not tried, even if it was the last.
     pub fn write(path: &OsStr, error: WriteError) -> Failure {
         match error {
             WriteError::Stopped { written, of, error } if error.kind() == ErrorKind::Interrupted => {

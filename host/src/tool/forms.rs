@@ -12,11 +12,13 @@ const FORMS: [(&[u8], &str); 5] = [
     ),
     (
         b"EXTENDED CPC DSK",
-        "It looks like an EDSK image, which has headers between its tracks: turn it into a plain one (.mgt) first, with SAMdisk.",
+        "It looks like an EDSK image, which has headers between its tracks: turn it into a plain one (.mgt) first, \
+         with SAMdisk.",
     ),
     (
         b"MV - CPC",
-        "It looks like a DSK image, which has headers between its tracks: turn it into a plain one (.mgt) first, with SAMdisk.",
+        "It looks like a DSK image, which has headers between its tracks: turn it into a plain one (.mgt) first, \
+         with SAMdisk.",
     ),
     (
         b"Aley's disk backup",

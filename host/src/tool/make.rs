@@ -50,8 +50,8 @@ fn say_split(path: &OsStr, links: u64) {
     }
 }
 
-/// Writes the bytes beside the path, and gives them their name when all are there. A signal meanwhile leaves the file whole or
-/// not there, and nothing beside it.
+/// Writes the bytes beside the path, and gives them their name when all are there. A signal meanwhile leaves the file whole
+/// or not there, and nothing beside it.
 fn put(path: &Path, bytes: &[u8], older: Option<&Metadata>) -> io::Result<()> {
     let _hold = Hold::new();
     let (file, beside) = beside(path)?;
@@ -76,8 +76,8 @@ fn beside(path: &Path) -> io::Result<(File, PathBuf)> {
     Err(io::Error::other("no name is left for a file beside it"))
 }
 
-/// Writes the bytes, and flushes them to the disk. The rights are then those of the older file, or the usual ones. Setuid, setgid
-/// and sticky are not kept: the new file's owner may be another.
+/// Writes the bytes, and flushes them to the disk. The rights are then those of the older file, or the usual ones. Setuid,
+/// setgid and sticky are not kept: the new file's owner may be another.
 fn fill(mut file: File, bytes: &[u8], older: Option<&Metadata>) -> io::Result<()> {
     file.write_all(bytes)?;
     let rights = older.map_or_else(system::usual_rights, |older| older.mode() & 0o777);

@@ -17,22 +17,27 @@ unsafe extern "C" {
 /// Whether standard input and standard output were closed when the tool was started.
 static CLOSED: [AtomicBool; 2] = [AtomicBool::new(false), AtomicBool::new(false)];
 
+/// The question for a file's marks, which only an open one has; a socket inside this machine, of the kind that is connected.
+const MARKS: c_int = 1;
+const LOCAL: c_int = 1;
+const STREAM: c_int = 1;
+
 /// The system calls this before the standard library begins.
 #[used]
 #[unsafe(link_section = ".init_array")]
 static EARLY: extern "C" fn() = early;
 
 /// Notes which standard files are closed. The standard library would open the null device in their place, which takes all and
-/// gives nothing: what is lost would look well. A socket that leads nowhere takes their place, so that `/dev/stdin` and
+/// gives nothing: what is lost would seem to be well. A socket that leads nowhere takes their place, so that `/dev/stdin` and
 /// `/dev/stdout` fail too.
 extern "C" fn early() {
     for (file, closed) in (0..).zip(&CLOSED) {
-        // SAFETY: the first asks for the marks of a file, by a number alone; the second makes a new file, with the lowest number
-        // that is free, and that is this one.
+        // SAFETY: the first asks for the marks of a file by its number alone. The second makes a new file with the lowest
+        // number that is free, and that is this one.
         unsafe {
-            if fcntl(file, 1) < 0 {
+            if fcntl(file, MARKS) < 0 {
                 closed.store(true, Ordering::Relaxed);
-                socket(1, 1, 0);
+                socket(LOCAL, STREAM, 0);
             }
         }
     }

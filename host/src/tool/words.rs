@@ -73,8 +73,8 @@ fn choose(given: &mut Given, word: &OsStr, words: &mut impl Iterator<Item = OsSt
     Ok(())
 }
 
-/// The name in a word that begins with a dash, and the value in it, which may have any bytes: `--name=value`, `-nvalue`. A name
-/// that is no text is none.
+/// The name in a word that begins with a dash, and the value in it, which may have any bytes: `--name=value`, `-nvalue`. A
+/// name that is no text is none.
 fn split(word: &OsStr) -> (&str, Option<&OsStr>) {
     let bytes = word.as_bytes();
     let (name, after) = match bytes.starts_with(b"--") {

@@ -1,6 +1,6 @@
-//! Lengths that no memory has, such as a failed read gives: 2^63 and more, up to 2^64 - 1. A slice that is refused by its length
-//! stands in a closed page, so that one byte read of it is a fault. Of a slice that may be longer than the call needs the front
-//! is there, flush with a closed page.
+//! Lengths that no memory has, such as a failed read gives: about 2^63 and more, up to 2^64 - 1. A slice that is refused by
+//! its length stands in a closed page, so that one byte read of it is a fault. Of a slice that may be longer than the call
+//! needs the front is there, flush with a closed page.
 
 use crate::support::asking::Asked;
 use crate::support::calls::{

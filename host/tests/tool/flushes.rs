@@ -1,6 +1,6 @@
 //! The sectors of a change go to the file one by one, in the order that it names them, each whole and flushed before the next.
-//! A file that the tool makes is whole and flushed before it has its name, and then its folder is flushed. `watch.c`, loaded in
-//! front of the system's library, notes what the tool writes, when it flushes, and when it names a file.
+//! A file that the tool makes is whole and flushed before it has its name, and then its folder is flushed. `watch.c`, loaded
+//! in front of the system's library, notes what the tool writes, when it flushes, and when it names a file.
 use crate::support::{Folder, Run, body, disk, library, on, tool};
 use std::fs;
 use std::path::Path;

@@ -118,7 +118,7 @@ fn while_it_writes() {
     }
 }
 
-/// The last data sector of a disk is the last of the image: written after a cut it brings the length back, and not what was cut.
+/// The last data sector of a disk is the last of the image: written after a cut it brings back the length and nothing else.
 #[test]
 fn a_cut_that_the_writing_hides() {
     let folder = scene();

@@ -1,6 +1,6 @@
 /* Stands between the tool and the system and runs the shell line MEDDLE in the middle of the tool's work, once: MEDDLE_AT says
-   when, such as "lock 1", "read 1" or "flush 3" for after that call, and "write 2" for before it. Reads and writes of the three
-   standard files do not count. The tool is the line's parent. */
+   when, such as "lock 1", "read 1" or "flush 3" for after that call, and "write 2" for before it. Reads and writes of the
+   three standard files do not count. The tool is the line's parent. */
 #define _GNU_SOURCE
 #include <dlfcn.h>
 #include <errno.h>

@@ -1,4 +1,4 @@
-//! Standard input and standard output: `-` for an image and for a file, and standard files that are closed or open the wrong way.
+//! Standard input and output: `-` for an image and for a file, and standard files that are closed or open the wrong way.
 use crate::support::*;
 use std::ffi::{OsStr, OsString};
 use std::fs::{self, File};

@@ -1,4 +1,4 @@
-/* Stands between the tool and the system and notes each write to a file, each flush of a file or of a folder, and each name that
+/* Stands between the tool and the system and notes each write to a file, each flush of a file or a folder, and each name that
    a file is given, in a file that WATCH names. */
 #define _GNU_SOURCE
 #include <dlfcn.h>
