@@ -26,12 +26,12 @@ pub fn perform<'a>(given: &Given, done: &str, what: &str, change: impl FnOnce() 
     let (hold, mut progress) = (Hold::new(), Progress::new());
     let written = sectors.write_to(&mut held, |written, of| progress.step(written, of));
     drop((progress, hold));
-    held.still_whole().map_err(|lost| Failure::io(given.word(0), lost))?;
+    let many = counted(sectors.numbers().len(), "sector");
+    let failed = |error| Failure::io(given.word(0), error);
+    held.still_whole().map_err(failed)?;
     written.map_err(|error| Failure::write(given.word(0), error))?;
-    output::confirm(&format!(
-        "{done} {what}: {} written",
-        counted(sectors.numbers().len(), "sector")
-    ));
+    held.holds(disk.image()).map_err(failed)?;
+    output::confirm(&format!("{done} {what}: {many} written"));
     Ok(())
 }
 

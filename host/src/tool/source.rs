@@ -6,7 +6,7 @@ use super::system;
 use super::words::Given;
 use std::ffi::{OsStr, OsString};
 use std::fs::{self, File, TryLockError};
-use std::io::{self, ErrorKind, Read};
+use std::io::{self, ErrorKind, Read, Seek};
 use std::mem::ManuallyDrop;
 use std::os::unix::fs::MetadataExt;
 use varnucht::{Disk, IMAGE_LENGTH, Image, Refusal, SECTOR_LENGTH, SectorNumber, Store, WrongLength};
@@ -87,6 +87,17 @@ impl Held {
         match self.length()? {
             WHOLE => Ok(()),
             length => Err(io::Error::other(format!("it has {length} bytes now{NOT_SAVED}"))),
+        }
+    }
+
+    /// Whether the file holds this image and no other bytes. A cut, and a sector written behind it, bring the length back.
+    pub fn holds(&mut self, image: &Image) -> io::Result<()> {
+        self.file.rewind()?;
+        match front(&mut self.file, IMAGE_LENGTH)? == image.as_bytes() {
+            true => Ok(()),
+            false => Err(io::Error::other(
+                "it holds other bytes than were written: another program changed it meanwhile, so check it",
+            )),
         }
     }
 

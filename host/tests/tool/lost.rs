@@ -124,17 +124,40 @@ fn a_cut_that_the_writing_hides() {
     let folder = scene();
     let library = library(&folder, "meddle.c");
     let full = disk(&[("LONG", LONGEST_BODY - 4 * 510)]);
-    folder.image(&full);
     assert_eq!(full.listing().free(), 4);
-    for at in ["flush 1", "flush 3"] {
-        let run = meddled(&folder, &library, at, ": > disk.mgt");
-        run.fails(3, "disk.mgt: it has 0 bytes now");
-        assert_eq!(
-            fs::metadata(folder.path("disk.mgt")).unwrap().len(),
-            0,
-            "nothing more is written"
-        );
+    for at in ["flush 1", "flush 3", "write 4"] {
         folder.image(&full);
+        let run = meddled(&folder, &library, at, ": > disk.mgt");
+        let length = fs::metadata(folder.path("disk.mgt")).unwrap().len();
+        match at {
+            "write 4" => run.fails(3, OTHER_BYTES),
+            _ => run.fails(3, "disk.mgt: it has 0 bytes now: the change is not saved\n"),
+        }
+        // Where the cut is seen before a sector is written, no more is written.
+        assert_eq!(length, if at == "write 4" { 819_200 } else { 0 }, "{at}");
+    }
+}
+
+/// What is said where all sectors are written and the file does not hold the disk.
+const OTHER_BYTES: &str =
+    "disk.mgt: it holds other bytes than were written: another program changed it meanwhile, so check it\n";
+
+/// A program that writes to the image and does not ask for a lock.
+#[test]
+fn another_program_that_writes_meanwhile() {
+    let folder = scene();
+    let library = library(&folder, "meddle.c");
+    let line = "printf x | dd of=disk.mgt bs=1 seek=700000 conv=notrunc 2>/dev/null";
+    for at in ["lock 1", "flush 2", "flush 5"] {
+        let old = folder.image(&disk(&[("ONE", 10), ("TWO", 600)]));
+        let run = meddled(&folder, &library, at, line);
+        if at == "lock 1" {
+            // It is read with what the other wrote.
+            assert_eq!(run.done(), "saved NEW: 5 sectors written\n");
+        } else {
+            run.fails(3, OTHER_BYTES);
+        }
+        assert_eq!(fs::read(old).unwrap()[700_000], b'x', "what the other wrote stays");
     }
 }
 
