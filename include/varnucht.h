@@ -272,7 +272,8 @@ static inline int varnucht_entry_carried(const uint8_t *entry) {
 }
 
 /* The name's ten bytes, with no 0 behind them; and how many are left without the spaces at the end. Given to a call, both
- * lengths ask for the same file. On a disk from elsewhere a name may hold any bytes, not text alone. */
+ * lengths ask for the same file. On a disk from elsewhere a name may hold any bytes, not text alone, and some give orders to
+ * a terminal: examples/files.c shows how to print it. */
 static inline const uint8_t *varnucht_entry_name(const uint8_t *entry) { return entry + VARNUCHT_ENTRY_NAME; }
 static inline size_t varnucht_entry_name_len(const uint8_t *entry) {
     size_t len = VARNUCHT_NAME_BYTES;

@@ -4,7 +4,7 @@
 //! changes no byte of anything lent. In the changes, `list` takes the numbers of the sectors to write, two bytes to a number,
 //! low byte first; 3,122 bytes are enough for every change.
 //!
-//! All unsafe code of the crate stands in this file.
+//! All unsafe code of the crate stands in this file, but for one question to the system in `store`.
 use crate::answer::Answer;
 use crate::raw;
 

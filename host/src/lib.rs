@@ -123,7 +123,7 @@ pub use entry::Entry;
 pub use image::{IMAGE_LENGTH, Image, WrongLength};
 pub use kind::{CarriedKind, Kind};
 pub use listing::Listing;
-pub use name::{NAME_LENGTH, Name, NewName};
+pub use name::{NAME_LENGTH, Name, NewName, Unusable};
 pub use place::{DATA_SECTORS, Drive, SECTOR_LENGTH, SECTORS, Sector, SectorNumber, Track};
 pub use refusal::{Refusal, Refused, Slot};
 pub use sectors::{LONGEST_BODY, Sectors};

@@ -29,12 +29,30 @@ impl Name {
     /// The name with these bytes. Refused 12 where there is none or are more than ten, or the first is 0.
     pub fn new(bytes: impl AsRef<[u8]>) -> Result<Name, Refused> {
         let given = bytes.as_ref();
-        let mut filled = [b' '; NAME_LENGTH];
-        match filled.get_mut(..given.len()) {
-            Some(front) if given.first().is_some_and(|first| *first != 0) => front.copy_from_slice(given),
-            _ => return Err(Refusal::UnusableName.into()),
+        if Name::unusable(given).is_some() {
+            return Err(Refusal::UnusableName.into());
         }
+        let mut filled = [b' '; NAME_LENGTH];
+        filled[..given.len()].copy_from_slice(given);
         Ok(Name(filled))
+    }
+
+    /// Why these bytes cannot be asked for as a name; none where they can.
+    ///
+    /// ```
+    /// use varnucht::Name;
+    ///
+    /// let why = Name::unusable("ELEVEN BYTE").unwrap();
+    /// assert_eq!(format!("it {why}"), "it has 11 bytes, and a name has 1 to 10");
+    /// assert_eq!(Name::unusable("TUNES"), None);
+    /// ```
+    pub fn unusable(bytes: impl AsRef<[u8]>) -> Option<Unusable> {
+        match bytes.as_ref() {
+            [] => Some(Unusable::Empty),
+            given if given.len() > NAME_LENGTH => Some(Unusable::TooLong(given.len())),
+            [0, ..] => Some(Unusable::FirstZero),
+            _ => None,
+        }
     }
 
     /// The name that a slot of an accepted disk holds.
@@ -83,13 +101,23 @@ impl NewName {
     /// The new name with these bytes. Refused 12 where [`Name::new`] refuses them, where one is outside 32 to 126, and
     /// where the first is a space.
     pub fn new(bytes: impl AsRef<[u8]>) -> Result<NewName, Refused> {
-        let given = bytes.as_ref();
-        let name = Name::new(given)?;
-        let printed = given.iter().all(|byte| (32..=126).contains(byte));
-        if !printed || given.first() == Some(&b' ') {
-            return Err(Refusal::UnusableName.into());
+        match NewName::unusable(&bytes) {
+            Some(_) => Err(Refusal::UnusableName.into()),
+            None => Name::new(bytes).map(NewName),
         }
-        Ok(NewName(name))
+    }
+
+    /// Why these bytes cannot be a new name; none where they can.
+    pub fn unusable(bytes: impl AsRef<[u8]>) -> Option<Unusable> {
+        let given = bytes.as_ref();
+        let outside = || given.iter().position(|byte| !(32..=126).contains(byte));
+        let unprinted = |place: usize| Unusable::Unprinted {
+            place,
+            byte: given[place],
+        };
+        Name::unusable(given)
+            .or_else(|| given.starts_with(b" ").then_some(Unusable::FirstSpace))
+            .or_else(|| outside().map(unprinted))
     }
 
     /// The name, to ask for the file by.
@@ -118,5 +146,41 @@ impl fmt::Display for NewName {
 impl fmt::Debug for NewName {
     fn fmt(&self, f: &mut fmt::Formatter<'_>) -> fmt::Result {
         write!(f, "NewName({self})")
+    }
+}
+
+/// Why bytes are no usable name: more than refusal 12 tells. As text it is said of the name: `has 11 bytes, ..`.
+#[derive(Clone, Copy, Debug, PartialEq, Eq)]
+#[non_exhaustive]
+pub enum Unusable {
+    /// There is no byte.
+    Empty,
+    /// There are so many bytes, more than ten.
+    TooLong(usize),
+    /// The first byte is 0.
+    FirstZero,
+    /// The first byte of a new name is a space.
+    FirstSpace,
+    /// A byte of a new name is outside 32 to 126.
+    Unprinted {
+        /// Its place, from 0.
+        place: usize,
+        /// The byte.
+        byte: u8,
+    },
+}
+
+impl fmt::Display for Unusable {
+    fn fmt(&self, f: &mut fmt::Formatter<'_>) -> fmt::Result {
+        match self {
+            Unusable::Empty => f.write_str("has no byte, and a name has 1 to 10"),
+            Unusable::TooLong(length) => write!(f, "has {length} bytes, and a name has 1 to 10"),
+            Unusable::FirstZero => f.write_str("begins with the byte 0"),
+            Unusable::FirstSpace => f.write_str("begins with a space"),
+            Unusable::Unprinted { place, byte } => {
+                let number = place + 1;
+                write!(f, "has {byte} as byte {number}, and a new name has bytes 32 to 126 alone")
+            }
+        }
     }
 }

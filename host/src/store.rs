@@ -1,9 +1,11 @@
 //! Where the sectors of a change are written.
 use crate::place::{SECTOR_LENGTH, SectorNumber};
 use std::error::Error;
+use std::ffi::c_int;
 use std::fmt;
 use std::fs::File;
-use std::io::{self, Seek, SeekFrom, Write};
+use std::io::{self, ErrorKind, Seek, SeekFrom, Write};
+use std::os::fd::AsRawFd;
 
 /// Something that holds a disk image and takes one sector at a time.
 pub trait Store {
@@ -13,11 +15,35 @@ pub trait Store {
 }
 
 /// A file that holds an image, open for writing. Each sector is flushed to the disk. A file of 819,200 bytes keeps its length.
+///
+/// One that is open to append takes every write at its end, wherever it is meant to go. Then this fails with
+/// [`ErrorKind::InvalidInput`], and nothing is written.
 impl Store for File {
     fn write_sector(&mut self, number: SectorNumber, bytes: &[u8; SECTOR_LENGTH]) -> io::Result<()> {
+        if appends(self)? {
+            let words = "the file is open to append, and a sector has its place";
+            return Err(io::Error::new(ErrorKind::InvalidInput, words));
+        }
         self.seek(SeekFrom::Start(number.place() as u64))?;
         self.write_all(bytes)?;
         self.sync_data()
+    }
+}
+
+unsafe extern "C" {
+    fn fcntl(file: c_int, command: c_int, ...) -> c_int;
+}
+
+/// The question how a file is open, and the mark for appending in the answer. Linux alone.
+const HOW_OPEN: c_int = 3;
+const APPENDS: c_int = 0o2000;
+
+/// Whether a file is open to append.
+fn appends(file: &File) -> io::Result<bool> {
+    // SAFETY: the file is open, and this question takes nothing else.
+    match unsafe { fcntl(file.as_raw_fd(), HOW_OPEN) } {
+        -1 => Err(io::Error::last_os_error()),
+        how => Ok(how & APPENDS != 0),
     }
 }
 

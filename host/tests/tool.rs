@@ -7,10 +7,18 @@ mod flushes;
 mod input;
 #[path = "tool/lock.rs"]
 mod lock;
+#[path = "tool/lost.rs"]
+mod lost;
+#[path = "tool/making.rs"]
+mod making;
 #[path = "tool/map.rs"]
 mod map;
+#[path = "tool/messages.rs"]
+mod messages;
 #[path = "tool/names.rs"]
 mod names;
+#[path = "tool/standard.rs"]
+mod standard;
 #[path = "tool/support.rs"]
 mod support;
 #[path = "tool/terminal.rs"]

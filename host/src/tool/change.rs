@@ -1,34 +1,37 @@
 //! The changes: made on a copy for `--dry-run`, else in the file.
-use super::failure::{Failure, Outcome};
+use super::failure::{Failure, Outcome, Reason};
 use super::output::{self, counted};
 use super::progress::Progress;
 use super::source;
+use super::system::Hold;
 use super::values::AskedName;
 use super::words::Given;
-use varnucht::{Change, Name, NewName, Refused, SectorNumber};
+use varnucht::{Change, Name, SectorNumber};
 
 /// Makes the change that `change` gives, or prints what it would write. The disk is opened before the change is asked for,
 /// so that refusals come in the order of document 01: the disk's first.
 ///
 /// `done` and `what` say what was done and to what.
-pub fn perform<'a>(given: &Given, done: &str, what: &str, change: impl FnOnce() -> Result<Change<'a>, Refused>) -> Outcome {
-    let refused = |refused| Failure::refused(given.word(0), what, refused);
+pub fn perform<'a>(given: &Given, done: &str, what: &str, change: impl FnOnce() -> Result<Change<'a>, Reason>) -> Outcome {
+    let refused = |reason| Failure::refused(given.word(0), what, reason);
     if given.has("--dry-run") {
         let disk = source::disk(given)?;
-        let numbers = change().and_then(|change| disk.try_change(&change)).map_err(refused)?;
-        return output::print(planned(&numbers));
+        let numbers = change().and_then(|change| Ok(disk.try_change(&change)?));
+        return output::print(planned(&numbers.map_err(refused)?));
     }
-    let (mut file, mut disk) = source::changing(given)?;
+    source::not_standard(given)?;
+    let (mut held, mut disk) = source::changing(given)?;
     let change = change().map_err(refused)?;
-    let mut sectors = disk.change(&change).map_err(refused)?;
-    let mut progress = Progress::new();
-    let written = sectors.write_to(&mut file, |written, of| progress.step(written, of));
-    drop(progress);
-    written.map_err(|error| Failure::Write(output::shown(given.word(0)), error))?;
-    output::confirm(&format!(
-        "{done} {what}: {} written",
-        counted(sectors.numbers().len(), "sector")
-    ));
+    let mut sectors = disk.change(&change).map_err(|no| refused(no.into()))?;
+    let (hold, mut progress) = (Hold::new(), Progress::new());
+    let written = sectors.write_to(&mut held, |written, of| progress.step(written, of));
+    drop((progress, hold));
+    let many = counted(sectors.numbers().len(), "sector");
+    let failed = |error| Failure::io(given.word(0), error);
+    held.still_whole().map_err(failed)?;
+    written.map_err(|error| Failure::write(given.word(0), error))?;
+    held.holds(disk.image()).map_err(failed)?;
+    output::confirm(&format!("{done} {what}: {many} written"));
     Ok(())
 }
 
@@ -43,7 +46,7 @@ fn planned(numbers: &[SectorNumber]) -> String {
 /// Makes a change that takes a name alone.
 fn on_name(given: &Given, done: &str, change: fn(Name) -> Change<'static>) -> Outcome {
     let name = AskedName::at(given, 1)?;
-    perform(given, done, &name.to_string(), || Name::new(name.bytes()).map(change))
+    perform(given, done, &name.to_string(), || name.name("it").map(change))
 }
 
 /// Erases a file.
@@ -54,7 +57,7 @@ pub fn erase(given: &Given) -> Outcome {
 /// Gives a file another name.
 pub fn rename(given: &Given) -> Outcome {
     let (name, new) = (AskedName::at(given, 1)?, AskedName::at(given, 2)?);
-    let change = || Ok(Change::Rename(Name::new(name.bytes())?, NewName::new(new.bytes())?));
+    let change = || Ok(Change::Rename(name.name("the old one")?, new.new_name("the new one")?));
     perform(given, "renamed", &format!("{name} to {new}"), change)
 }
 

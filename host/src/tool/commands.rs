@@ -56,7 +56,8 @@ const NO_WAIT: Choice = flag(
 const DRY_RUN: Choice = flag(
     &["--dry-run"],
     "print the sectors that would be written, in their
-order, and write nothing",
+order, and write nothing; then IMAGE may be `-`,
+standard input",
 );
 const COLOR: Choice = valued(
     &["--color"],
@@ -69,7 +70,11 @@ const OUTPUT: Choice = valued(
     "FILE",
     "write the body to FILE and not to standard output",
 );
-const FORCE: Choice = flag(&["--force"], "let FILE take the place of an older one");
+const FORCE: Choice = flag(
+    &["--force"],
+    "let FILE take the place of an older one, with its
+permissions; other hard links keep the older bytes",
+);
 const KIND: Choice = valued(
     &["--kind"],
     "KIND",
@@ -94,10 +99,16 @@ begins with `-` write `--`.";
 /// What is said of every change.
 const SAFE: &str = "The sectors are written in the order that keeps the disk sound, each flushed
 to the disk before the next: cut short anywhere, IMAGE holds the old disk
-until the last one is written. IMAGE is locked meanwhile.";
+until the last one is written. IMAGE is locked meanwhile; where it is removed,
+replaced or cut short all the same, the change fails (status 3).";
+
+/// What is said of files that are made.
+const WHOLE: &str = "FILE gets its name when it is whole: a failure or a signal leaves an older one
+as it was. Setuid, setgid and sticky are not kept.";
 
 /// What is said of IMAGE where it is only read.
-const PIPE: &str = "IMAGE may be a pipe, read to its end: one that nobody writes to is waited for.";
+const PIPE: &str = "IMAGE may be a pipe, read to its end: one that nobody writes to is waited for.
+`-` is standard input.";
 
 /// What is said of a save.
 const START: &str = "The usual start, page 1 and offset 32768, is address 32768.";
@@ -156,7 +167,7 @@ second. Each file has a sign, and the signs are named below.",
         places: &["IMAGE", "NAME"],
         options: &[&OUTPUT, &FORCE, &NO_WAIT],
         brief: "give a file's body",
-        more: &[PIPE, NAMES],
+        more: &[WHOLE, PIPE, NAMES],
         run: read::run,
     },
     Command {

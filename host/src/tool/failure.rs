@@ -1,17 +1,36 @@
 //! What a command could not do: its words and its exit status.
-use super::output::shown;
+use super::output::shown_file;
 use std::ffi::OsStr;
-use std::io;
-use varnucht::{Refused, WriteError};
+use std::io::{self, ErrorKind};
+use varnucht::{Refused, Unsound, WriteError};
 
 /// What a command gives back.
 pub type Outcome = Result<(), Failure>;
+
+/// A refusal, and what more the tool knows of it.
+#[derive(Debug)]
+pub struct Reason {
+    pub refused: Refused,
+    pub more: Option<String>,
+}
+
+impl From<Refused> for Reason {
+    fn from(refused: Refused) -> Reason {
+        Reason { refused, more: None }
+    }
+}
+
+impl From<Unsound> for Reason {
+    fn from(unsound: Unsound) -> Reason {
+        unsound.refused.into()
+    }
+}
 
 /// Why a command was not done.
 #[derive(Debug)]
 pub enum Failure {
     /// The library refused it. Status 1.
-    Refused(String, Refused),
+    Refused(String, Reason),
     /// The command line was not understood. Status 2. The command, if it was found, is named for its help.
     Usage(String, Option<&'static str>),
     /// Something could not be read or written. Status 3.
@@ -24,13 +43,13 @@ pub enum Failure {
 
 impl Failure {
     /// The library refused the disk in this file.
-    pub fn unsound(path: &OsStr, refused: impl Into<Refused>) -> Failure {
-        Failure::Refused(shown(path), refused.into())
+    pub fn unsound(path: &OsStr, reason: impl Into<Reason>) -> Failure {
+        Failure::Refused(shown_file(path), reason.into())
     }
 
     /// The library refused a request on the disk in this file; `what` says on which of its files.
-    pub fn refused(path: &OsStr, what: &str, refused: Refused) -> Failure {
-        Failure::Refused(format!("{}: {what}", shown(path)), refused)
+    pub fn refused(path: &OsStr, what: &str, reason: impl Into<Reason>) -> Failure {
+        Failure::Refused(format!("{}: {what}", shown_file(path)), reason.into())
     }
 
     /// The command line was not understood.
@@ -40,7 +59,21 @@ impl Failure {
 
     /// This file could not be read or written.
     pub fn io(path: &OsStr, error: io::Error) -> Failure {
-        Failure::Io(shown(path), error)
+        Failure::Io(shown_file(path), error)
+    }
+
+    /// The sectors of a change could not all be written to this file. A signal stops between two of them: then the next was
+    /// not tried, even if it was the last.
+    pub fn write(path: &OsStr, error: WriteError) -> Failure {
+        match error {
+            WriteError::Stopped { written, of, error } if error.kind() == ErrorKind::Interrupted => {
+                let words = format!(
+                    "{written} of {of} sectors were written when {error}. The old disk is still there and reads as before."
+                );
+                Failure::io(path, io::Error::other(words))
+            }
+            error => Failure::Write(shown_file(path), error),
+        }
     }
 
     /// The exit status.
@@ -55,7 +88,10 @@ impl Failure {
     /// What to say of it, if anything.
     pub fn words(&self) -> Option<String> {
         match self {
-            Failure::Refused(what, refused) => Some(format!("{what}: {refused}")),
+            Failure::Refused(what, Reason { refused, more }) => {
+                let more = more.as_ref().map_or(String::new(), |more| format!(": {more}"));
+                Some(format!("{what}: {refused}{more}"))
+            }
             Failure::Usage(words, None) => Some(format!("{words}\nTry `varnucht help`.")),
             Failure::Usage(words, Some(command)) => Some(format!("{words}\nTry `varnucht help {command}`.")),
             Failure::Io(what, error) => Some(format!("{what}: {error}")),

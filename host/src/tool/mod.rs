@@ -9,6 +9,7 @@ mod colour;
 mod commands;
 mod dump;
 mod failure;
+mod forms;
 mod help;
 mod list;
 mod make;
@@ -18,26 +19,24 @@ mod progress;
 mod read;
 mod save;
 mod source;
+mod system;
 mod values;
 mod words;
 
 use failure::{Failure, Outcome};
 use std::ffi::OsString;
-use std::io::Write;
 use std::process::ExitCode;
 
 /// Runs the tool with the words of its command line, and says what went wrong.
 pub fn run(words: Vec<OsString>) -> ExitCode {
-    match obey(words) {
-        Ok(()) => ExitCode::SUCCESS,
-        Err(failure) => {
-            if let Some(words) = failure.words() {
-                // Nothing can be done where standard error is closed.
-                let _ = writeln!(std::io::stderr(), "varnucht: {words}");
-            }
-            ExitCode::from(failure.status())
-        }
+    let outcome = obey(words);
+    if let Err(failure) = &outcome
+        && let Some(words) = failure.words()
+    {
+        output::say(&words);
     }
+    system::obey();
+    outcome.map_or_else(|failure| ExitCode::from(failure.status()), |()| ExitCode::SUCCESS)
 }
 
 /// Finds the command and runs it.

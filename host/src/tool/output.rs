@@ -1,5 +1,6 @@
 //! What the tool prints on standard output, and how it shows words and names.
 use super::failure::{Failure, Outcome};
+use super::system;
 use std::ffi::OsStr;
 use std::io::{self, ErrorKind, Write};
 
@@ -12,10 +13,15 @@ pub fn shown(word: &OsStr) -> String {
     word.to_string_lossy().chars().map(show).collect()
 }
 
+/// A file of the command line as a message shows it.
+pub fn shown_file(path: &OsStr) -> String {
+    if path == "-" { "standard input".into() } else { shown(path) }
+}
+
 /// Prints to standard output. That nobody reads it any more is no error to speak of.
 pub fn print(text: impl AsRef<[u8]>) -> Outcome {
-    let mut out = io::stdout().lock();
-    match out.write_all(text.as_ref()).and_then(|()| out.flush()) {
+    let out = system::standard(system::OUTPUT);
+    match out.and_then(|mut out| out.write_all(text.as_ref())) {
         Ok(()) => Ok(()),
         Err(error) if error.kind() == ErrorKind::BrokenPipe => Err(Failure::Closed),
         Err(error) => Err(Failure::Io("standard output".into(), error)),
@@ -25,6 +31,11 @@ pub fn print(text: impl AsRef<[u8]>) -> Outcome {
 /// Says that something was done. Where it cannot be said it was done all the same.
 pub fn confirm(words: &str) {
     let _ = print(format!("{words}\n"));
+}
+
+/// Says something on standard error. Nothing can be done where that is closed.
+pub fn say(words: &str) {
+    let _ = writeln!(io::stderr(), "varnucht: {words}");
 }
 
 /// So many of something.

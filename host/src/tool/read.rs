@@ -2,12 +2,11 @@
 use super::failure::{Failure, Outcome};
 use super::make::make;
 use super::output;
-use super::source;
+use super::source::{self, STANDARD};
 use super::values::AskedName;
 use super::words::Given;
 use std::ffi::OsStr;
 use std::fs;
-use varnucht::Name;
 
 /// Gives the body of the file named.
 pub fn run(given: &Given) -> Outcome {
@@ -20,18 +19,19 @@ pub fn run(given: &Given) -> Outcome {
         return Err(given.usage("FILE is IMAGE itself, which would be lost"));
     }
     let disk = source::disk(given)?;
-    let body = Name::new(name.bytes()).and_then(|name| disk.read(&name));
-    let body = body.map_err(|refused| Failure::refused(given.word(0), &name.to_string(), refused))?;
+    let body = name.name("it").and_then(|name| Ok(disk.read(&name)?));
+    let body = body.map_err(|reason| Failure::refused(given.word(0), &name.to_string(), reason))?;
     match file {
         Some(file) => make(file, &body, given.has("--force")),
         None => output::print(body),
     }
 }
 
-/// Whether two paths lead to one file.
-fn same(one: &OsStr, other: &OsStr) -> bool {
-    match (fs::canonicalize(one), fs::canonicalize(other)) {
-        (Ok(one), Ok(other)) => one == other,
+/// Whether a file's path and an image's lead to one file.
+fn same(file: &OsStr, image: &OsStr) -> bool {
+    let image = if image == STANDARD { "/dev/stdin".as_ref() } else { image };
+    match (fs::canonicalize(file), fs::canonicalize(image)) {
+        (Ok(file), Ok(image)) => file == image,
         _ => false,
     }
 }

@@ -1,23 +1,55 @@
 //! Image files: opened, locked and read.
-use super::failure::Failure;
-use super::output::shown;
+use super::failure::{Failure, Outcome, Reason};
+use super::forms;
+use super::output;
+use super::system;
 use super::words::Given;
-use std::ffi::OsStr;
-use std::fs::{File, TryLockError};
-use std::io::{self, ErrorKind, Read, Write};
-use varnucht::{Disk, IMAGE_LENGTH, Image};
+use std::ffi::{OsStr, OsString};
+use std::fs::{self, File, TryLockError};
+use std::io::{self, ErrorKind, Read, Seek};
+use std::mem::ManuallyDrop;
+use std::os::unix::fs::MetadataExt;
+use varnucht::{Disk, IMAGE_LENGTH, Image, Refusal, SECTOR_LENGTH, SectorNumber, Store, WrongLength};
 
 /// The image in the file at the first place. The file is locked while it is read, so that no change of another program
 /// comes in between.
 pub fn image(given: &Given) -> Result<Image, Failure> {
     let path = given.word(0);
-    let mut file = File::open(path).map_err(|error| Failure::io(path, error))?;
-    match lock(&file, given, false) {
-        // What cannot be locked can be read all the same.
-        Err(Failure::Io(_, error)) if error.kind() != ErrorKind::WouldBlock => {}
-        locked => locked?,
+    if path == STANDARD {
+        // A lock on standard input would be that of whoever opened it, so the file is opened anew for the lock.
+        let anew = File::open("/dev/stdin");
+        if let Ok(file) = &anew {
+            share(file, given)?;
+        }
+        return read(&mut *standard_input()?, path);
     }
+    let mut file = File::open(path).map_err(|error| Failure::io(path, error))?;
+    share(&file, given)?;
     read(&mut file, path)
+}
+
+/// Locks a file that is read. What cannot be locked can be read all the same.
+fn share(file: &File, given: &Given) -> Outcome {
+    match lock(file, given, false) {
+        Err(Failure::Io(_, error)) if error.kind() != ErrorKind::WouldBlock => Ok(()),
+        locked => locked,
+    }
+}
+
+/// Stands for standard input in the place of a file.
+pub const STANDARD: &str = "-";
+
+/// Standard input.
+pub fn standard_input() -> Result<ManuallyDrop<File>, Failure> {
+    system::standard(system::INPUT).map_err(|error| Failure::io(STANDARD.as_ref(), error))
+}
+
+/// Fails where the image is standard input and the command writes to it.
+pub fn not_standard(given: &Given) -> Outcome {
+    match given.word(0) == STANDARD {
+        true => Err(given.usage("IMAGE is written to, and `-` is standard input: write `./-` for a file of that name")),
+        false => Ok(()),
+    }
 }
 
 /// The disk in the file at the first place.
@@ -25,13 +57,85 @@ pub fn disk(given: &Given) -> Result<Disk, Failure> {
     Disk::open(image(given)?).map_err(|unsound| Failure::unsound(given.word(0), unsound))
 }
 
-/// The disk in the file at the first place, to be changed. The file is locked for this process alone as long as it is open.
-pub fn changing(given: &Given) -> Result<(File, Disk), Failure> {
+/// The disk in the file at the first place, to be changed. The file is locked for this process alone as long as it is held.
+pub fn changing(given: &Given) -> Result<(Held, Disk), Failure> {
     let path = given.word(0);
-    let mut file = open_to_change(path).map_err(|error| Failure::io(path, error))?;
-    lock(&file, given, true)?;
-    let disk = Disk::open(read(&mut file, path)?).map_err(|unsound| Failure::unsound(path, unsound))?;
-    Ok((file, disk))
+    let failed = |error| Failure::io(path, error);
+    let mut held = Held {
+        file: open_to_change(path).map_err(failed)?,
+        path: path.into(),
+    };
+    let whole = held.length().map_err(failed)? == WHOLE;
+    lock(&held.file, given, true)?;
+    let image = read(&mut held.file, path);
+    // A file that was no image from the start is refused as one.
+    if whole { held.still_whole() } else { held.still_there() }.map_err(failed)?;
+    let disk = Disk::open(image?).map_err(|unsound| Failure::unsound(path, unsound))?;
+    Ok((held, disk))
+}
+
+/// An image's file, open and locked to be changed, and the path that led to it.
+pub struct Held {
+    file: File,
+    path: OsString,
+}
+
+impl Held {
+    /// Whether the path still leads to this file, and the file has an image's length: else what is written to it is lost.
+    pub fn still_whole(&self) -> io::Result<()> {
+        self.still_there()?;
+        match self.length()? {
+            WHOLE => Ok(()),
+            length => Err(io::Error::other(format!("it has {length} bytes now{NOT_SAVED}"))),
+        }
+    }
+
+    /// Whether the file holds this image and no other bytes. A cut, and a sector written behind it, bring the length back.
+    pub fn holds(&mut self, image: &Image) -> io::Result<()> {
+        self.file.rewind()?;
+        match front(&mut self.file, IMAGE_LENGTH)? == image.as_bytes() {
+            true => Ok(()),
+            false => Err(io::Error::other(
+                "it holds other bytes than were written: another program changed it meanwhile, so check it",
+            )),
+        }
+    }
+
+    /// Whether the path still leads to this file.
+    fn still_there(&self) -> io::Result<()> {
+        let place = |found: fs::Metadata| (found.dev(), found.ino());
+        match fs::metadata(&self.path).map(place) {
+            Ok(found) if found == place(self.file.metadata()?) => Ok(()),
+            Ok(_) => Err(io::Error::other(format!(
+                "another file has taken its place meanwhile{NOT_SAVED}"
+            ))),
+            Err(error) if error.kind() == ErrorKind::NotFound => {
+                Err(io::Error::other(format!("it was removed meanwhile{NOT_SAVED}")))
+            }
+            Err(error) => Err(error),
+        }
+    }
+
+    /// How many bytes the file has.
+    fn length(&self) -> io::Result<u64> {
+        Ok(self.file.metadata()?.len())
+    }
+}
+
+/// An image's length, as files give theirs.
+const WHOLE: u64 = IMAGE_LENGTH as u64;
+
+/// What follows when the file is not there as it was.
+const NOT_SAVED: &str = ": the change is not saved";
+
+/// A sector is written where the file is still there as it was, and no signal came. The file is asked for again when all are
+/// written.
+impl Store for Held {
+    fn write_sector(&mut self, number: SectorNumber, bytes: &[u8; SECTOR_LENGTH]) -> io::Result<()> {
+        system::came()?;
+        self.still_whole()?;
+        self.file.write_sector(number, bytes)
+    }
 }
 
 /// Opens a file for reading and writing. A pipe or a terminal holds no disk, and reading it could wait for ever.
@@ -55,11 +159,10 @@ fn lock(file: &File, given: &Given, alone: bool) -> Result<(), Failure> {
             io::Error::new(ErrorKind::WouldBlock, "another program has locked it"),
         )),
         Err(TryLockError::WouldBlock) => {
-            let _ = writeln!(
-                io::stderr(),
-                "varnucht: {}: waiting for another program that has locked it",
-                shown(path)
-            );
+            output::say(&format!(
+                "{}: waiting for another program that has locked it",
+                output::shown_file(path)
+            ));
             let waited = if alone { file.lock() } else { file.lock_shared() };
             waited.map_err(|error| Failure::io(path, error))
         }
@@ -69,7 +172,22 @@ fn lock(file: &File, given: &Given, alone: bool) -> Result<(), Failure> {
 /// The image that a file holds. Of a longer file no more is read than shows that it is too long.
 fn read(file: &mut File, path: &OsStr) -> Result<Image, Failure> {
     let bytes = front(file, IMAGE_LENGTH).map_err(|error| Failure::io(path, error))?;
-    Image::from_bytes(bytes).map_err(|wrong| Failure::unsound(path, wrong))
+    Image::from_bytes(bytes).map_err(|wrong| Failure::unsound(path, no_image(file, wrong)))
+}
+
+/// Refusal 1, how long the file is, and what it looks like, where that is known.
+fn no_image(file: &File, wrong: WrongLength) -> Reason {
+    let bytes = wrong.into_bytes();
+    let length = match (bytes.len() > IMAGE_LENGTH, file.metadata()) {
+        (false, _) => bytes.len().to_string(),
+        (true, Ok(found)) if found.is_file() => found.len().to_string(),
+        (true, _) => "more".into(),
+    };
+    let looks = forms::known(&bytes).map_or(String::new(), |words| format!("\n{words}"));
+    Reason {
+        refused: Refusal::ImageLength.into(),
+        more: Some(format!("it has {length}{looks}")),
+    }
 }
 
 /// All bytes that a source gives, where they are no more than `most`; else one more than `most` of them.

@@ -1,13 +1,13 @@
 //! Values of the command line: names, numbers, kinds and hexadecimal bytes.
-use super::failure::Failure;
+use super::failure::{Failure, Reason};
 use super::output::shown;
 use super::words::Given;
 use std::ffi::OsStr;
 use std::fmt;
-use varnucht::CarriedKind;
 use varnucht::escape::{escape, unescape};
+use varnucht::{CarriedKind, Name, NewName, Refused, Unusable};
 
-/// The bytes of a name of the command line, with its escapes undone. Whether it is usable as a name is not asked here.
+/// The bytes of a name of the command line, with its escapes undone. Whether it is usable as a name is not asked yet.
 pub struct AskedName(Vec<u8>);
 
 impl AskedName {
@@ -20,9 +20,22 @@ impl AskedName {
             .map_err(|bad| given.usage(format!("`{}`: {bad}", shown(word))))
     }
 
-    /// Its bytes.
-    pub fn bytes(&self) -> &[u8] {
-        &self.0
+    /// The name to ask for. Where it is not usable the reason says why, of `who`.
+    pub fn name(&self, who: &str) -> Result<Name, Reason> {
+        Name::new(&self.0).map_err(|refused| unusable(refused, who, Name::unusable(&self.0)))
+    }
+
+    /// The name to give to a file, likewise.
+    pub fn new_name(&self, who: &str) -> Result<NewName, Reason> {
+        NewName::new(&self.0).map_err(|refused| unusable(refused, who, NewName::unusable(&self.0)))
+    }
+}
+
+/// The refusal of a name, and why.
+fn unusable(refused: Refused, who: &str, why: Option<Unusable>) -> Reason {
+    Reason {
+        refused,
+        more: why.map(|why| format!("{who} {why}")),
     }
 }
 

@@ -3,6 +3,7 @@ use super::commands::{Choice, Command};
 use super::failure::Failure;
 use super::output::shown;
 use std::ffi::{OsStr, OsString};
+use std::os::unix::ffi::OsStrExt;
 
 /// What a command was given.
 pub struct Given {
@@ -57,10 +58,9 @@ pub fn read(command: &'static Command, words: Vec<OsString>) -> Result<Option<Gi
     counted(given).map(Some)
 }
 
-/// Reads one choice, and its value from after `=` or from the next word.
+/// Reads one choice, and its value from the same word or from the next.
 fn choose(given: &mut Given, word: &OsStr, words: &mut impl Iterator<Item = OsString>) -> Result<(), Failure> {
-    let text = word.to_str().unwrap_or_default();
-    let (name, after) = text.split_once('=').map_or((text, None), |(name, after)| (name, Some(after)));
+    let (name, after) = split(word);
     let Some(choice) = given.command.options.iter().find(|choice| choice.names.contains(&name)) else {
         let words = format!("`{}` has no option `{}`", given.command.name, shown(word));
         return Err(given.usage(words));
@@ -73,12 +73,29 @@ fn choose(given: &mut Given, word: &OsStr, words: &mut impl Iterator<Item = OsSt
     Ok(())
 }
 
+/// The name in a word that begins with a dash, and the value in it, which may have any bytes: `--name=value`, `-nvalue`. A
+/// name that is no text is none.
+fn split(word: &OsStr) -> (&str, Option<&OsStr>) {
+    let bytes = word.as_bytes();
+    let (name, after) = match bytes.starts_with(b"--") {
+        true => match bytes.iter().position(|byte| *byte == b'=') {
+            Some(place) => (&bytes[..place], Some(&bytes[place + 1..])),
+            None => (bytes, None),
+        },
+        false => match bytes.split_at(bytes.len().min(2)) {
+            (name, []) => (name, None),
+            (name, [b'=', after @ ..] | after) => (name, Some(after)),
+        },
+    };
+    (str::from_utf8(name).unwrap_or_default(), after.map(OsStr::from_bytes))
+}
+
 /// The value of a choice; an empty one for a choice that takes none.
 fn valued(
     given: &Given,
     choice: &Choice,
     name: &str,
-    after: Option<&str>,
+    after: Option<&OsStr>,
     words: &mut impl Iterator<Item = OsString>,
 ) -> Result<OsString, Failure> {
     match (choice.value, after) {

@@ -208,6 +208,35 @@ fn a_change_in_memory_alone_is_missing_in_the_file() {
     assert!(&store.image == pair().image());
 }
 
+/// A file that is open to append takes every write at its end, wherever it is meant to go: it takes none.
+#[test]
+fn a_file_open_to_append_is_refused() {
+    let mut followed = Followed::new(pair(), "append");
+    let before = fs::read(&followed.path).unwrap();
+    for read in [false, true] {
+        let opened = File::options().read(read).append(true).open(&followed.path);
+        let mut file = opened.expect("the file is there");
+        let mut sectors = followed.disk.hide(&name("ONE")).unwrap();
+        let failed = sectors.write_to(&mut file, |_, _| panic!("a sector is written")).unwrap_err();
+        let WriteError::Stopped {
+            written: 0,
+            of: 1,
+            error,
+        } = failed
+        else {
+            panic!("{failed}");
+        };
+        assert_eq!(error.kind(), io::ErrorKind::InvalidInput);
+        assert!(error.to_string().contains("open to append"), "{error}");
+        assert!(fs::read(&followed.path).unwrap() == before, "nothing is written");
+        sectors.write_to(&mut followed.file, |_, _| {}).expect("another takes them");
+        let hidden = fs::read(&followed.path).unwrap();
+        assert!(hidden == followed.disk.image().as_bytes());
+        fs::write(&followed.path, &before).unwrap();
+        followed.disk = pair();
+    }
+}
+
 /// A refused change alters nothing, and the disk goes on as before.
 #[test]
 fn a_refused_change_alters_nothing() {

@@ -9,6 +9,7 @@
 //! - `lent`: every call, on whole, damaged and short images, with slices of every length.
 //! - `overlaps`: slices that are only read may overlap.
 //! - `wide`: slices longer than 32 bits can count.
+//! - `huge`: lengths of 2^63 and more, which no slice has.
 //!
 //! `VARNUCHT_SEED` and `VARNUCHT_ROUNDS` draw other tests, or a single one again.
 
@@ -16,6 +17,7 @@
 mod support;
 
 mod closed;
+mod huge;
 mod lent;
 mod overlaps;
 mod wide;

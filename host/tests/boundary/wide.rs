@@ -72,11 +72,13 @@ impl Usual {
     }
 }
 
-/// A drawn disk with a free slot, room for three sectors, and a carried file of some length that starts inside the range.
-fn disk() -> (Disk, usize) {
+/// A drawn disk with a free slot, room for three sectors, and a carried file of some length that starts inside the range and
+/// is not protected.
+pub fn disk() -> (Disk, usize) {
     let fits = |disk: &Disk, i: usize| {
         let slot = disk.slot(disk.files[i].slot);
-        disk.files[i].body.len() > 9 && fields::start(slot).is_some() && disk.files.len() < 80 && disk.free() > 3
+        let changes = slot[0] & fields::PROTECTED == 0 && disk.files.len() < 80 && disk.free() > 3;
+        changes && disk.files[i].body.len() > 9 && fields::start(slot).is_some()
     };
     let drawn = (16_000_000..).map(|seed| disks::draw(&mut Random::new(seed)));
     drawn

@@ -3,7 +3,7 @@ use crate::compilers::{BOTH, Folder, Language, build, compile, link, part, root}
 use std::fs;
 use std::path::{Path, PathBuf};
 use std::process::{Command, Output};
-use varnucht::raw;
+use varnucht::{Disk, Image, raw};
 
 const IMAGE: usize = 819_200;
 
@@ -101,6 +101,42 @@ fn the_readme_shows_a_program_that_runs() {
         let words = "files: refused 1, slot 0: the image is not 819,200 bytes\n";
         assert_eq!(refused(run(&files, &[&long])), words);
         assert_eq!(run(&files, &[&folder.file("nowhere")]).status.code(), Some(2));
+    }
+}
+
+/// Names are printed with the escapes of the tool, whatever bytes they have: no disk can send orders to a terminal.
+#[test]
+fn the_readmes_program_shows_names_as_the_tool_does() {
+    let names: [&[u8; 10]; 8] = [
+        b"PLAIN     ",
+        b"TWO WORDS ",
+        b" LEADING  ",
+        b"          ",
+        b"\x1b[2J\x1b]0;x ",
+        b"A\\B\\x41   ",
+        b"A\0\n\r\t\x7f\x80\xffB ",
+        b"\xff\xfe\xfd\xfc\xfb\xfa\xf9\xf8\xf7\xf6",
+    ];
+    let mut image = vec![0; IMAGE];
+    for place in 0..names.len() {
+        image = saved(&image, &[b'A' + place as u8], b"body").0;
+    }
+    for (place, name) in names.into_iter().enumerate() {
+        image[256 * place + 1..][..10].copy_from_slice(name);
+    }
+    let disk = Disk::open(Image::from_bytes(image.clone()).expect("an image")).expect("a sound disk");
+    let lines = disk.listing().entries().iter().map(|entry| {
+        let name = entry.name().to_string();
+        format!("{:>2} {name:<10}    1 sectors\n", entry.slot().number())
+    });
+    let expected = lines.collect::<String>() + "1552 sectors free\n";
+    assert!(expected.contains(r" 5 \x1b[2J\x1b]0;x    1 sectors"), "{expected}");
+    for language in BOTH {
+        let folder = Folder::new(&format!("shown-{language:?}"));
+        let source = root().join("examples/files.c");
+        let files = build(language, &["-O2"], &[source], &folder, "files");
+        let shown = done(run(&files, &[&folder.write("disk", &image)]));
+        assert_eq!(String::from_utf8_lossy(&shown), expected);
     }
 }
 

@@ -71,8 +71,8 @@ fn read_gives_the_body() {
     let run = on("read", &image, ["LONG", "-o", "-"]);
     assert!(run.out == body(100_000));
     on("read", &image, ["NONE"]).fails(1, "disk.mgt: NONE: refusal 15: no live slot has the name\n");
-    on("read", &image, [""]).fails(1, "refusal 12: the name is not usable\n");
-    on("read", &image, ["ELEVEN BYTE"]).fails(1, "refusal 12: the name is not usable\n");
+    on("read", &image, [""]).fails(1, "refusal 12: the name is not usable: it has ");
+    on("read", &image, ["ELEVEN BYTE"]).fails(1, "refusal 12: the name is not usable: it has ");
 }
 
 #[test]

@@ -1,6 +1,6 @@
 //! The sectors of a change go to the file one by one, in the order that it names them, each whole and flushed before the next.
-//! A file that the tool makes is whole and flushed before it has its name. `watch.c`, loaded in front of the system's library,
-//! notes what the tool writes, when it flushes, and when it names a file.
+//! A file that the tool makes is whole and flushed before it has its name, and then its folder is flushed. `watch.c`, loaded
+//! in front of the system's library, notes what the tool writes, when it flushes, and when it names a file.
 use crate::support::{Folder, Run, body, disk, library, on, tool};
 use std::fs;
 use std::path::Path;
@@ -76,11 +76,15 @@ fn a_made_file_is_flushed_before_it_has_its_name() {
         ("read disk.mgt TUNES -o new", "new", body(20_000)),
         ("read disk.mgt TUNES -o another --force", "another", body(20_000)),
         ("read disk.mgt TUNES -o older --force", "older", body(20_000)),
+        ("read disk.mgt TUNES -o ./one", "one", body(20_000)),
+        ("blank folder/new.mgt", "folder/new.mgt", vec![0; 819_200]),
     ];
+    fs::create_dir(folder.path("folder")).unwrap();
     for (line, name, bytes) in made {
         let (run, noted) = watched(&folder, &watch, &line.split(' ').collect::<Vec<_>>());
         assert_eq!((run.status, run.err.as_str()), (0, ""), "{line}");
-        let expected = format!("write {} at 0\nflush\nname {name}\n", bytes.len());
+        let last = name.rsplit('/').next().unwrap();
+        let expected = format!("write {} at 0\nflush\nname {last}\nflush folder\n", bytes.len());
         assert_eq!(noted, expected, "{line}");
         assert!(fs::read(folder.path(name)).unwrap() == bytes, "{line}");
     }

@@ -14,7 +14,7 @@ fn images_of_every_length() {
         File::create(&image).unwrap().set_len(length).unwrap();
         let began = Instant::now();
         for command in ["check", "list", "map"] {
-            on(command, &image, NONE).fails(1, "disk.mgt: refusal 1: the image is not 819,200 bytes\n");
+            on(command, &image, NONE).fails(1, "disk.mgt: refusal 1: the image is not 819,200 bytes: it has ");
         }
         on("read", &image, ["ONE"]).fails(1, "refusal 1: ");
         on("sector", &image, ["0", "1"]).fails(1, "refusal 1: ");

@@ -2,6 +2,7 @@
 //! the system's library, says which files are terminals and makes each flush slow.
 use crate::support::*;
 use std::io::{self, Read};
+use std::os::unix::process::ExitStatusExt;
 use std::path::Path;
 use std::process::Command;
 
@@ -119,4 +120,26 @@ fn a_slow_save_without_a_terminal_says_nothing_meanwhile() {
     let folder = Folder::new();
     let run = Run::of(slow_save(&folder, "01").output().unwrap());
     assert_eq!(run.done(), SAVED);
+}
+
+/// A signal in the middle of a slow save: the line goes away, and what is said stands on a line of its own. At 30 milliseconds
+/// for a flush the line is there by the twelfth.
+#[test]
+fn a_signal_takes_the_line_away() {
+    let folder = Folder::new();
+    let mut command = slow_save(&folder, "2");
+    let both = [library(&folder, "meddle.c"), folder.path("terminal.so")].map(|path| path.to_str().unwrap().to_string());
+    command
+        .env("LD_PRELOAD", both.join(":"))
+        .env("MEDDLE_AT", "flush 12")
+        .env("MEDDLE", "kill -INT $PPID");
+    let output = command.output().unwrap();
+    let shown = String::from_utf8_lossy(&output.stderr);
+    assert_eq!((output.status.signal(), output.stdout.len()), (Some(2), 0), "{shown}");
+    let (written, after) = followed(&shown);
+    assert!(!written.is_empty(), "{shown}");
+    assert!(
+        after.contains(": 12 of 21 sectors were written when the signal INT came. ") && after.ends_with(".\n"),
+        "{shown}"
+    );
 }

@@ -1,5 +1,5 @@
-/* Stands between the tool and the system and notes each write to a file, each flush, and each name that a file is given, in a
-   file that WATCH names. */
+/* Stands between the tool and the system and notes each write to a file, each flush of a file or a folder, and each name that
+   a file is given, in a file that WATCH names. */
 #define _GNU_SOURCE
 #include <dlfcn.h>
 #include <fcntl.h>
@@ -7,6 +7,7 @@
 #include <stdio.h>
 #include <stdlib.h>
 #include <string.h>
+#include <sys/stat.h>
 #include <unistd.h>
 
 typedef ssize_t (*write_call)(int, const void *, size_t);
@@ -40,7 +41,8 @@ int fdatasync(int file) {
 }
 
 int fsync(int file) {
-    note("flush\n");
+    struct stat found;
+    note(fstat(file, &found) == 0 && S_ISDIR(found.st_mode) ? "flush folder\n" : "flush\n");
     return ((flush_call)dlsym(RTLD_NEXT, "fsync"))(file);
 }
 

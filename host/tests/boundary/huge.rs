@@ -1,0 +1,188 @@
+//! Lengths that no memory has, such as a failed read gives: about 2^63 and more, up to 2^64 - 1. A slice that is refused by
+//! its length stands in a closed page, so that one byte read of it is a fault. Of a slice that may be longer than the call
+//! needs the front is there, flush with a closed page.
+
+use crate::support::asking::Asked;
+use crate::support::calls::{
+    self, BODY, CALLS, Call, EXEC, IMAGE, INFO, NAME, NEW, NOTHING, OUT, ROLES, Request, TWO, ask_c, ask_paper,
+};
+use crate::support::compare::{self, Lend};
+use crate::support::disks::Disk;
+use crate::support::guarded::{Empty, Flush, Guarded};
+use crate::wide;
+use std::env;
+use std::process::Command;
+
+/// 2^64 - n.
+const fn below(n: usize) -> usize {
+    n.wrapping_neg()
+}
+
+/// Around 2^63, and below the lengths that follow.
+const HUGE: [usize; 8] = [
+    isize::MAX as usize,
+    1 << 63,
+    (1 << 63) + 1,
+    3 << 62,
+    below(819_200),
+    below(20_640),
+    below(520),
+    below(519),
+];
+
+/// Those to which the 518 that a save adds before it divides by 510 cannot be added.
+const HUGEST: [usize; 10] = [
+    below(518),
+    below(517),
+    below(511),
+    below(510),
+    below(509),
+    below(258),
+    below(11),
+    below(9),
+    below(2),
+    below(1),
+];
+
+/// The refusal that such a length alone brings about, where it does.
+fn refusal(role: usize) -> Option<u64> {
+    match role {
+        IMAGE | TWO => Some(1),
+        NAME | NEW => Some(12),
+        BODY => Some(19),
+        _ => None,
+    }
+}
+
+/// A request that is accepted, with no byte more than it needs.
+fn accepted(call: Call, disk: &Disk, i: usize) -> Asked {
+    let (file, asked) = (&disk.files[i], Asked::new(call));
+    match call {
+        Call::Check => asked,
+        Call::List => asked.with(OUT, vec![0x5c; 258 * disk.files.len()]),
+        Call::Read => asked.with(NAME, file.name).with(OUT, vec![0x5c; file.body.len()]),
+        Call::Start => asked.with(NAME, file.name),
+        Call::Sector => Asked {
+            numbers: [2, 4, 1],
+            ..asked.with(TWO, disk.image.clone())
+        },
+        Call::Save => {
+            let asked = asked.with(NAME, b"unlike all").with(BODY, [5; 600]).with(OUT, [0x5c; 6]);
+            Asked {
+                numbers: [19, 1, 40_000],
+                ..asked.with(EXEC, [1, 2, 3]).with(INFO, [4; 11])
+            }
+        }
+        Call::Rename => asked.with(NAME, file.name).with(NEW, b"unlike all").with(OUT, [0x5c; 2]),
+        _ => asked.with(NAME, file.name).with(OUT, [0x5c; 2]),
+    }
+}
+
+/// Asks with slices of that length in these roles; the answer and every slice at return are as they should be.
+fn ask(request: &Request, roles: &[usize], length: usize) {
+    let mut lender = Guarded::new(Flush::End, Empty::Closed);
+    let mut parts = [NOTHING; 8];
+    let refused = roles.iter().filter_map(|&role| refusal(role)).min();
+    let there = |role: usize| match roles.contains(&role) && refusal(role).is_some() {
+        true => &[],
+        false => request.slices[role],
+    };
+    for &role in request.call.takes() {
+        parts[role] = lender.lend(role, there(role), request.call.changes(role));
+        if roles.contains(&role) {
+            parts[role].length = length;
+        }
+    }
+    // Safety: what the call may touch is there, and apart from all else. Anything else that it touches is a fault.
+    let answer = unsafe { ask_c(request.call, request.numbers, &parts) };
+    let paper = ask_paper(request);
+    let what = || {
+        let of: Vec<&str> = roles.iter().map(|&role| ROLES[role]).collect();
+        format!("{of:?} of {length} bytes: {}", compare::tell(request))
+    };
+    assert_eq!(calls::refusal(paper.packed), 0, "{}", what());
+    assert_eq!(answer, refused.unwrap_or(paper.packed), "{}", what());
+    for &role in request.call.takes() {
+        let left = match role {
+            OUT if refused.is_none() => &paper.out,
+            IMAGE if refused.is_none() => paper.image.as_deref().unwrap_or(there(role)),
+            _ => there(role),
+        };
+        assert!(
+            lender.bytes(role) == left && lender.around(role),
+            "{}: {}",
+            ROLES[role],
+            what()
+        );
+    }
+}
+
+/// Asks every call that takes one of these slices, with each of the lengths in turn.
+fn each(roles: &[usize], lengths: &[usize]) {
+    let (disk, i) = wide::disk();
+    let mut asked = 0;
+    for call in CALLS {
+        let with = accepted(call, &disk, i);
+        for &role in roles.iter().filter(|role| call.takes().contains(role)) {
+            for &length in lengths {
+                ask(&with.on(&disk.image), &[role], length);
+                asked += 1;
+            }
+        }
+    }
+    println!("{asked} calls");
+}
+
+#[test]
+fn images() {
+    each(&[IMAGE, TWO], &[&HUGE[..], &HUGEST].concat());
+}
+
+#[test]
+fn names() {
+    each(&[NAME, NEW], &[&HUGE[..], &HUGEST].concat());
+}
+
+/// Execution bytes and information are read at their front alone, a listing, a body and a list written there alone.
+#[test]
+fn what_may_be_longer_than_is_needed() {
+    each(&[EXEC, INFO, OUT], &[&HUGE[..], &HUGEST].concat());
+}
+
+#[test]
+fn bodies() {
+    each(&[BODY], &HUGE);
+}
+
+/// The disk is looked at first: all that a call takes has such a length.
+#[test]
+fn every_slice_at_once() {
+    let (disk, i) = wide::disk();
+    for call in CALLS {
+        for length in [&HUGE[..], &HUGEST].concat() {
+            ask(&accepted(call, &disk, i).on(&disk.image), call.takes(), length);
+        }
+    }
+}
+
+#[test]
+#[ignore = "run by the test below, in a program of its own"]
+fn hugest_bodies_here() {
+    each(&[BODY], &HUGEST);
+}
+
+/// In a program of its own, because a save that counts too few sectors for such a body reads where nothing is.
+#[test]
+fn hugest_bodies() {
+    let program = env::current_exe().expect("the program knows itself");
+    let output = Command::new(program)
+        .args(["--exact", "huge::hugest_bodies_here", "--ignored", "--nocapture"])
+        .output()
+        .expect("it starts again");
+    let said = String::from_utf8_lossy(&output.stdout) + String::from_utf8_lossy(&output.stderr);
+    assert!(
+        output.status.success() && said.contains("1 passed"),
+        "{}\n{said}",
+        output.status
+    );
+}
