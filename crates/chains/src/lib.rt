@@ -43,8 +43,8 @@ fn place_after(bit: usize, at: usize, next: usize, track: usize, number: usize) 
     geometry::data_place(track, number)
 }
 
-// Row 10: whether the chain is broken. A sector that comes twice is on a ring, and no sector of a ring has the link 0, 0:
-// so the sectors passed need not be kept.
+// Row 10: whether the chain is broken. The sectors passed are marked in a map, and a link to a marked one is refused there.
+// No link waits for a mark: the place of the next sector does not hang on the map.
 fn chain_broken(image: &[u8], s: &[u8]) -> bool
     ensures { λ r. ⌜ r ≡ broken (facts (now (s .entry))) (sectorsOf (now (image .entry)) (now (s .entry))) ⌝ }
 {
@@ -55,6 +55,8 @@ fn chain_broken(image: &[u8], s: &[u8]) -> bool
     }
     let mut left = slots::count_of(s);
     let mut at = geometry::bit_place(bit);
+    let mut passed = [0u8; 195];
+    maps::mark(&mut passed, bit);
     while 1 < left {
         let track = buffers::num_at(image, at + 510);
         let number = buffers::num_at(image, at + 511);
@@ -62,6 +64,10 @@ fn chain_broken(image: &[u8], s: &[u8]) -> bool
         if !maps::has_bit(map, next) {
             return true;
         }
+        if maps::has_bit(&passed, next) {
+            return true;
+        }
+        maps::mark(&mut passed, next);
         at = place_after(bit, at, next, track, number);
         bit = next;
         left -= 1;
