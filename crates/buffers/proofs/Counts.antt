@@ -8,6 +8,7 @@ use native.Mathlib.Numerals.{add-one}
 use native.Mathlib.Omega.{arith}
 use Rattle.buffers.specs.Bytes.{count, any}
 use Rattle.buffers.proofs.Lists.{below-or-not}
+use Rattle.buffers.proofs.Tests.{or-left, or-right, or-neither}
 
 pub count-more : (n : ℕ) (p : ℕ → Bool) → count (n + 1) p ≡ count n p + cond (p n) 1 0
 unfolding count
@@ -51,10 +52,6 @@ none-count (suc n) p e k h =
 
 -- ---- any
 
-or-false : (a b : Bool) → (a || b) ≡ false → (a ≡ false) × (b ≡ false)
-or-false true b e = absurd (true≢false e)
-or-false false b e = (refl, e)
-
 pub any-more : (n : ℕ) (p : ℕ → Bool) → any (n + 1) p ≡ (any n p || p n)
 unfolding any
 any-more n p = rw add-one
@@ -68,20 +65,13 @@ pub any-none : (n : ℕ) (p : ℕ → Bool) → any n p ≡ false → (j : ℕ) 
 unfolding any
 any-none zero p e j h = absurd (not-suc-le-zero h)
 any-none (suc n) p e j h =
-    let c = or-false (any n p) (p n) e in
+    let c = or-neither (any n p) (p n) e in
     ⊎-elim (λ q. subst (λ (m : ℕ). p m ≡ false) (sym q) (c .1)) (λ q. any-none n p (c .0) j q) (eq-or-lt-of-le (le-of-suc-le-suc h))
 
 pub none-any : (n : ℕ) (p : ℕ → Bool) → ((j : ℕ) → j < n → p j ≡ false) → any n p ≡ false
 unfolding any
 none-any zero p h = refl
 none-any (suc n) p h = rw (h n (omega arith), none-any n p (λ j k. h j (omega arith)))
-
-or-right : (a b : Bool) → b ≡ true → (a || b) ≡ true
-or-right true b e = refl
-or-right false b e = e
-
-or-left : (a b : Bool) → a ≡ true → (a || b) ≡ true
-or-left a b e = rw e
 
 pub any-some : (n : ℕ) (p : ℕ → Bool) (j : ℕ) → j < n → p j ≡ true → any n p ≡ true
 unfolding any

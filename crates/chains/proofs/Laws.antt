@@ -10,6 +10,7 @@ use lib.Dec.{eqb}
 use lib.ListN.{length, getD}
 use Rattle.buffers.specs.Bytes.{part}
 use Rattle.buffers.proofs.Lists.{below-or-not, length-part, part-at}
+use Rattle.buffers.proofs.Tests.{or-neither}
 use Rattle.geometry.specs.Disk.{bitOf}
 use Rattle.maps.specs.Bits.{has}
 use Rattle.maps.proofs.Laws.{has-past}
@@ -59,10 +60,6 @@ taken true false x e = (refl, refl, e)
 taken true true x e = absurd (true≢false e)
 taken false b x e = absurd (true≢false e)
 
-neither : (a b : Bool) → (a || b) ≡ false → (a ≡ false) × (b ≡ false)
-neither true b e = absurd (true≢false e)
-neither false b e = (refl, e)
-
 module _ (map : List ℕ) (sec : ℕ → List ℕ) where
   -- n links from bit b on: each leads to a bit of the map that was not passed before, and the last sector is a last one
   pub record Steps (n b : ℕ) (passed : ℕ → Bool) : Type 0 where
@@ -94,7 +91,7 @@ module _ (map : List ℕ) (sec : ℕ → List ℕ) where
   more-steps n b passed h f w = record { own = own; fresh = fresh; apart = apart; last = rw (linked-front b n) (w .last) }
     where
       rest : (i : ℕ) → i ≤ n → (eqb (linked sec b (suc i)) b ≡ false) × (passed (linked sec b (suc i)) ≡ false)
-      rest i l = rw (linked-front b i) (neither (eqb (linked sec (nextOf (sec b)) i) b) (passed (linked sec (nextOf (sec b)) i)) (w .fresh i l))
+      rest i l = rw (linked-front b i) (or-neither (eqb (linked sec (nextOf (sec b)) i) b) (passed (linked sec (nextOf (sec b)) i)) (w .fresh i l))
 
       own : (i : ℕ) → i ≤ suc n → has map (linked sec b i) ≡ true
       own zero l = h

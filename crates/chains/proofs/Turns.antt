@@ -12,10 +12,10 @@ use Rattle.geometry.specs.Disk.{imageSize, bitOf, placeOrEnd}
 use Rattle.geometry.proofs.Laws.{data-bit, bit-data, place-or-end, place-inside, place-next}
 use Rattle.maps.specs.Bits.{has, clear, marked}
 use Rattle.maps.proofs.Laws.{has-clear, length-marked, has-marked}
-use Rattle.refusals.specs.Order.{refuse}
-use Rattle.slots.specs.Slot.{facts, kindOf, carried, firstOf, countOf, mapOf}
+use Rattle.refusals.specs.Order.{refuse, rises}
+use Rattle.slots.specs.Slot.{Facts, facts, kindOf, carried, firstOf, countOf, mapOf}
 use Rattle.chains.specs.File.{sectorsOf, fileOf}
-use Rattle.chains.specs.Chain.{nextOf, isLast, passing, strays, broken, headerDiffers, laterReply, linked}
+use Rattle.chains.specs.Chain.{nextOf, isLast, passing, strays, broken, headerDiffers, later, laterReply, linked}
 use Rattle.chains.proofs.Laws.{sectors-own, map-small, link-at, chain-steps}
 
 -- the map's bits are the sectors passed, as the definition keeps them, and bit b's
@@ -138,3 +138,7 @@ module _ (d s : List ℕ) (n : ℕ) (sound : broken (facts s) (sectorsOf d s) �
 
   pub later-other : (k : ℕ) → k ≡ kindOf s → carried k ≡ false → none ≡ laterReply n (fileOf d s)
   later-other k f g = rw (later-is d s n, sound, ← f, g)
+
+-- "likewise": rows 10 and 11 stand in the order of their numbers
+pub later-rises : (x : Facts) (sec : ℕ → List ℕ) → rises (later x sec) ≡ true
+later-rises x sec = refl

@@ -8,7 +8,6 @@ ghost use Rattle.slots.specs.Slot.{facts};
 ghost use Rattle.chains.specs.File.{fileOf, sectorsOf};
 ghost use Rattle.chains.specs.Chain.{isLast, broken, headerDiffers, laterReply};
 use refusals::Reason;
-use refusals::Refused;
 use refusals::Verdict;
 
 // The 512 bytes of a map bit's sector, uncopied; none where there is no such bit.
@@ -94,17 +93,11 @@ pub fn later_rows(image: &[u8], s: &[u8], slot: usize) -> Verdict
     ensures { λ r. ⌜ replyOf r ≡ laterReply slot (fileOf (now (image .entry)) (now (s .entry))) ⌝ }
 {
     if chain_broken(image, s) {
-        return Verdict::Unsound(Refused {
-            reason: Reason::ChainBroken,
-            slot,
-        });
+        return refusals::unsound(Reason::ChainBroken, slot);
     }
     if slots::is_carried(slots::kind_of(s)) {
         if header_differs(sector_at(image, slots::first_of(s)), s) {
-            return Verdict::Unsound(Refused {
-                reason: Reason::HeaderDiffers,
-                slot,
-            });
+            return refusals::unsound(Reason::HeaderDiffers, slot);
         }
     }
     Verdict::Sound

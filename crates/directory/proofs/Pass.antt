@@ -13,7 +13,7 @@ use lib.ListN.{length, getD}
 use Rattle.buffers.proofs.Counts.{any-none, none-any}
 use Rattle.buffers.specs.Bytes.{any}
 use Rattle.maps.specs.Bits.{has, bitsOf, share, clear, join}
-use Rattle.refusals.specs.Order.{refuse, _else_, Row, rows, sweepFrom}
+use Rattle.refusals.specs.Order.{refuse, _else_, Row, rows, sweepFrom, rises}
 use Rattle.refusals.specs.Answers.{refusalOf, replyOf}
 use Rattle.refusals.specs.declared.Refused.{Refused}
 use Rattle.refusals.specs.declared.Verdict.{Verdict}
@@ -24,7 +24,7 @@ use Rattle.slots.specs.Name.{sameName}
 use Rattle.slots.specs.Rows.{own, ownReply, dataCount}
 use Rattle.directory.specs.Places.{slots}
 use Rattle.directory.specs.Directory.{held, Directory, slotsRead, directory, liveAmong}
-use Rattle.directory.specs.Survey.{earlier, cross, surveyAt, survey, union, counted, usedMap}
+use Rattle.directory.specs.Survey.{earlier, cross, surveyAt, survey, union, counted, usedMap, refusedWith}
 use Rattle.directory.specs.Steps.{Apart, Keyed, Reached, Surveyed}
 use Rattle.directory.specs.declared.Survey.{Survey}
 use Rattle.directory.specs.declared.UsedMap.{UsedMap}
@@ -63,6 +63,10 @@ rows-append s (r ∷ a) b = by (r .holds) (rows-append s a b)
         → cond t (some (refuse (r .number) s)) (rows s (a ++ b)) ≡ (cond t (some (refuse (r .number) s)) (rows s a) else rows s b)
     by true e = refl
     by false e = e
+
+-- "at a slot the lowest number": the rows stand in the order of their numbers
+pub survey-rises : (n : ℕ) (v : Directory) (i : ℕ) (s : List ℕ) → rises (own n (facts s) ++ cross v i s) ≡ true
+survey-rises n v i s = refl
 
 pub survey-dead : (n : ℕ) (v : Directory) (i : ℕ) → v i ≡ none → surveyAt n v i ≡ none
 unfolding surveyAt
@@ -187,10 +191,11 @@ module _ (d : List ℕ) (i : ℕ) (u : UsedMap) (used : u ≡ counted (union (di
 
 -- what the pass gives: at a slot that is refused, and at the end
 module _ (d : List ℕ) (r : Survey) (i : ℕ) (left : survey 0 (directory d) ≡ sweepFrom (slots - i) i (surveyAt 0 (directory d))) where
-  pub pass-stops : (f : Refused) → i < slotsRead d → r .verdict ≡ Unsound f → replyOf (Unsound f) ≡ surveyAt 0 (directory d) i → r .used ≡ counted clear → r .files ≡ 0 → Surveyed d r
-  pass-stops f h p e w n =
+  pub pass-stops : (f : Refused) → i < slotsRead d → replyOf (Unsound f) ≡ surveyAt 0 (directory d) i → r ≡ refusedWith (Unsound f) → Surveyed d r
+  unfolding refusedWith
+  pass-stops f h e p =
       let z : survey 0 (directory d) ≡ some (refusalOf f) = left ∙ sweep-stop slots i (surveyAt 0 (directory d)) (refusalOf f) (omega (arith, read-most d)) (sym e) in
-      record { reply = rw (p, z); used = rw z w; files = rw z n }
+      record { reply = rw (p, z); used = rw (p, z); files = rw (p, z) }
 
   -- past the slots that are read no row holds
   pub pass-ends : slotsRead d ≤ i → i ≤ slots → r .verdict ≡ Sound → r .used ≡ counted (union (directory d) i) → r .files ≡ liveAmong (directory d) i → Surveyed d r

@@ -11,7 +11,9 @@ use Rattle.slots.specs.Name.{sameName}
 use Rattle.slots.specs.Rows.{own, dataCount}
 use Rattle.directory.specs.Places.{slots}
 use Rattle.directory.specs.Directory.{held, Directory, liveAmong}
+use Rattle.refusals.specs.declared.Verdict.{Verdict}
 use Rattle.directory.specs.declared.UsedMap.{UsedMap}
+use Rattle.directory.specs.declared.Survey.{Survey}
 
 -- an earlier live slot to which a test applies
 unfoldable pub earlier : Directory → ℕ → (List ℕ → Bool) → Bool
@@ -63,3 +65,7 @@ usedOr (some r) v = counted clear
 abbrev pub filesOr : Reply → Directory → ℕ
 filesOr none v = liveAmong v slots
 filesOr (some r) v = 0
+
+-- what a check hands on that refuses: its verdict, a clear map and no files
+unfoldable pub refusedWith : Verdict → Survey
+refusedWith v = record { verdict = v; used = counted clear; files = 0 }

@@ -9,11 +9,10 @@ ghost use Rattle.slots.specs.Slot.{nameOf};
 ghost use Rattle.slots.specs.Name.{sameName};
 ghost use Rattle.directory.specs.Places.{slotPlace, dirSector};
 ghost use Rattle.directory.specs.Directory.{held, slotsRead, directory, slotOr};
-ghost use Rattle.directory.specs.Survey.{earlier, surveyAt, counted, freeOf};
+ghost use Rattle.directory.specs.Survey.{earlier, surveyAt, counted, freeOf, refusedWith};
 ghost use Rattle.directory.specs.Find.{find, foundAt};
 ghost use Rattle.directory.specs.Steps.{Apart, Keyed, Reached, Surveyed};
 use refusals::Reason;
-use refusals::Refused;
 use refusals::Verdict;
 
 // The used map: 195 map bytes together with their number of set bits.
@@ -113,16 +112,10 @@ fn live_rows(dir: &[u8], i: usize, s: &[u8], used: &[u8], keys: &[u64]) -> Verdi
         Verdict::Unsound(f) => Verdict::Unsound(f),
         Verdict::Sound => {
             if maps::shares(used, slots::map_of(s)) {
-                return Verdict::Unsound(Refused {
-                    reason: Reason::SectorShared,
-                    slot,
-                });
+                return refusals::unsound(Reason::SectorShared, slot);
             }
             if named_before(dir, i, slots::name_of(s), keys) {
-                return Verdict::Unsound(Refused {
-                    reason: Reason::NameTwice,
-                    slot,
-                });
+                return refusals::unsound(Reason::NameTwice, slot);
             }
             Verdict::Sound
         }
@@ -136,6 +129,18 @@ fn unused() -> UsedMap
     UsedMap {
         bytes: [0; 195],
         count: 0,
+    }
+}
+
+// What a check hands on that refuses: no used map and no files.
+pub fn refused(verdict: Verdict) -> Survey
+    ensures { λ r. ⌜ r ≡ refusedWith verdict ⌝ }
+{
+    let used = unused();
+    Survey {
+        verdict,
+        used,
+        files: 0,
     }
 }
 
@@ -166,12 +171,7 @@ pub fn survey_slots(dir: &[u8]) -> Survey
         if slots::is_live(s) {
             match live_rows(dir, k, s, &used.bytes, &keys) {
                 Verdict::Unsound(f) => {
-                    let none = unused();
-                    return Survey {
-                        verdict: Verdict::Unsound(f),
-                        used: none,
-                        files: 0,
-                    };
+                    return refused(Verdict::Unsound(f));
                 }
                 Verdict::Sound => {
                     keys[k] = slots::key_of(slots::name_of(s));

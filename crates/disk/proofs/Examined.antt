@@ -6,18 +6,18 @@ use mathlib.Core.Option.{none, some}
 use borrow.Author.Tests.{eq-eqb, ne-eqb}
 use lib.ListN.{length}
 use Rattle.geometry.specs.Disk.{imageSize}
-use Rattle.refusals.specs.Order.{Reply, refuse, _else_, sweep}
+use Rattle.refusals.specs.Order.{Refusal, Reply, refuse, _else_, sweep}
 use Rattle.refusals.specs.Answers.{replyOf, refusalOf}
-use Rattle.refusals.specs.declared.Reason.the-variants.{NotAnImage}
 use Rattle.refusals.specs.declared.Refused.{Refused}
+use Rattle.refusals.specs.declared.Verdict.{Verdict}
 use Rattle.refusals.specs.declared.Verdict.the-variants.{Sound, Unsound}
 use Rattle.directory.specs.Places.{slots}
 use Rattle.directory.specs.Directory.{Directory, directory}
-use Rattle.directory.specs.Survey.{survey, usedOr, filesOr}
+use Rattle.directory.specs.Survey.{survey, usedOr, filesOr, refusedWith}
 use Rattle.directory.specs.Steps.{Surveyed}
 use Rattle.directory.specs.declared.Survey.{Survey}
 use Rattle.disk.specs.Look.{look, slotsOf, extra}
-use Rattle.disk.specs.Check.{chainAt, checkLook, checkDisk, Examined, refusedWith}
+use Rattle.disk.specs.Check.{chainAt, checkLook, checkDisk, Examined}
 use Rattle.disk.proofs.Look.{look-slots, look-long}
 use Rattle.disk.proofs.Order.{accepted}
 
@@ -33,13 +33,17 @@ module _ (d : List ℕ) where
       let e : checkDisk d ≡ (survey 0 (slotsOf (look d)) else sweep slots (chainAt (look d))) = rw (look-long d, eq-eqb (length d) imageSize h) in
       e ∙ ap (λ (v : Directory). survey 0 v else sweep slots (chainAt (look d))) (look-slots d)
 
-  pub examined-length : (length d ≡ imageSize → ⊥) → (x : Survey) → x ≡ refusedWith NotAnImage 0 → Examined d x
+  -- what is handed on where the check refuses
+  refused-so : (v : Verdict) → replyOf v ≡ checkDisk d → (r : Refusal) → checkDisk d ≡ some r → (x : Survey) → x ≡ refusedWith v → Examined d x
   unfolding refusedWith
-  examined-length h x e = record {
-    reply = ap (λ (x : Survey). replyOf (x .verdict)) e ∙ sym (length-first h);
-    used = ap (λ (x : Survey). x .used) e ∙ ap (λ (q : Reply). usedOr q (directory d)) (sym (length-first h));
-    files = ap (λ (x : Survey). x .files) e ∙ ap (λ (q : Reply). filesOr q (directory d)) (sym (length-first h));
+  refused-so v q r c x e = record {
+    reply = ap (λ (x : Survey). replyOf (x .verdict)) e ∙ q;
+    used = ap (λ (x : Survey). x .used) e ∙ ap (λ (q : Reply). usedOr q (directory d)) (sym c);
+    files = ap (λ (x : Survey). x .files) e ∙ ap (λ (q : Reply). filesOr q (directory d)) (sym c);
   }
+
+  pub examined-length : (length d ≡ imageSize → ⊥) → (v : Verdict) → replyOf v ≡ some (refuse 1 0) → (x : Survey) → x ≡ refusedWith v → Examined d x
+  examined-length h v q = refused-so v (q ∙ sym (length-first h)) (refuse 1 0) (length-first h)
 
   module _ (h : length d ≡ imageSize) (s : Survey) (w : Surveyed d s) where
     survey-refuses : (r : Refused) → s .verdict ≡ Unsound r → checkDisk d ≡ survey 0 (directory d)
@@ -61,15 +65,10 @@ module _ (d : List ℕ) where
       chains-then : checkDisk d ≡ sweep slots (chainAt (look d))
       chains-then = passes h ∙ rw no-refusal
 
-      pub examined-chains : (r : Refused) → some (refusalOf r) ≡ sweep slots (chainAt (look d)) → (x : Survey) → x ≡ refusedWith (r .reason) (r .slot) → Examined d x
-      unfolding refusedWith
-      examined-chains r q x f =
-          let c : checkDisk d ≡ some (refusalOf r) = chains-then ∙ sym q in
-          record {
-            reply = ap (λ (x : Survey). replyOf (x .verdict)) f ∙ sym c;
-            used = ap (λ (x : Survey). x .used) f ∙ ap (λ (q : Reply). usedOr q (directory d)) (sym c);
-            files = ap (λ (x : Survey). x .files) f ∙ ap (λ (q : Reply). filesOr q (directory d)) (sym c);
-          }
+      pub examined-chains : (v : Verdict) (r : Refused) → v ≡ Unsound r → replyOf v ≡ sweep slots (chainAt (look d)) → (x : Survey) → x ≡ refusedWith v → Examined d x
+      examined-chains v r f q =
+          let c : replyOf v ≡ checkDisk d = q ∙ sym chains-then in
+          refused-so v c (refusalOf r) (sym c ∙ ap replyOf f)
 
       pub examined-sound : none ≡ sweep slots (chainAt (look d)) → Examined d s
       examined-sound q =

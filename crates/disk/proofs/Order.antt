@@ -3,22 +3,26 @@ use Prim.Native.Nat.{ℕ, suc}
 use mathlib.Core.Path.{_≡_, refl, sym, ap, _∙_}
 use mathlib.Core.Bool.{Bool, true, false, not}
 use mathlib.Core.List.{List, _++_}
-use mathlib.Core.Logic.{_⊎_, ⊎-elim}
+use mathlib.Core.Logic.{_⊎_, _≢_, ⊎-elim}
 use mathlib.Core.Option.{Option, none, some, Option·some-ne-none}
+use native.Mathlib.Omega.{arith}
 use borrow.Author.Tests.{eqb-true, eqb-false, eq-eqb, ne-eqb}
 use lib.Dec.{eqb}
-use Rattle.refusals.specs.Order.{Refusal, refuse, Reply, _else_, row, rows, sweep, Row, Clear, FirstAt}
+use Rattle.refusals.specs.Order.{Refusal, refuse, Reply, _else_, row, rows, sweep, Row, Clear, FirstAt, Lowest}
 use Rattle.refusals.proofs.First.{else-none, else-some, rows-clear, clear-rows, rows-first, first-rows, sweep-none, none-sweep, sweep-cong, sweep-first, first-sweep}
+use Rattle.refusals.proofs.Lowest.{lowest-first, first-positive}
 use Rattle.geometry.specs.Disk.{imageSize}
 use Rattle.slots.specs.Slot.{facts}
 use Rattle.slots.specs.Rows.{own}
 use Rattle.chains.specs.File.{File}
 use Rattle.chains.specs.Chain.{laterReply}
+use Rattle.chains.proofs.Turns.{later-rises}
 use Rattle.directory.specs.Places.{slots}
 use Rattle.directory.specs.Directory.{held}
 use Rattle.directory.specs.Survey.{survey, surveyAt, cross}
-use Rattle.disk.specs.Look.{Look, slotsOf, extra}
-use Rattle.disk.specs.Check.{chainAt, checkLook}
+use Rattle.directory.proofs.Pass.{survey-rises}
+use Rattle.disk.specs.Look.{Look, look, slotsOf, extra}
+use Rattle.disk.specs.Check.{chainAt, checkLook, checkDisk}
 use Rattle.disk.specs.Given.{rows9, rows11, AllClear, RowAt, Given, by-length, by-slot, by-chain}
 
 -- a pass over the live slots of a look
@@ -144,3 +148,23 @@ given-only l r (by-length n e) = check-passes l ∙ rw (ne-eqb (l .long) imageSi
 given-only l r (by-slot n w) = check-passes l ∙ rw (eq-eqb (l .long) imageSize n, first-pass l (rows9 l) r w)
 given-only l r (by-chain n c w) =
     check-passes l ∙ rw (eq-eqb (l .long) imageSize n, clear-pass l (rows9 l) c, first-pass l (rows11 l) r w)
+
+-- ---- the lowest number, and none is 0
+
+-- "at a slot the lowest number"
+pub row-lowest : (l : Look) (r : Refusal) (w : RowAt l (rows9 l) r) → Lowest (r .number) (rows9 l (w .at) (w .file))
+row-lowest l r w =
+    lowest-first (rows9 l (w .at) (w .file)) (r .number) (survey-rises (extra l) (slotsOf l) (w .at) (w .file .bytes)) .0 (w .number)
+
+-- "likewise"
+pub chain-lowest : (l : Look) (r : Refusal) (w : RowAt l (rows11 l) r) → Lowest (r .number) (rows11 l (w .at) (w .file))
+chain-lowest l r w = lowest-first (rows11 l (w .at) (w .file)) (r .number) (later-rises (facts (w .file .bytes)) (w .file .sectors)) .0 (w .number)
+
+pub check-positive : (d : List ℕ) (r : Refusal) → checkDisk d ≡ some r → r .number ≢ 0
+unfolding checkDisk
+check-positive d r e = by (given (look d) r e)
+  where
+    by : Given (look d) r → r .number ≢ 0
+    by (by-length n q) = λ z. omega (arith, ap (λ (x : Refusal). x .number) q)
+    by (by-slot n w) = first-positive (rows9 (look d) (w .at) (w .file)) (r .number) (survey-rises (extra (look d)) (slotsOf (look d)) (w .at) (w .file .bytes)) (w .number)
+    by (by-chain n c w) = first-positive (rows11 (look d) (w .at) (w .file)) (r .number) (later-rises (facts (w .file .bytes)) (w .file .sectors)) (w .number)

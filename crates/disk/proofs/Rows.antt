@@ -7,6 +7,7 @@ use mathlib.Core.Logic.{_⊎_, inl, inr, ⊎-elim}
 use borrow.Author.Tests.{eqb-true, eqb-false, eq-eqb, ne-eqb, leb-true, le-leb, ltb-false, le-ltb, not-false}
 use lib.Dec.{eqb, leb, ltb}
 use lib.ListN.{getD}
+use Rattle.buffers.proofs.Tests.{and-both, both-and, or-either, either-or}
 use Rattle.maps.specs.Bits.{has, bitsOf}
 use Rattle.refusals.specs.Order.{Row, Clear}
 use Rattle.slots.specs.Slot.{facts, known, carried, kindOf, countOf, mapOf, firstOf, pagesOf, remainderOf, lengthOf}
@@ -15,21 +16,6 @@ use Rattle.chains.specs.Chain.{broken, headerDiffers, later}
 use Rattle.disk.specs.Sound.{Known, Carried, Agrees}
 
 -- ---- Booleans
-
-pub and-both : (a b : Bool) → (a && b) ≡ true → (a ≡ true) × (b ≡ true)
-and-both true b e = (refl, e)
-and-both false b e = absurd (false≢true e)
-
-both-and : (a b : Bool) → a ≡ true → b ≡ true → (a && b) ≡ true
-both-and a b p q = rw (p, q)
-
-or-either : (a b : Bool) → (a || b) ≡ true → (a ≡ true) ⊎ (b ≡ true)
-or-either true b e = inl refl
-or-either false b e = inr e
-
-either-or : (a b : Bool) → (a ≡ true) ⊎ (b ≡ true) → (a || b) ≡ true
-either-or true b e = refl
-either-or false b e = ⊎-elim (λ w. absurd (false≢true w)) (λ w. w) e
 
 -- a test that fails where another holds
 guard : (a b : Bool) → (a && b) ≡ false → a ≡ true → b ≡ false

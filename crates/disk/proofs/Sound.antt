@@ -15,7 +15,7 @@ use Rattle.refusals.specs.Order.{Clear}
 use Rattle.slots.specs.Slot.{facts, mapOf, nameOf, firstOf}
 use Rattle.slots.specs.Name.{sameName}
 use Rattle.slots.specs.Rows.{own}
-use Rattle.slots.proofs.Names.{same-refl, same-is}
+use Rattle.slots.proofs.Names.{same-refl, not-same}
 use Rattle.chains.specs.File.{File}
 use Rattle.chains.specs.Chain.{later}
 use Rattle.chains.proofs.Laws.{map-small}
@@ -89,13 +89,6 @@ module _ (l : Look) where
 
 differ : (a b : List ℕ) → sameName a b ≡ false → a ≡ b → ⊥
 differ a b e p = false≢true (sym e ∙ ap (sameName a) (sym p) ∙ same-refl a)
-
-not-same : (a b : List ℕ) → (a ≡ b → ⊥) → sameName a b ≡ false
-not-same a b h = by (sameName a b) refl
-  where
-    by : (t : Bool) → sameName a b ≡ t → t ≡ false
-    by true q = absurd (h (same-is a b q))
-    by false q = refl
 
 -- ---- the whole disk
 

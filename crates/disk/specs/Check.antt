@@ -7,14 +7,11 @@ use mathlib.Core.Path.{_≡_}
 use lib.Dec.{eqb}
 use Rattle.refusals.specs.Order.{Reply, _else_, row, sweep}
 use Rattle.refusals.specs.Answers.{replyOf}
-use Rattle.refusals.specs.declared.Reason.{Reason}
-use Rattle.refusals.specs.declared.Verdict.the-variants.{Unsound}
 use Rattle.geometry.specs.Disk.{imageSize}
 use Rattle.chains.specs.Chain.{laterReply}
-use Rattle.maps.specs.Bits.{clear}
 use Rattle.directory.specs.Places.{slots}
 use Rattle.directory.specs.Directory.{held, directory}
-use Rattle.directory.specs.Survey.{survey, counted, usedOr, filesOr}
+use Rattle.directory.specs.Survey.{survey, usedOr, filesOr}
 use Rattle.directory.specs.declared.Survey.{Survey}
 use Rattle.disk.specs.Look.{Look, look, slotsOf, extra}
 
@@ -34,7 +31,3 @@ pub record Examined (d : List ℕ) (r : Survey) : Type 0 where
   pub reply : replyOf (r .verdict) ≡ checkDisk d
   pub used : r .used ≡ usedOr (checkDisk d) (directory d)
   pub files : r .files ≡ filesOr (checkDisk d) (directory d)
-
--- what is handed back of a refused disk
-unfoldable pub refusedWith : Reason → ℕ → Survey
-refusedWith n s = record { verdict = Unsound (record { reason = n; slot = s }); used = counted clear; files = 0 }

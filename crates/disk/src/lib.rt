@@ -5,11 +5,9 @@ ghost use Rattle.refusals.specs.Answers.{replyOf};
 ghost use Rattle.directory.specs.Places.{slots};
 ghost use Rattle.directory.specs.Directory.{directory, liveAmong};
 ghost use Rattle.disk.specs.Look.{look};
-ghost use Rattle.disk.specs.Check.{chainAt, checkDisk, Examined, refusedWith};
+ghost use Rattle.disk.specs.Check.{chainAt, checkDisk, Examined};
 use directory::Survey;
-use directory::UsedMap;
 use refusals::Reason;
-use refusals::Refused;
 use refusals::Verdict;
 
 // Rows 10 and 11 at all slots, of which `files` are live: past the last of these there is none to look at.
@@ -35,39 +33,24 @@ fn all_chains(image: &[u8], files: usize) -> Verdict
     Verdict::Sound
 }
 
-fn refused(reason: Reason, slot: usize) -> Survey
-    ensures { λ r. ⌜ r ≡ refusedWith reason slot ⌝ }
-{
-    let verdict = Verdict::Unsound(Refused { reason, slot });
-    let used = UsedMap {
-        bytes: [0; 195],
-        count: 0,
-    };
-    Survey {
-        verdict,
-        used,
-        files: 0,
-    }
-}
-
 // The check with the used map and the number of files of an accepted disk; a clear map and 0 where the disk is refused.
 pub fn examine(image: &[u8]) -> Survey
     ensures { λ r. ⌜ Examined (now (image .entry)) r ⌝ }
 {
     if image.len() != 819200 {
-        return refused(Reason::NotAnImage, 0);
+        return directory::refused(refusals::unsound(Reason::NotAnImage, 0));
     }
     let found = directory::survey_slots(image);
     let verdict = found.verdict;
     match verdict {
         Verdict::Unsound(_) => found,
-        Verdict::Sound => match all_chains(image, found.files) {
-            Verdict::Unsound(r) => {
-                let reason = r.reason;
-                refused(reason, r.slot)
+        Verdict::Sound => {
+            let chained = all_chains(image, found.files);
+            match chained {
+                Verdict::Unsound(_) => directory::refused(chained),
+                Verdict::Sound => found,
             }
-            Verdict::Sound => found,
-        },
+        }
     }
 }
 

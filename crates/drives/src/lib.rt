@@ -1,27 +1,28 @@
 // The raw sector call over the images of drives 1 and 2.
 ghost use mathlib.Core.Path.{_≡_};
 ghost use Rattle.drives.specs.Raw.{rawRefusal, rawSector};
+use refusals::Reason;
 
 // The refusal's number, 0 for none.
 pub fn raw_refusal(one: &[u8], two: &[u8], drive: usize, track: usize, sector: usize) -> usize
     ensures { λ r. ⌜ r ≡ rawRefusal (now (one .entry)) (now (two .entry)) drive track sector ⌝ }
 {
     if one.len() != 819200 {
-        return 1;
+        return refusals::number_of(Reason::NotAnImage);
     }
     if two.len() != 819200 {
-        return 1;
+        return refusals::number_of(Reason::NotAnImage);
     }
     if drive < 1 {
-        return 21;
+        return refusals::number_of(Reason::NoSuchSector);
     }
     if drive > 2 {
-        return 21;
+        return refusals::number_of(Reason::NoSuchSector);
     }
     if geometry::is_sector(track, sector) {
         return 0;
     }
-    21
+    refusals::number_of(Reason::NoSuchSector)
 }
 
 // The 512 bytes of a sector of the chosen drive, uncopied; an empty part on a refusal.

@@ -4,3 +4,4 @@ pub mod Starting
 pub mod Reading
 pub mod Looks
 pub mod Body
+pub mod Asked

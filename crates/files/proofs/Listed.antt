@@ -122,8 +122,8 @@ pub listing-is : (d buf : List ℕ)
 unfolding listLook checkDisk extra
 listing-is d buf = rw (look-slots d)
 
-pub listing-refused : (d buf : List ℕ) (r : Refusal) → checkDisk d ≡ some r → out (refused r) buf ≡ listing d buf
-listing-refused d buf r e = sym (listing-is d buf ∙ rw e)
+listing-barred : (d buf : List ℕ) (r : Refusal) → checkDisk d ≡ some r → out (refused r) buf ≡ listing d buf
+listing-barred d buf r e = sym (listing-is d buf ∙ rw e)
 
 module _ (d buf : List ℕ) (u : UsedMap) (w : Accepted d u) where
   whole : 40960 ≤ length d
@@ -147,7 +147,7 @@ module _ (d buf : List ℕ) (u : UsedMap) (w : Accepted d u) where
 
 -- what a refused check says of the listing, and an accepted one
 pub listing-unsound : (d buf : List ℕ) (s : Survey) (r : Refused) → Examined d s → s .verdict ≡ Unsound r → out (refused (refusalOf r)) buf ≡ listing d buf
-listing-unsound d buf s r w e = listing-refused d buf (refusalOf r) (sym (w .reply) ∙ ap replyOf e)
+listing-unsound d buf s r w e = listing-barred d buf (refusalOf r) (sym (w .reply) ∙ ap replyOf e)
 
 pub sound-files : (d : List ℕ) (s : Survey) → Examined d s → s .verdict ≡ Sound → s .files ≡ liveAmong (directory d) slots
 sound-files d s w e =

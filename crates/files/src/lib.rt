@@ -82,10 +82,11 @@ pub enum Lookup {
     Barred(Refused),
 }
 
-fn barred(reason: Reason) -> Lookup
-    ensures { λ r. ⌜ soughtOf r ≡ barred (refuse (numberOf reason) 0) ⌝ }
+// A lookup that refuses.
+pub fn barred(reason: Reason, slot: usize) -> Lookup
+    ensures { λ r. ⌜ soughtOf r ≡ barred (refuse (numberOf reason) slot) ⌝ }
 {
-    Lookup::Barred(Refused { reason, slot: 0 })
+    Lookup::Barred(Refused { reason, slot })
 }
 
 pub fn look_up(image: &[u8], name: &[u8]) -> Lookup
@@ -95,11 +96,11 @@ pub fn look_up(image: &[u8], name: &[u8]) -> Lookup
         Verdict::Unsound(r) => Lookup::Barred(r),
         Verdict::Sound => {
             if !slots::is_askable(name) {
-                return barred(Reason::NameNotUsable);
+                return barred(Reason::NameNotUsable, 0);
             }
             match directory::find(image, name) {
                 Found::At(i) => Lookup::At(i),
-                Found::Nothing => barred(Reason::NameNotFound),
+                Found::Nothing => barred(Reason::NameNotFound, 0),
             }
         }
     }

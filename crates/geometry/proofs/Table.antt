@@ -15,7 +15,7 @@ unfoldable pub placesFrom : ℕ → List ℕ → Bool
 placesFrom b [] = true
 placesFrom b (x ∷ xs) = eqb x (bitPlace b) && placesFrom (suc b) xs
 
-both : (p q : Bool) → T (p && q) → T p × T q
+pub both : (p q : Bool) → T (p && q) → T p × T q
 both true q t = (tt, t)
 both false q t = absurd t
 

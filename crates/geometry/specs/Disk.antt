@@ -24,7 +24,7 @@ isSector t s = leb 1 s && leb s 10 && (ltb t 80 || leb 128 t && ltb t 208)
 unfoldable pub isData : ℕ → ℕ → Bool
 isData t s = leb 4 t && isSector t s
 
--- "The sector number is that [the place] divided by 512, 0 to 1,599."
+-- "The sector number is that divided by 512, 0 to 1,599.": the place that stands below, divided by 512.
 abbrev pub numberOf : ℕ → ℕ → ℕ
 numberOf t s = (2 * (t % 128) + t / 128) * 10 + s - 1
 

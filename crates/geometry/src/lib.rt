@@ -103,12 +103,28 @@ pub fn address_of(bit: usize) -> Address
     }
 }
 
+fn wide(x: u32) -> usize
+    ensures { λ r. ⌜ r ≡ x ⌝ }
+{
+    x as usize
+}
+
+// The table's entry for a map bit, each of them the place that the rule gives; the image's size where there is no such bit.
+fn entry_of(bit: usize) -> usize
+    ensures { λ r. ⌜ r ≡ placeOrEnd bit ⌝ }
+{
+    if 1560 <= bit {
+        return 819200;
+    }
+    wide(PLACES[bit])
+}
+
 // From the table. A call puts the whole table on the stack, so loops use `bit_place`.
 pub fn place_of_bit(bit: usize) -> Spot
     ensures { λ r. ⌜ r ≡ spotOfBit bit ⌝ }
 {
     if bit < 1560 {
-        Spot::At(PLACES[bit] as usize)
+        Spot::At(entry_of(bit))
     } else {
         Spot::NoSector
     }

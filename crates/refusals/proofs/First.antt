@@ -1,14 +1,14 @@
 -- The first refusal in the order is the first: laws of `else`, of rows at a slot and of sweeps over slots.
 use Prim.Native.Nat.{ℕ, zero, suc, _+_, _-_, _≤_, _<_}
 use mathlib.Core.Path.{_≡_, refl, sym, ap, _∙_, subst}
-use mathlib.Core.Bool.{Bool, true, false, cond}
+use mathlib.Core.Bool.{Bool, true, false, cond, true≢false}
 use mathlib.Core.List.{List, [], _∷_}
 use mathlib.Core.Logic.{_⊎_, inl, inr, ⊎-elim}
-use mathlib.Core.Option.{Option, none, some, Option·some-ne-none}
+use mathlib.Core.Option.{Option, none, some, Option·some-ne-none, Option·some-injective}
 use native.Mathlib.Nat.{eq-or-lt-of-le}
 use native.Mathlib.Numerals.{add-one}
 use native.Mathlib.Omega.{arith}
-use Rattle.refusals.specs.Order.{Refusal, refuse, _else_, Row, rows, sweepFrom, sweep, Clear, FirstRow, FirstAt}
+use Rattle.refusals.specs.Order.{Refusal, refuse, Reply, _else_, Row, rows, row, sweepFrom, sweep, Clear, FirstRow, FirstAt, SlotRow, NoRow, FirstOf}
 
 -- ---- the first of two
 
@@ -54,6 +54,39 @@ rows-first s (r ∷ rs) x e = by (r .holds) refl e (rows-first s rs x)
 pub first-rows : (s : ℕ) (rs : List Row) (n : ℕ) → FirstRow n rs → rows s rs ≡ some (refuse n s)
 first-rows s [] n f = absurd f
 first-rows s (r ∷ rs) n f = ⊎-elim (λ c. rw (c .0) (ap (λ (m : ℕ). some (refuse m s)) (c .1))) (λ c. rw (c .0) (first-rows s rs n (c .1))) f
+
+-- ---- rows with their slots
+
+-- the first that holds, as a reply
+abbrev pub firstRow : List SlotRow → Reply
+firstRow [] = none
+firstRow (r ∷ rs) = cond (r .holds) (some (refuse (r .number) (r .slot))) (firstRow rs)
+
+-- one row, and then what is refused after it
+pub row-else : (n s : ℕ) (t : Bool) (q : Reply) → row n s t else q ≡ cond t (some (refuse n s)) q
+row-else n s true q = refl
+row-else n s false q = refl
+
+-- it is the refusal of a row that holds and has none before it, and only such a one
+pub row-first : (rs : List SlotRow) (r : Refusal) → firstRow rs ≡ some r → FirstOf r rs
+row-first [] r e = absurd (Option·some-ne-none r (sym e))
+row-first (x ∷ rs) r e = by (x .holds) refl e (row-first rs r)
+  where
+    by : (t : Bool) → x .holds ≡ t → cond t (some (refuse (x .number) (x .slot))) (firstRow rs) ≡ some r
+        → (firstRow rs ≡ some r → FirstOf r rs) → FirstOf r (x ∷ rs)
+    by true q w k = let z : _≡_ {A = Refusal} (refuse (x .number) (x .slot)) r = cc in inl (q, z)
+    by false q w k = inr (q, k w)
+
+pub first-row : (rs : List SlotRow) (r : Refusal) → FirstOf r rs → firstRow rs ≡ some r
+first-row [] r f = absurd f
+first-row (x ∷ rs) r f = ⊎-elim (λ a. rw (a .0) (ap some (a .1))) (λ a. rw (a .0) (first-row rs r (a .1))) f
+
+pub first-same : (rs : List SlotRow) (x y : Refusal) → FirstOf x rs → FirstOf y rs → x ≡ y
+first-same rs x y p q = Option·some-injective x y (sym (first-row rs x p) ∙ first-row rs y q)
+
+pub first-none : (rs : List SlotRow) (x : Refusal) → FirstOf x rs → NoRow rs → ⊥
+first-none [] x p q = p
+first-none (r ∷ rs) x p q = ⊎-elim (λ a. true≢false (sym (a .0) ∙ q .0)) (λ a. first-none rs x (a .1) (q .1)) p
 
 -- ---- sweeps
 

@@ -1,10 +1,11 @@
 -- The first refusal in a fixed order: rows at a slot, slots from the lowest, one pass after another.
-use Prim.Native.Nat.{ℕ, zero, suc, _<_}
+use Prim.Native.Nat.{ℕ, zero, suc, _≤_, _<_}
 use mathlib.Core.Path.{_≡_}
-use mathlib.Core.Bool.{Bool, true, false, cond}
-use mathlib.Core.List.{List, [], _∷_}
+use mathlib.Core.Bool.{Bool, true, false, cond, _&&_}
+use mathlib.Core.List.{List, [], _∷_, map}
 use mathlib.Core.Logic.{_⊎_}
 use mathlib.Core.Option.{Option, none, some}
+use lib.Dec.{ltb}
 
 -- "A refused call returns the number, and the slot ..": the table's number, and the slot, from 1, or 0
 pub record Refusal : Type 0 where
@@ -71,3 +72,49 @@ pub record FirstAt {A : Type 0} (n : ℕ) (f : ℕ → Option A) (a : A) : Type 
   pub below : at < n
   pub before : (k : ℕ) → k < at → f k ≡ none
   pub here : f at ≡ some a
+
+-- ---- rows, each with its slot
+
+-- a row of the table: its number, and the slot that it is given at, where its test holds
+pub record SlotRow : Type 0 where
+  pub number : ℕ
+  pub slot : ℕ
+  pub holds : Bool
+
+abbrev pub rowAt : ℕ → ℕ → Bool → SlotRow
+rowAt n s t = record { number = n; slot = s; holds = t }
+
+-- no row holds
+abbrev pub NoRow : List SlotRow → Type 0
+NoRow [] = Unit {0}
+NoRow (r ∷ rs) = (r .holds ≡ false) × NoRow rs
+
+-- a refusal whose row holds, and no row before it does
+abbrev pub FirstOf : Refusal → List SlotRow → Type 0
+FirstOf x [] = ⊥
+FirstOf x (r ∷ rs) = ((r .holds ≡ true) × (refuse (r .number) (r .slot) ≡ x)) ⊎ ((r .holds ≡ false) × FirstOf x rs)
+
+-- the same rows without their slots
+abbrev pub bare : List SlotRow → List Row
+bare rs = map (λ (r : SlotRow). r .number when r .holds) rs
+
+-- ---- the lowest number
+
+-- each number is above the one before it, and the first above n
+abbrev pub risesFrom : ℕ → List Row → Bool
+risesFrom n [] = true
+risesFrom n (r ∷ rs) = ltb n (r .number) && risesFrom (r .number) rs
+
+-- the numbers rise, and none is 0
+abbrev pub rises : List Row → Bool
+rises rs = risesFrom 0 rs
+
+-- a row with that number holds
+abbrev pub Applies : ℕ → List Row → Type 0
+Applies n [] = ⊥
+Applies n (r ∷ rs) = ((r .holds ≡ true) × (r .number ≡ n)) ⊎ Applies n rs
+
+-- "the lowest that applies"
+pub record Lowest (n : ℕ) (rs : List Row) : Type 0 where
+  pub applies : Applies n rs
+  pub least : (m : ℕ) → Applies m rs → n ≤ m

@@ -1,7 +1,7 @@
 -- Laws of names: when two are the same, and names filled to ten bytes.
 use Prim.Native.Nat.{ℕ, _+_, _-_, _≤_, _<_}
 use mathlib.Core.Path.{_≡_, refl, sym, ap, ap₂, _∙_}
-use mathlib.Core.Bool.{Bool, true, false, _&&_, false≢true}
+use mathlib.Core.Bool.{Bool, true, false, false≢true}
 use mathlib.Core.List.{List, [], _∷_}
 use mathlib.Core.Logic.{⊎-elim}
 use native.Mathlib.Numerals.{add-one}
@@ -13,16 +13,13 @@ use lib.ListN.{length, getD, drop, replicate, length-append, length-replicate, g
 use lib.Seq.{drop-cons, getD-append-add, ext-getD, take-all}
 use Rattle.buffers.specs.Bytes.{part, put, wordOr}
 use Rattle.buffers.proofs.Lists.{length-put, length-part, part-at, put-in, put-after, below-or-not}
+use Rattle.buffers.proofs.Tests.{and-both}
 use Rattle.slots.specs.Name.{sameName, padded, keyOf}
 
 pub same-refl : (xs : List ℕ) → sameName xs xs ≡ true
 unfolding sameName
 same-refl [] = refl
 same-refl (x ∷ xs) = rw (eq-eqb x x refl) (same-refl xs)
-
-and-true : (a b : Bool) → (a && b) ≡ true → (a ≡ true) × (b ≡ true)
-and-true true b e = (refl, e)
-and-true false b e = absurd (false≢true e)
 
 -- two names are the same exactly where their bytes are
 pub same-is : (xs ys : List ℕ) → sameName xs ys ≡ true → xs ≡ ys
@@ -31,14 +28,17 @@ same-is [] [] e = refl
 same-is [] (y ∷ ys) e = absurd (false≢true e)
 same-is (x ∷ xs) [] e = absurd (false≢true e)
 same-is (x ∷ xs) (y ∷ ys) e =
-    let c = and-true (eqb x y) (sameName xs ys) e in ap₂ {C = List ℕ} (λ a l. a ∷ l) (eqb-true x y (c .0)) (same-is xs ys (c .1))
+    let c = and-both (eqb x y) (sameName xs ys) e in ap₂ {C = List ℕ} (λ a l. a ∷ l) (eqb-true x y (c .0)) (same-is xs ys (c .1))
+
+pub not-same : (xs ys : List ℕ) → (xs ≡ ys → ⊥) → sameName xs ys ≡ false
+not-same xs ys h = by (sameName xs ys) refl
+  where
+    by : (t : Bool) → sameName xs ys ≡ t → t ≡ false
+    by true e = absurd (h (same-is xs ys e))
+    by false e = refl
 
 pub same-lengths : (xs ys : List ℕ) → (length xs ≡ length ys → ⊥) → false ≡ sameName xs ys
-same-lengths xs ys h = by (sameName xs ys) refl
-  where
-    by : (t : Bool) → sameName xs ys ≡ t → false ≡ t
-    by true e = absurd (h (ap length (same-is xs ys e)))
-    by false e = refl
+same-lengths xs ys h = sym (not-same xs ys (λ e. h (ap length e)))
 
 -- as a loop compares them, from i on
 pub same-more : (xs ys : List ℕ) (i : ℕ) → i < length xs → i < length ys → getD xs i 0 ≡ getD ys i 0
@@ -105,8 +105,4 @@ key-is n a b p q = ap₂ bitXor p q
 
 -- other keys, other names
 pub keys-differ : (xs ys : List ℕ) → (keyOf xs ≡ keyOf ys → ⊥) → sameName xs ys ≡ false
-keys-differ xs ys h = by (sameName xs ys) refl
-  where
-    by : (t : Bool) → sameName xs ys ≡ t → t ≡ false
-    by true e = absurd (h (ap keyOf (same-is xs ys e)))
-    by false e = refl
+keys-differ xs ys h = not-same xs ys (λ e. h (ap keyOf e))

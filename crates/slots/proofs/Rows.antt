@@ -1,15 +1,15 @@
 -- The reply of rows 2 to 7 by the tests that lead to it.
 use Prim.Native.Nat.{ℕ, _+_, _*_}
-use mathlib.Core.Path.{_≡_, ap, sym, _∙_}
+use mathlib.Core.Path.{_≡_, refl, ap, sym, _∙_}
 use mathlib.Core.Bool.{Bool, true, false, cond, _&&_}
 use mathlib.Core.List.{List}
 use mathlib.Core.Option.{none, some}
 use lib.Dec.{eqb, leb, ltb}
 use lib.ListN.{getD}
 use Rattle.maps.specs.Bits.{has, bitsOf}
-use Rattle.refusals.specs.Order.{Reply, refuse}
-use Rattle.slots.specs.Slot.{facts, kindOf, countOf, firstOf, mapOf, known, carried, lengthOf}
-use Rattle.slots.specs.Rows.{ownReply, dataCount}
+use Rattle.refusals.specs.Order.{Reply, refuse, rises}
+use Rattle.slots.specs.Slot.{Facts, facts, kindOf, countOf, firstOf, mapOf, known, carried, lengthOf}
+use Rattle.slots.specs.Rows.{own, ownReply, dataCount}
 
 abbrev pub inRange : List ℕ → Bool
 inRange s = leb 1 (countOf s) && leb (countOf s) 1560
@@ -62,3 +62,7 @@ module _ (i : ℕ) (s : List ℕ) where
 
   pub at-free : Past6 s → carried (kindOf s) ≡ false → none ≡ ownReply 0 i s
   at-free a b = at-none a (rw b)
+
+-- "at a slot the lowest number": the rows stand in the order of their numbers
+pub own-rises : (n : ℕ) (x : Facts) → rises (own n x) ≡ true
+own-rises n x = refl

@@ -10,16 +10,13 @@ use lib.Dec.{eqb}
 use lib.ListN.{length, getD, take, drop, length-append, take-append-drop}
 use lib.Seq.{ext-getD, take-append-le, take-length}
 use Rattle.buffers.proofs.Lists.{below-or-not, past-end, length-tab, getD-tab, part-at, part-ext}
+use Rattle.buffers.proofs.Tests.{or-neither}
 use Rattle.steps.specs.Sectors.{sector, listed, Once, cut}
 
 -- ---- listed numbers
 
-or-no : (t u : Bool) → (t || u) ≡ false → (t ≡ false) × (u ≡ false)
-or-no true u e = absurd (true≢false e)
-or-no false u e = (refl, e)
-
 pub listed-no : (a x : ℕ) (xs : List ℕ) → listed a (x ∷ xs) ≡ false → (a ≢ x) × (listed a xs ≡ false)
-listed-no a x xs e = let c = or-no (eqb a x) (listed a xs) e in (eqb-false a x (c .0), c .1)
+listed-no a x xs e = let c = or-neither (eqb a x) (listed a xs) e in (eqb-false a x (c .0), c .1)
 
 pub listed-head : (a : ℕ) (xs : List ℕ) → listed a (a ∷ xs) ≡ true
 listed-head a xs = rw (eq-eqb a a refl)
@@ -52,7 +49,7 @@ once-apart (x ∷ xs) (suc k) a o e = by (eqb a x) refl e (once-apart xs k a (o 
   where
     by : (t : Bool) → eqb a x ≡ t → (t || listed a (take k xs)) ≡ true → (listed a (take k xs) ≡ true → listed a (drop k xs) ≡ false)
         → listed a (drop k xs) ≡ false
-    by true q w f = or-no (listed a (take k xs)) (listed a (drop k xs)) (sym (listed-split a k xs) ∙ ap (λ (y : ℕ). listed y xs) (eqb-true a x q) ∙ o .0) .1
+    by true q w f = or-neither (listed a (take k xs)) (listed a (drop k xs)) (sym (listed-split a k xs) ∙ ap (λ (y : ℕ). listed y xs) (eqb-true a x q) ∙ o .0) .1
     by false q w f = f w
 
 pub once-snoc : (xs : List ℕ) (a : ℕ) → Once xs → listed a xs ≡ false → Once (xs ++ (a ∷ []))

@@ -8,8 +8,13 @@ use Rattle.chains.proofs.later_rows.Tie as tie
 chain-broken-requires : tie.Need-chain-broken-requires
 chain-broken-requires c κs = search needs
 
+unsound-requires : tie.Need-unsound-requires
+unsound-requires c κs = search needs
+
 returns : tie.Need-returns
-returns c = later-broken _ _ _ (sym (c .before .chain-broken .ensures) ∙ c .if1 .taken)
+returns c =
+    let b = c .before in
+    c .unsound .ensures ∙ later-broken _ _ _ (sym (b .before .chain-broken .ensures) ∙ b .if1 .taken)
 
 kind-of-requires : tie.Need-kind-of-requires
 kind-of-requires c κs = search needs
@@ -26,13 +31,18 @@ sector-at-requires c κs = search needs
 header-differs-requires : tie.Need-header-differs-requires
 header-differs-requires c κs = search needs
 
+unsound-requires-2 : tie.Need-unsound-requires-2
+unsound-requires-2 c κs = search needs
+
 returns-2 : tie.Need-returns-2
 returns-2 c =
-    let f = c .before .before .before in
+    let h = c .before in
+    let f = h .before .before .before in
     let k = f .before .before in
     let b = k .before .before in
-    later-differs _ _ _ (sym (b .before .chain-broken .ensures) ∙ b .if1 .left) _ _ _ (k .before .kind-of .ensures .0) (sym (k .is-carried .ensures) ∙ f .before .if2 .taken)
-    (f .first-of .ensures .0) (c .before .before .sector-at .ensures) (sym (c .before .header-differs .ensures) ∙ c .if3 .taken)
+    c .unsound2 .ensures
+    ∙ later-differs _ _ _ (sym (b .before .chain-broken .ensures) ∙ b .if1 .left) _ _ _ (k .before .kind-of .ensures .0) (sym (k .is-carried .ensures) ∙ f .before .if2 .taken)
+    (f .first-of .ensures .0) (h .before .before .sector-at .ensures) (sym (h .before .header-differs .ensures) ∙ h .if3 .taken)
 
 returns-3 : tie.Need-returns-3
 returns-3 c =
@@ -53,12 +63,14 @@ later-rows-spec =
     tie.close
     (tie.spec
     chain-broken-requires
+    unsound-requires
     returns
     kind-of-requires
     is-carried-requires
     first-of-requires
     sector-at-requires
     header-differs-requires
+    unsound-requires-2
     returns-2
     returns-3
     returns-4)

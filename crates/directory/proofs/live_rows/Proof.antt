@@ -1,4 +1,5 @@
 -- `directory::live_rows` meets its contract: its own rows first, then the two against the slots before it.
+use mathlib.Core.Path.{_∙_}
 use Rattle.directory.proofs.Pass.{slot-own, slot-shared, slot-twice, slot-clear}
 use borrow.Author.Needs.{needs}
 use Rattle.directory.proofs.live_rows.Statement.{statement}
@@ -22,12 +23,17 @@ map-of-requires c κs = search needs
 shares-requires : tie.Need-shares-requires
 shares-requires c κs = search needs
 
+unsound-requires : tie.Need-unsound-requires
+unsound-requires c κs = search needs
+
 returns : tie.Need-returns
 returns c =
-    let m = c .before .before in
+    let t = c .before in
+    let m = t .before .before in
     let o = m .before .before .before in
     let p = o .before .before .before .before .before .pre in
-    slot-shared _ _ _ _ (p .here) (p .used) _ (o .own-rows .ensures) (m .before .enum-told .given .1) (m .map-of .ensures) (c .before .shares .ensures) (c .if1 .taken)
+    c .unsound .ensures
+    ∙ slot-shared _ _ _ _ (p .here) (p .used) _ (o .own-rows .ensures) (m .before .enum-told .given .1) (m .map-of .ensures) (t .before .shares .ensures) (t .if1 .taken)
 
 name-of-requires : tie.Need-name-of-requires
 name-of-requires c κs = search needs
@@ -35,14 +41,19 @@ name-of-requires c κs = search needs
 named-before-requires : tie.Need-named-before-requires
 named-before-requires c κs = search needs
 
+unsound-requires-2 : tie.Need-unsound-requires-2
+unsound-requires-2 c κs = search needs
+
 returns-2 : tie.Need-returns-2
 returns-2 c =
-    let n = c .before .before in
+    let t = c .before in
+    let n = t .before .before in
     let m = n .before .before .before in
     let o = m .before .before .before in
     let p = o .before .before .before .before .before .pre in
-    slot-twice _ _ _ _ (p .here) (p .used) _ (o .own-rows .ensures) (m .before .enum-told .given .1) (m .map-of .ensures) (n .before .before .shares .ensures)
-    (n .before .if1 .left) (n .name-of .ensures) (c .before .named-before .ensures) (c .if2 .taken)
+    c .unsound2 .ensures
+    ∙ slot-twice _ _ _ _ (p .here) (p .used) _ (o .own-rows .ensures) (m .before .enum-told .given .1) (m .map-of .ensures) (n .before .before .shares .ensures)
+    (n .before .if1 .left) (n .name-of .ensures) (t .before .named-before .ensures) (t .if2 .taken)
 
 returns-3 : tie.Need-returns-3
 returns-3 c =
@@ -69,9 +80,11 @@ live-rows-spec =
     enum-told
     map-of-requires
     shares-requires
+    unsound-requires
     returns
     name-of-requires
     named-before-requires
+    unsound-requires-2
     returns-2
     returns-3
     returns-4)

@@ -52,15 +52,15 @@ live-rows-requires c κs =
 enum-known-f : tie.Need-enum-known-f Inv-loop μ-loop
 enum-known-f c = search needs
 
-unused-requires-2 : tie.Need-unused-requires-2 Inv-loop μ-loop
-unused-requires-2 c κs = search needs
+refused-requires : tie.Need-refused-requires Inv-loop μ-loop
+refused-requires c κs = search needs
 
 returns : tie.Need-returns Inv-loop μ-loop
 returns c =
     let f = c .before .before in
     let l = f .before .before .before .before .before .before .before .before .before .before in
     let a = l .before .loop in
-    pass-stops _ _ (a .i) (a .inv .2) _ (omega (arith, l .before .before .before .slots-read .ensures .0)) refl (ap replyOf (sym (f .f .given .1)) ∙ f .before .before .live-rows .ensures) (c .unused2 .ensures) refl
+    pass-stops _ _ (a .i) (a .inv .2) _ (omega (arith, l .before .before .before .slots-read .ensures .0)) (ap replyOf (sym (f .f .given .1)) ∙ f .before .before .live-rows .ensures) (c .refused .ensures)
 
 enum-told : tie.Need-enum-told Inv-loop μ-loop
 enum-told c = search needs
@@ -138,7 +138,7 @@ survey-slots-spec =
     slice-aggregate-live-rows
     live-rows-requires
     enum-known-f
-    unused-requires-2
+    refused-requires
     returns
     enum-told
     name-of-requires
