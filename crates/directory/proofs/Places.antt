@@ -8,7 +8,7 @@ use borrow.Author.Tests.{leb-true, ltb-true, le-leb, lt-ltb, le-ltb}
 use lib.Dec.{leb, ltb}
 use Rattle.geometry.specs.Disk.{imageSize, bitNumber, bitPlace}
 use Rattle.geometry.proofs.Laws.{number-second, number-from}
-use Rattle.geometry.proofs.Tests.{split}
+use Rattle.buffers.proofs.Lists.{below-or-not}
 use Rattle.directory.specs.Places.{slotCount, slots, slotAt, slotPlace, dirSector, dataBit}
 
 -- four tracks hold the slots
@@ -58,12 +58,12 @@ unfolding slotCount dirSector
 dir-not-data n b i h e l q =
     ⊎-elim (λ (k : b < 760). omega (arith, number-from (4 + n) b (omega arith) k (omega (arith, data-bounds n b e))))
     (λ (k : 760 ≤ b). omega (arith, number-second b k (data-bounds n b e .1)))
-    (split b 760)
+    (below-or-not b 760)
 
 pub slot-data-apart : (n b i : ℕ) → n ≤ 35 → dataBit n b ≡ true → i < slotCount n → (slotAt i + 256 ≤ bitPlace b) ⊎ (bitPlace b + 512 ≤ slotAt i)
 slot-data-apart n b i h e l =
     ⊎-elim (λ (k : dirSector i < bitNumber b). inl (omega (arith, slot-sector i)))
-    (λ (k : bitNumber b ≤ dirSector i). inr (omega (arith, slot-sector i, apart))) (split (dirSector i) (bitNumber b))
+    (λ (k : bitNumber b ≤ dirSector i). inr (omega (arith, slot-sector i, apart))) (below-or-not (dirSector i) (bitNumber b))
   where
     apart : bitNumber b ≡ dirSector i → ⊥
     apart q = dir-not-data n b i h e l q

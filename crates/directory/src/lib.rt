@@ -15,6 +15,9 @@ ghost use Rattle.directory.specs.Steps.{Apart, Keyed, Reached, Surveyed}
 use refusals::Reason;
 use refusals::Verdict;
 
+// The slots of the directory.
+pub const SLOTS: usize = 80;
+
 // The used map: 195 map bytes together with their number of set bits.
 pub struct UsedMap {
     pub bytes: [u8; 195],
@@ -39,8 +42,8 @@ pub enum Found {
 pub fn slot_place(i: usize) -> usize
     ensures { λ r. ⌜ (r ≡ slotPlace i) × (r ≤ 819200) ⌝ }
 {
-    if 80 <= i {
-        return 819200;
+    if SLOTS <= i {
+        return geometry::IMAGE_SIZE;
     }
     i / 20 * 10240 + i % 20 * 256
 }
@@ -56,14 +59,14 @@ pub fn dir_sector(i: usize) -> usize
 pub fn slots_read(dir: &[u8]) -> usize
     ensures { λ r. ⌜ (r ≡ slotsRead (now (dir .entry))) × (r ≤ 80) ⌝ }
 {
-    80
+    SLOTS
 }
 
 // The 256 bytes of slot `i`, counted from 0, uncopied; none past the last slot.
 pub fn slot_at(dir: &[u8], i: usize) -> &[u8]
     ensures { λ r. ⌜ now r ≡ slotOr (now (dir .entry)) i ⌝ }
 {
-    if 80 <= i {
+    if SLOTS <= i {
         return buffers::part_at(dir, 0, 0);
     }
     buffers::part_at(dir, slot_place(i), 256)
@@ -161,7 +164,7 @@ pub fn survey_slots(dir: &[u8]) -> Survey
 {
     let end = slots_read(dir);
     let mut used = unused();
-    let mut keys = [0u64; 80];
+    let mut keys = [0u64; SLOTS];
     let mut files: usize = 0;
     let mut i: usize = 0;
     while i < end {
@@ -214,8 +217,8 @@ pub fn free_of(used: UsedMap) -> usize
     ensures { λ r. ⌜ r ≡ freeOf 0 used ⌝ }
 {
     let count = used.count;
-    if 1560 < count {
+    if geometry::DATA_SECTORS < count {
         return 0;
     }
-    1560 - count
+    geometry::DATA_SECTORS - count
 }

@@ -37,7 +37,7 @@ fn all_chains(image: &[u8], files: usize) -> Verdict
 pub fn examine(image: &[u8]) -> Survey
     ensures { λ r. ⌜ Examined (now (image .entry)) r ⌝ }
 {
-    if image.len() != 819200 {
+    if image.len() != geometry::IMAGE_SIZE {
         return directory::refused(refusals::unsound(Reason::NotAnImage, 0));
     }
     let found = directory::survey_slots(image);

@@ -7,10 +7,10 @@ use refusals::Reason;
 pub fn raw_refusal(one: &[u8], two: &[u8], drive: usize, track: usize, sector: usize) -> usize
     ensures { λ r. ⌜ r ≡ rawRefusal (now (one .entry)) (now (two .entry)) drive track sector ⌝ }
 {
-    if one.len() != 819200 {
+    if one.len() != geometry::IMAGE_SIZE {
         return refusals::number_of(Reason::NotAnImage);
     }
-    if two.len() != 819200 {
+    if two.len() != geometry::IMAGE_SIZE {
         return refusals::number_of(Reason::NotAnImage);
     }
     if drive < 1 {

@@ -21,6 +21,9 @@ use refusals::Reason;
 use refusals::Refused;
 use refusals::Verdict;
 
+// The bytes of an entry of a listing.
+pub const ENTRY_BYTES: usize = 258;
+
 // Puts a slot's number, low byte first, and its bytes at a place of a buffer.
 fn put_entry(buf: &mut [u8], at: usize, number: usize, s: &[u8])
     requires { ⌜ (at ≤ 20640) × (number ≤ 80) ⌝ }
@@ -43,7 +46,7 @@ fn list_into(dir: &[u8], end: usize, buf: &mut [u8])
         i += 1;
         if slots::is_live(s) {
             put_entry(buf, at, i, s);
-            at += 258;
+            at += ENTRY_BYTES;
         }
     }
 }
@@ -53,7 +56,7 @@ fn list_accepted(image: &[u8], used: UsedMap, files: usize, buf: &mut [u8]) -> A
     requires { ⌜ Accepted (now image) used × (files ≡ liveAmong (directory (now image)) slots) ⌝ }
     ensures { λ r. ⌜ out (outcomeOf r) (now (buf .exit)) ≡ listing (now (image .entry)) (now (buf .entry)) ⌝ }
 {
-    let end = 258 * files;
+    let end = ENTRY_BYTES * files;
     if buf.len() < end {
         return refusals::no(Reason::BufferTooShort, 0);
     }

@@ -8,6 +8,12 @@ mod places;
 
 use places::PLACES;
 
+// The bytes of an image.
+pub const IMAGE_SIZE: usize = 819200;
+
+// The sectors that the map has a bit for.
+pub const DATA_SECTORS: usize = 1560;
+
 // Where a sector begins in the image.
 pub enum Spot {
     At(usize),
@@ -75,7 +81,7 @@ pub fn bit_or_end(track: usize, sector: usize) -> usize
             760 + (track - 128) * 10 + sector - 1
         }
     } else {
-        1560
+        DATA_SECTORS
     }
 }
 
@@ -83,7 +89,7 @@ pub fn bit_of(track: usize, sector: usize) -> MapBit
     ensures { λ r. ⌜ r ≡ mapBitOf track sector ⌝ }
 {
     let bit = bit_or_end(track, sector);
-    if bit < 1560 {
+    if bit < DATA_SECTORS {
         MapBit::Bit(bit)
     } else {
         MapBit::NotData
@@ -93,7 +99,7 @@ pub fn bit_of(track: usize, sector: usize) -> MapBit
 pub fn address_of(bit: usize) -> Address
     ensures { λ r. ⌜ r ≡ addressOf bit ⌝ }
 {
-    if bit >= 1560 {
+    if bit >= DATA_SECTORS {
         return Address::NoBit;
     }
     if bit < 760 {
@@ -113,8 +119,8 @@ fn wide(x: u32) -> usize
 fn entry_of(bit: usize) -> usize
     ensures { λ r. ⌜ r ≡ placeOrEnd bit ⌝ }
 {
-    if 1560 <= bit {
-        return 819200;
+    if DATA_SECTORS <= bit {
+        return IMAGE_SIZE;
     }
     wide(PLACES[bit])
 }
@@ -123,7 +129,7 @@ fn entry_of(bit: usize) -> usize
 pub fn place_of_bit(bit: usize) -> Spot
     ensures { λ r. ⌜ r ≡ spotOfBit bit ⌝ }
 {
-    if bit < 1560 {
+    if bit < DATA_SECTORS {
         Spot::At(entry_of(bit))
     } else {
         Spot::NoSector
@@ -137,10 +143,10 @@ pub fn bit_place(bit: usize) -> usize
     if bit < 760 {
         return (20 * (4 + bit / 10) + bit % 10) * 512;
     }
-    if bit < 1560 {
+    if bit < DATA_SECTORS {
         return (20 * ((bit - 760) / 10) + 10 + bit % 10) * 512;
     }
-    819200
+    IMAGE_SIZE
 }
 
 // The place of a data sector, from its address, with no division by 10: the image's size where it is none.
@@ -150,6 +156,6 @@ pub fn data_place(track: usize, sector: usize) -> usize
     if is_data(track, sector) {
         ((2 * (track % 128) + track / 128) * 10 + sector - 1) * 512
     } else {
-        819200
+        IMAGE_SIZE
     }
 }

@@ -8,6 +8,9 @@ ghost use lib.ListN.{length};
 ghost use Rattle.buffers.specs.Bytes.{count, any};
 ghost use Rattle.maps.specs.Bits.{has, bitsOf, share, join, marked};
 
+// The bytes of a map.
+pub const MAP_BYTES: usize = 195;
+
 // On bytes: or, and, the number of set bits. The compiler inlines them.
 fn or8(x: u8, y: u8) -> u8
     ensures { λ r. ⌜ r ≡ bitOr x y ⌝ }
@@ -77,7 +80,7 @@ fn bits_in(m: &[u8], n: usize) -> usize
 pub fn bits_of(m: &[u8]) -> usize
     ensures { λ r. ⌜ (r ≡ bitsOf (now (m .entry))) × (r ≤ 1560) ⌝ }
 {
-    let n = buffers::lesser(195, m.len());
+    let n = buffers::lesser(MAP_BYTES, m.len());
     bits_in(m, n)
 }
 
@@ -99,7 +102,7 @@ fn shares_in(m: &[u8], d: &[u8], n: usize) -> bool
 pub fn shares(m: &[u8], d: &[u8]) -> bool
     ensures { λ r. ⌜ r ≡ share (now (m .entry)) (now (d .entry)) ⌝ }
 {
-    let n = buffers::lesser(195, buffers::lesser(m.len(), d.len()));
+    let n = buffers::lesser(MAP_BYTES, buffers::lesser(m.len(), d.len()));
     shares_in(m, d, n)
 }
 

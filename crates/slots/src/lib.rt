@@ -80,7 +80,7 @@ pub fn first_of(s: &[u8]) -> usize
 pub fn map_of(s: &[u8]) -> &[u8]
     ensures { λ r. ⌜ now r ≡ mapOf (now (s .entry)) ⌝ }
 {
-    buffers::part_at(s, 15, 195)
+    buffers::part_at(s, 15, maps::MAP_BYTES)
 }
 
 pub fn page_of(s: &[u8]) -> usize
@@ -175,7 +175,7 @@ pub fn own_rows(s: &[u8], slot: usize) -> Verdict
     if count < 1 {
         return refusals::unsound(Reason::CountOutOfRange, slot);
     }
-    if 1560 < count {
+    if geometry::DATA_SECTORS < count {
         return refusals::unsound(Reason::CountOutOfRange, slot);
     }
     let map = map_of(s);
