@@ -71,9 +71,10 @@ module _ (d s : List ℕ) where
   unfolding broken facts
   outside b e h = rw (← e, h)
 
-  pub start : (b n a : ℕ) (m : List ℕ) → b ≡ firstOf s → n ≡ countOf s → a ≡ placeOrEnd b → has (mapOf s) b ≡ true → m ≡ marked clear b → Walked d s m n b a
+  pub start : (b n a : ℕ) (m : List ℕ) → b ≡ firstOf s → n ≡ countOf s → a ≡ placeOrEnd (firstOf s) → has (mapOf s) b ≡ true → m ≡ marked clear b → Walked d s m n b a
   unfolding broken facts
-  start b n a m e f g h k = record { own = h; place = g; passed = λ c. false; marks = first-mark m b (map-small s b h) k; rest = rw (← e, h, ← f) }
+  start b n a m e f g h k =
+      record { own = h; place = g ∙ ap placeOrEnd (sym e); passed = λ c. false; marks = first-mark m b (map-small s b h) k; rest = rw (← e, h, ← f) }
 
   -- the part that the code takes is the bit's sector
   here : (h m : List ℕ) (left b a : ℕ) → Walked d s m left b a → h ≡ part a 512 d → sectorsOf d s b ≡ h
@@ -125,16 +126,16 @@ module _ (d s : List ℕ) (n : ℕ) where
 
 -- the chain is not broken, so that the first sector h is the file's
 module _ (d s : List ℕ) (n : ℕ) (sound : broken (facts s) (sectorsOf d s) ≡ false) where
-  header : (b : ℕ) (h : List ℕ) → b ≡ firstOf s → h ≡ part (placeOrEnd b) 512 d → sectorsOf d s (firstOf s) ≡ h
+  header : (a : ℕ) (h : List ℕ) → a ≡ placeOrEnd (firstOf s) → h ≡ part a 512 d → sectorsOf d s (firstOf s) ≡ h
   unfolding facts linked
-  header b h f g = read d s (firstOf s) h (chain-steps (facts s) (sectorsOf d s) sound .own 0 (omega arith)) (g ∙ ap (λ (x : ℕ). part (placeOrEnd x) 512 d) f)
+  header a h f g = read d s (firstOf s) h (chain-steps (facts s) (sectorsOf d s) sound .own 0 (omega arith)) (g ∙ ap (λ (x : ℕ). part x 512 d) f)
 
-  pub later-differs : (k b : ℕ) (h : List ℕ) → k ≡ kindOf s → carried k ≡ true → b ≡ firstOf s → h ≡ part (placeOrEnd b) 512 d → headerDiffers (facts s) h ≡ true
+  pub later-differs : (k a : ℕ) (h : List ℕ) → k ≡ kindOf s → carried k ≡ true → a ≡ placeOrEnd (firstOf s) → h ≡ part a 512 d → headerDiffers (facts s) h ≡ true
       → some (refuse 11 n) ≡ laterReply n (fileOf d s)
-  later-differs k b h f g i j m = rw (later-is d s n, sound, ← f, g, header b h i j, m)
+  later-differs k a h f g i j m = rw (later-is d s n, sound, ← f, g, header a h i j, m)
 
-  pub later-same : (b : ℕ) (h : List ℕ) → b ≡ firstOf s → h ≡ part (placeOrEnd b) 512 d → headerDiffers (facts s) h ≡ false → none ≡ laterReply n (fileOf d s)
-  later-same b h i j m = rw (later-is d s n, sound, header b h i j, m, and-false)
+  pub later-same : (a : ℕ) (h : List ℕ) → a ≡ placeOrEnd (firstOf s) → h ≡ part a 512 d → headerDiffers (facts s) h ≡ false → none ≡ laterReply n (fileOf d s)
+  later-same a h i j m = rw (later-is d s n, sound, header a h i j, m, and-false)
 
   pub later-other : (k : ℕ) → k ≡ kindOf s → carried k ≡ false → none ≡ laterReply n (fileOf d s)
   later-other k f g = rw (later-is d s n, sound, ← f, g)

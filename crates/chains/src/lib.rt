@@ -1,20 +1,19 @@
 // The chain of a file: rows 10 and 11 of the table at one slot.
 ghost use mathlib.Core.Path.{_≡_};
 ghost use Prim.Native.Nat.{_<_};
-ghost use Rattle.buffers.specs.Bytes.{part};
 ghost use Rattle.geometry.specs.Disk.{bitOf, placeOrEnd};
 ghost use Rattle.refusals.specs.Answers.{replyOf};
-ghost use Rattle.slots.specs.Slot.{facts};
+ghost use Rattle.slots.specs.Slot.{firstOf, facts};
 ghost use Rattle.chains.specs.File.{fileOf, sectorsOf};
 ghost use Rattle.chains.specs.Chain.{isLast, broken, headerDiffers, laterReply};
 use refusals::Reason;
 use refusals::Verdict;
 
-// The 512 bytes of a map bit's sector, uncopied; none where there is no such bit.
-fn sector_at(image: &[u8], bit: usize) -> &[u8]
-    ensures { λ r. ⌜ now r ≡ part (placeOrEnd bit) 512 (now (image .entry)) ⌝ }
+// The place of a slot's first sector, from its address, with no division by 10.
+fn first_place(s: &[u8]) -> usize
+    ensures { λ r. ⌜ r ≡ placeOrEnd (firstOf (now (s .entry))) ⌝ }
 {
-    buffers::part_at(image, geometry::bit_place(bit), 512)
+    geometry::data_place(buffers::num_at(s, 13), buffers::num_at(s, 14))
 }
 
 // Whether a sector's link is 0, 0.
@@ -53,7 +52,7 @@ fn chain_broken(image: &[u8], s: &[u8]) -> bool
         return true;
     }
     let mut left = slots::count_of(s);
-    let mut at = geometry::bit_place(bit);
+    let mut at = first_place(s);
     let mut passed = [0u8; 195];
     maps::mark(&mut passed, bit);
     while 1 < left {
@@ -96,7 +95,7 @@ pub fn later_rows(image: &[u8], s: &[u8], slot: usize) -> Verdict
         return refusals::unsound(Reason::ChainBroken, slot);
     }
     if slots::is_carried(slots::kind_of(s)) {
-        if header_differs(sector_at(image, slots::first_of(s)), s) {
+        if header_differs(buffers::part_at(image, first_place(s), 512), s) {
             return refusals::unsound(Reason::HeaderDiffers, slot);
         }
     }

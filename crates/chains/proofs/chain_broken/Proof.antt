@@ -32,8 +32,8 @@ returns c =
 count-of-requires : tie.Need-count-of-requires Inv-loop μ-loop
 count-of-requires c κs = search needs
 
-bit-place-requires : tie.Need-bit-place-requires Inv-loop μ-loop
-bit-place-requires c κs = search needs
+first-place-requires : tie.Need-first-place-requires Inv-loop μ-loop
+first-place-requires c κs = search needs
 
 slice-aggregate-mark : tie.Need-slice-aggregate-mark Inv-loop μ-loop
 slice-aggregate-mark c = search needs
@@ -47,7 +47,7 @@ loop-holds c =
     let n = a .before in
     let e = n .before in
     let f = e .before .before in
-    start _ _ _ _ _ _ (f .first-of .ensures .0) (n .count-of .ensures .0) (a .bit-place .ensures)
+    start _ _ _ _ _ _ (f .first-of .ensures .0) (n .count-of .ensures .0) (a .first-place .ensures)
     (in-map _ _ _ (f .before .map-of .ensures) (e .before .has-bit .ensures) (not-false _ (e .if1 .left))) (c .before .mark .ensures)
 
 add-num-at : tie.Need-add-num-at Inv-loop μ-loop
@@ -149,7 +149,7 @@ chain-broken-spec =
     has-bit-requires
     returns
     count-of-requires
-    bit-place-requires
+    first-place-requires
     slice-aggregate-mark
     mark-requires
     loop-holds
