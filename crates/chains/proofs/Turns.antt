@@ -1,32 +1,39 @@
 -- The chain as the code follows it, from place to place; and what rows 10 and 11 then answer.
 use Prim.Native.Nat.{ℕ, suc, _+_, _-_, _%_, _≤_, _<_}
-use mathlib.Core.Path.{_≡_, refl, sym, ap, _∙_}
-use mathlib.Core.Bool.{Bool, true, false, not, cond, _&&_, and-false}
+use mathlib.Core.Path.{_≡_, refl, sym, ap, _∙_, fun-ext}
+use mathlib.Core.Bool.{Bool, true, false, not, cond, _&&_, _||_, and-false}
 use mathlib.Core.List.{List}
 use mathlib.Core.Option.{none, some}
 use native.Mathlib.Omega.{arith}
-use lib.ListN.{getD}
+use lib.Dec.{eqb}
+use lib.ListN.{length, getD}
 use Rattle.buffers.specs.Bytes.{part}
-use Rattle.buffers.proofs.Lists.{length-part}
 use Rattle.geometry.specs.Disk.{imageSize, bitOf, placeOrEnd}
 use Rattle.geometry.proofs.Laws.{data-bit, bit-data, place-or-end, place-inside, place-next}
-use Rattle.maps.specs.Bits.{has}
+use Rattle.maps.specs.Bits.{has, clear, marked}
+use Rattle.maps.proofs.Laws.{has-clear, length-marked, has-marked}
 use Rattle.refusals.specs.Order.{refuse, rises}
 use Rattle.slots.specs.Slot.{Facts, facts, kindOf, carried, firstOf, countOf, mapOf}
 use Rattle.chains.specs.File.{sectorsOf, fileOf}
-use Rattle.chains.specs.Chain.{nextOf, isLast, broken, headerDiffers, later, laterReply, linked}
+use Rattle.chains.specs.Chain.{nextOf, isLast, passing, strays, broken, headerDiffers, later, laterReply, linked}
 use Rattle.chains.proofs.Laws.{sectors-own, map-small, link-at, chain-steps}
-use Rattle.chains.proofs.Ring.{roams, strays-roams}
+
+-- the map's bits are the sectors passed, as the definition keeps them, and bit b's
+pub record Marks (m : List ℕ) (b : ℕ) (passed : ℕ → Bool) : Type 0 where
+  pub long : length m ≡ 195
+  pub bits : (c : ℕ) → has m c ≡ passing passed b c
 
 -- before a turn, at a bit's sector: the chain is broken exactly where what is left of it strays
-pub record Walked (d s : List ℕ) (left bit at : ℕ) : Type 0 where
+pub record Walked (d s m : List ℕ) (left bit at : ℕ) : Type 0 where
   pub own : has (mapOf s) bit ≡ true
   pub place : at ≡ placeOrEnd bit
-  pub rest : broken (facts s) (sectorsOf d s) ≡ roams (mapOf s) (sectorsOf d s) (left - 1) bit
+  pub passed : ℕ → Bool
+  pub marks : Marks m bit passed
+  pub rest : broken (facts s) (sectorsOf d s) ≡ strays (mapOf s) (sectorsOf d s) (left - 1) bit passed
 
 -- the bit is one that a map has, and its place lies in the image
-pub walked-inside : (d s : List ℕ) (left bit at : ℕ) → Walked d s left bit at → (bit < 1560) × (at < imageSize)
-walked-inside d s left bit at w =
+pub walked-inside : (d s m : List ℕ) (left bit at : ℕ) → Walked d s m left bit at → (bit < 1560) × (at < imageSize)
+walked-inside d s m left bit at w =
     let h = map-small s bit (w .own) in
     (h, omega (arith, w .place, place-or-end bit h, place-inside bit h))
 
@@ -42,6 +49,19 @@ beside b a c t u h p i q n m =
 pub in-map : (m s : List ℕ) (c : ℕ) {t v : Bool} → m ≡ mapOf s → t ≡ has m c → t ≡ v → has (mapOf s) c ≡ v
 in-map m s c e f g = ap (λ (x : List ℕ). has x c) (sym e) ∙ sym f ∙ g
 
+-- a mark more; and the first one
+more-marks : (m k : List ℕ) (b : ℕ) → length m ≡ 195 → b < 1560 → k ≡ marked m b → Marks k b (has m)
+more-marks m k b l h e =
+    record {
+      long = ap length e ∙ length-marked m b ∙ l;
+      bits = λ c. ap (λ (x : List ℕ). has x c) e ∙ has-marked m b c (omega arith);
+    }
+
+first-mark : (m : List ℕ) (b : ℕ) → b < 1560 → m ≡ marked clear b → Marks m b (λ c. false)
+first-mark m b h e =
+    let w = more-marks clear m b refl h e in
+    record { long = w .long; bits = λ c. w .bits c ∙ ap (λ (t : Bool). eqb c b || t) (has-clear c) }
+
 module _ (d s : List ℕ) where
   -- the part that the code takes is the sector
   read : (b : ℕ) (h : List ℕ) → has (mapOf s) b ≡ true → h ≡ part (placeOrEnd b) 512 d → sectorsOf d s b ≡ h
@@ -51,42 +71,47 @@ module _ (d s : List ℕ) where
   unfolding broken facts
   outside b e h = rw (← e, h)
 
-  pub start : (b n a : ℕ) → b ≡ firstOf s → n ≡ countOf s → a ≡ placeOrEnd b → has (mapOf s) b ≡ true → Walked d s n b a
+  pub start : (b n a : ℕ) (m : List ℕ) → b ≡ firstOf s → n ≡ countOf s → a ≡ placeOrEnd (firstOf s) → has (mapOf s) b ≡ true → m ≡ marked clear b → Walked d s m n b a
   unfolding broken facts
-  start b n a e f g h =
-      record {
-        own = h;
-        place = g;
-        rest = rw (← e, h, ← f) (strays-roams (mapOf s) (sectorsOf d s) (omega (arith, length-part 15 195 s)) (n - 1) b h);
-      }
+  start b n a m e f g h k =
+      record { own = h; place = g ∙ ap placeOrEnd (sym e); passed = λ c. false; marks = first-mark m b (map-small s b h) k; rest = rw (← e, h, ← f) }
 
   -- the part that the code takes is the bit's sector
-  here : (h : List ℕ) (left b a : ℕ) → Walked d s left b a → h ≡ part a 512 d → sectorsOf d s b ≡ h
-  here h left b a w e = read b h (w .own) (e ∙ ap (λ (x : ℕ). part x 512 d) (w .place))
+  here : (h m : List ℕ) (left b a : ℕ) → Walked d s m left b a → h ≡ part a 512 d → sectorsOf d s b ≡ h
+  here h m left b a w e = read b h (w .own) (e ∙ ap (λ (x : ℕ). part x 512 d) (w .place))
 
-  pub end : (h : List ℕ) (left b a : ℕ) → Walked d s left b a → left ≤ 1 → h ≡ part a 512 d → broken (facts s) (sectorsOf d s) ≡ not (isLast h)
-  unfolding roams
-  end h left b a w l e =
+  pub end : (h m : List ℕ) (left b a : ℕ) → Walked d s m left b a → left ≤ 1 → h ≡ part a 512 d → broken (facts s) (sectorsOf d s) ≡ not (isLast h)
+  unfolding strays
+  end h m left b a w l e =
       let k : left - 1 ≡ 0 = omega arith in
-      w .rest ∙ ap (λ (m : ℕ). roams (mapOf s) (sectorsOf d s) m b) k ∙ ap (λ (x : List ℕ). not (isLast x)) (here h left b a w e)
+      w .rest ∙ ap (λ (n : ℕ). strays (mapOf s) (sectorsOf d s) n b (w .passed)) k ∙ ap (λ (x : List ℕ). not (isLast x)) (here h m left b a w e)
 
 -- a turn: the link of the sector is t, u, which is bit c
 module _
-    (d s : List ℕ) (left b a t u c : ℕ) (w : Walked d s left b a) (more : 1 < left)
+    (d s m : List ℕ) (left b a t u c : ℕ) (w : Walked d s m left b a) (more : 1 < left)
     (track : t ≡ getD d (a + 510) 0) (sector : u ≡ getD d (a + 511) 0) (leads : c ≡ bitOf t u) where
-  turn : broken (facts s) (sectorsOf d s) ≡ cond (has (mapOf s) c) (roams (mapOf s) (sectorsOf d s) (left - 1 - 1) c) true
-  unfolding roams
+  turn : broken (facts s) (sectorsOf d s)
+      ≡ cond (has (mapOf s) c && not (has m c)) (strays (mapOf s) (sectorsOf d s) (left - 1 - 1) c (has m)) true
+  unfolding strays
   turn =
       let k : left - 1 ≡ suc (left - 1 - 1) = omega arith in
-      let q : nextOf (sectorsOf d s b) ≡ c = ap nextOf (here d s (part a 512 d) left b a w refl) ∙ sym (leads ∙ link-at d a t u track sector) in
-      w .rest ∙ ap (λ (m : ℕ). roams (mapOf s) (sectorsOf d s) m b) k
-      ∙ ap (λ (x : ℕ). cond (has (mapOf s) x) (roams (mapOf s) (sectorsOf d s) (left - 1 - 1) x) true) q
+      let q : nextOf (sectorsOf d s b) ≡ c = ap nextOf (here d s (part a 512 d) m left b a w refl) ∙ sym (leads ∙ link-at d a t u track sector) in
+      w .rest ∙ ap (λ (n : ℕ). strays (mapOf s) (sectorsOf d s) n b (w .passed)) k
+      ∙ ap (λ (x : ℕ). leading x (passing (w .passed) b)) q
+      ∙ ap (leading c) (sym (fun-ext (w .marks .bits)))
+    where
+      leading : ℕ → (ℕ → Bool) → Bool
+      leading x p = cond (has (mapOf s) x && not (p x)) (strays (mapOf s) (sectorsOf d s) (left - 1 - 1) x p) true
 
   pub strays-off : has (mapOf s) c ≡ false → true ≡ broken (facts s) (sectorsOf d s)
   strays-off i = sym (turn ∙ rw i)
 
-  pub walked : (e : ℕ) → has (mapOf s) c ≡ true → e ≡ placeOrEnd c → Walked d s (left - 1) c e
-  walked e i f = record { own = i; place = f; rest = turn ∙ rw i }
+  pub comes-again : has (mapOf s) c ≡ true → has m c ≡ true → true ≡ broken (facts s) (sectorsOf d s)
+  comes-again i j = sym (turn ∙ rw (i, j))
+
+  pub walked : (e : ℕ) (k : List ℕ) → has (mapOf s) c ≡ true → has m c ≡ false → e ≡ placeOrEnd c → k ≡ marked m c → Walked d s k (left - 1) c e
+  walked e k i j f g =
+      record { own = i; place = f; passed = has m; marks = more-marks m k c (w .marks .long) (map-small s c i) g; rest = turn ∙ rw (i, j) }
 
 -- ---- the rows
 
@@ -101,16 +126,16 @@ module _ (d s : List ℕ) (n : ℕ) where
 
 -- the chain is not broken, so that the first sector h is the file's
 module _ (d s : List ℕ) (n : ℕ) (sound : broken (facts s) (sectorsOf d s) ≡ false) where
-  header : (b : ℕ) (h : List ℕ) → b ≡ firstOf s → h ≡ part (placeOrEnd b) 512 d → sectorsOf d s (firstOf s) ≡ h
+  header : (a : ℕ) (h : List ℕ) → a ≡ placeOrEnd (firstOf s) → h ≡ part a 512 d → sectorsOf d s (firstOf s) ≡ h
   unfolding facts linked
-  header b h f g = read d s (firstOf s) h (chain-steps (facts s) (sectorsOf d s) sound .own 0 (omega arith)) (g ∙ ap (λ (x : ℕ). part (placeOrEnd x) 512 d) f)
+  header a h f g = read d s (firstOf s) h (chain-steps (facts s) (sectorsOf d s) sound .own 0 (omega arith)) (g ∙ ap (λ (x : ℕ). part x 512 d) f)
 
-  pub later-differs : (k b : ℕ) (h : List ℕ) → k ≡ kindOf s → carried k ≡ true → b ≡ firstOf s → h ≡ part (placeOrEnd b) 512 d → headerDiffers (facts s) h ≡ true
+  pub later-differs : (k a : ℕ) (h : List ℕ) → k ≡ kindOf s → carried k ≡ true → a ≡ placeOrEnd (firstOf s) → h ≡ part a 512 d → headerDiffers (facts s) h ≡ true
       → some (refuse 11 n) ≡ laterReply n (fileOf d s)
-  later-differs k b h f g i j m = rw (later-is d s n, sound, ← f, g, header b h i j, m)
+  later-differs k a h f g i j m = rw (later-is d s n, sound, ← f, g, header a h i j, m)
 
-  pub later-same : (b : ℕ) (h : List ℕ) → b ≡ firstOf s → h ≡ part (placeOrEnd b) 512 d → headerDiffers (facts s) h ≡ false → none ≡ laterReply n (fileOf d s)
-  later-same b h i j m = rw (later-is d s n, sound, header b h i j, m, and-false)
+  pub later-same : (a : ℕ) (h : List ℕ) → a ≡ placeOrEnd (firstOf s) → h ≡ part a 512 d → headerDiffers (facts s) h ≡ false → none ≡ laterReply n (fileOf d s)
+  later-same a h i j m = rw (later-is d s n, sound, header a h i j, m, and-false)
 
   pub later-other : (k : ℕ) → k ≡ kindOf s → carried k ≡ false → none ≡ laterReply n (fileOf d s)
   later-other k f g = rw (later-is d s n, sound, ← f, g)

@@ -28,7 +28,7 @@ links-next : (h : List ℕ) (b : ℕ) → b < 1560 → LinksTo h b → nextOf h 
 unfolding nextOf
 links-next h b l w = ap₂ bitOf (w .track) (w .sector) ∙ address-bit b l
 
-pub is-last : (h : List ℕ) → isLast h ≡ true → Last h
+is-last : (h : List ℕ) → isLast h ≡ true → Last h
 unfolding isLast
 is-last h e =
     let p = and-eq-true-iff (eqb (getD h 510 0) 0) (eqb (getD h 511 0) 0) .0 e in

@@ -1,20 +1,19 @@
 // The chain of a file: rows 10 and 11 of the table at one slot.
 ghost use mathlib.Core.Path.{_≡_};
 ghost use Prim.Native.Nat.{_<_};
-ghost use Rattle.buffers.specs.Bytes.{part};
 ghost use Rattle.geometry.specs.Disk.{bitOf, placeOrEnd};
 ghost use Rattle.refusals.specs.Answers.{replyOf};
-ghost use Rattle.slots.specs.Slot.{facts};
+ghost use Rattle.slots.specs.Slot.{firstOf, facts};
 ghost use Rattle.chains.specs.File.{fileOf, sectorsOf};
 ghost use Rattle.chains.specs.Chain.{isLast, broken, headerDiffers, laterReply};
 use refusals::Reason;
 use refusals::Verdict;
 
-// The 512 bytes of a map bit's sector, uncopied; none where there is no such bit.
-fn sector_at(image: &[u8], bit: usize) -> &[u8]
-    ensures { λ r. ⌜ now r ≡ part (placeOrEnd bit) 512 (now (image .entry)) ⌝ }
+// The place of a slot's first sector, from its address, with no division by 10.
+fn first_place(s: &[u8]) -> usize
+    ensures { λ r. ⌜ r ≡ placeOrEnd (firstOf (now (s .entry))) ⌝ }
 {
-    buffers::part_at(image, geometry::bit_place(bit), 512)
+    geometry::data_place(buffers::num_at(s, 13), buffers::num_at(s, 14))
 }
 
 // Whether a sector's link is 0, 0.
@@ -42,8 +41,8 @@ fn place_after(bit: usize, at: usize, next: usize, track: usize, number: usize) 
     geometry::data_place(track, number)
 }
 
-// Row 10: whether the chain is broken. A sector that comes twice is on a ring, and no sector of a ring has the link 0, 0:
-// so the sectors passed need not be kept.
+// Row 10: whether the chain is broken. The sectors passed are marked in a map, and a link to a marked one is refused there.
+// No link waits for a mark: the place of the next sector does not hang on the map.
 fn chain_broken(image: &[u8], s: &[u8]) -> bool
     ensures { λ r. ⌜ r ≡ broken (facts (now (s .entry))) (sectorsOf (now (image .entry)) (now (s .entry))) ⌝ }
 {
@@ -53,7 +52,9 @@ fn chain_broken(image: &[u8], s: &[u8]) -> bool
         return true;
     }
     let mut left = slots::count_of(s);
-    let mut at = geometry::bit_place(bit);
+    let mut at = first_place(s);
+    let mut passed = [0u8; 195];
+    maps::mark(&mut passed, bit);
     while 1 < left {
         let track = buffers::num_at(image, at + 510);
         let number = buffers::num_at(image, at + 511);
@@ -61,6 +62,10 @@ fn chain_broken(image: &[u8], s: &[u8]) -> bool
         if !maps::has_bit(map, next) {
             return true;
         }
+        if maps::has_bit(&passed, next) {
+            return true;
+        }
+        maps::mark(&mut passed, next);
         at = place_after(bit, at, next, track, number);
         bit = next;
         left -= 1;
@@ -90,7 +95,7 @@ pub fn later_rows(image: &[u8], s: &[u8], slot: usize) -> Verdict
         return refusals::unsound(Reason::ChainBroken, slot);
     }
     if slots::is_carried(slots::kind_of(s)) {
-        if header_differs(sector_at(image, slots::first_of(s)), s) {
+        if header_differs(buffers::part_at(image, first_place(s), 512), s) {
             return refusals::unsound(Reason::HeaderDiffers, slot);
         }
     }

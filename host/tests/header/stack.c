@@ -1,5 +1,6 @@
 /* How much stack each call takes: it runs on a stack of its own, which was painted before, and the paint that is gone is
- * counted. The disks are those that make a call work longest: the greatest file, and eighty files. */
+ * counted. The disks are those that make a call work longest: the greatest file, and eighty files; and for the check the
+ * greatest file with its last link but one leading back to its first sector, which is refused 10 where that comes again. */
 #define _XOPEN_SOURCE 700
 #include <stdio.h>
 #include <string.h>
@@ -13,6 +14,7 @@ static uint8_t stack[65536];
 static ucontext_t here, there;
 
 static uint8_t blank[VARNUCHT_IMAGE_BYTES], full[VARNUCHT_IMAGE_BYTES], crowded[VARNUCHT_IMAGE_BYTES];
+static uint8_t ring[VARNUCHT_IMAGE_BYTES];
 static uint8_t image[VARNUCHT_IMAGE_BYTES];
 static uint8_t body[VARNUCHT_BODY_BYTES], list[VARNUCHT_SAVE_LIST_BYTES];
 static const uint8_t name[] = {'A', '0'}, other[] = {'T', 'U', 'N', 'E', 'S'};
@@ -62,6 +64,10 @@ static void say(const char *call, void (*run)(void), const uint8_t *disk) {
 
 static void make_disks(void) {
     save(full, name, 2, sizeof body);
+    memcpy(ring, full, sizeof ring);
+    /* track 207 sector 9 leads to track 4 sector 1 */
+    ring[1598 * 512 + 510] = 4;
+    ring[1598 * 512 + 511] = 1;
     for (unsigned i = 0; i < 80; i++) {
         uint8_t each[2] = {(uint8_t)('A' + i / 10), (uint8_t)('0' + i % 10)};
         save(crowded, each, 2, 1);
@@ -85,6 +91,7 @@ int main(void) {
         say("protect", protect, disks[i]);
         say("release", release, disks[i]);
     }
+    say("check", check, ring);
     say("save", saving, blank);
     say("save", saving_last, crowded);
     return 0;

@@ -4,16 +4,16 @@ use mathlib.Core.Bool.{not}
 use native.Mathlib.Omega.{arith}
 use borrow.Author.Tests.{not-true, not-false}
 use Rattle.chains.proofs.Laws.{map-small}
-use Rattle.chains.proofs.Turns.{Walked, walked-inside, in-map, outside, start, strays-off, walked, end}
+use Rattle.chains.proofs.Turns.{Walked, walked-inside, in-map, outside, start, strays-off, comes-again, walked, end}
 use borrow.Author.Needs.{needs}
 use Rattle.chains.proofs.chain_broken.Statement.{statement}
 use Rattle.chains.proofs.chain_broken.Tie as tie
 
 abbrev Inv-loop : tie.InvT-loop
-Inv-loop image s map bit₀ left₀ at₀ bit left at = Walked image s left bit at
+Inv-loop image s map bit₀ left₀ at₀ passed₀ bit left at passed = Walked image s passed left bit at
 
 abbrev μ-loop : tie.MeasureT-loop
-μ-loop image s map bit₀ left₀ at₀ bit left at = left
+μ-loop image s map bit₀ left₀ at₀ passed₀ bit left at passed = left
 
 map-of-requires : tie.Need-map-of-requires Inv-loop μ-loop
 map-of-requires c κs = search needs
@@ -32,24 +32,32 @@ returns c =
 count-of-requires : tie.Need-count-of-requires Inv-loop μ-loop
 count-of-requires c κs = search needs
 
-bit-place-requires : tie.Need-bit-place-requires Inv-loop μ-loop
-bit-place-requires c κs = search needs
+first-place-requires : tie.Need-first-place-requires Inv-loop μ-loop
+first-place-requires c κs = search needs
+
+slice-aggregate-mark : tie.Need-slice-aggregate-mark Inv-loop μ-loop
+slice-aggregate-mark c = search needs
+
+mark-requires : tie.Need-mark-requires Inv-loop μ-loop
+mark-requires c κs = search needs
 
 loop-holds : tie.Need-loop-holds Inv-loop μ-loop
 loop-holds c =
-    let n = c .before in
+    let a = c .before .before .before in
+    let n = a .before in
     let e = n .before in
     let f = e .before .before in
-    start _ _ _ _ _ (f .first-of .ensures .0) (n .count-of .ensures .0) (c .bit-place .ensures) (in-map _ _ _ (f .before .map-of .ensures) (e .before .has-bit .ensures) (not-false _ (e .if1 .left)))
+    start _ _ _ _ _ _ (f .first-of .ensures .0) (n .count-of .ensures .0) (a .first-place .ensures)
+    (in-map _ _ _ (f .before .map-of .ensures) (e .before .has-bit .ensures) (not-false _ (e .if1 .left))) (c .before .mark .ensures)
 
 add-num-at : tie.Need-add-num-at Inv-loop μ-loop
-add-num-at c = omega (arith, walked-inside _ _ _ _ _ (c .before .loop .inv) .1)
+add-num-at c = omega (arith, walked-inside _ _ _ _ _ _ (c .before .loop .inv) .1)
 
 num-at-requires : tie.Need-num-at-requires Inv-loop μ-loop
 num-at-requires c κs = search needs
 
 add-num-at-2 : tie.Need-add-num-at-2 Inv-loop μ-loop
-add-num-at-2 c = omega (arith, walked-inside _ _ _ _ _ (c .before .before .loop .inv) .1)
+add-num-at-2 c = omega (arith, walked-inside _ _ _ _ _ _ (c .before .before .loop .inv) .1)
 
 num-at-requires-2 : tie.Need-num-at-requires-2 Inv-loop μ-loop
 num-at-requires-2 c κs = search needs
@@ -66,15 +74,39 @@ returns-2 c =
     let k = n .before in
     let i = k .before .before in
     let l = i .before in
-    strays-off _ _ _ _ _ _ _ _ (l .loop .inv) (i .loop-test .taken) (k .before .num-at .ensures .0) (k .num-at2 .ensures .0) (n .bit-or-end .ensures .0)
-    (in-map _ _ _ (l .before .before .before .before .before .before .map-of .ensures) (c .before .has-bit2 .ensures) (not-true _ (c .if2 .taken)))
+    strays-off _ _ _ _ _ _ _ _ _ (l .loop .inv) (i .loop-test .taken) (k .before .num-at .ensures .0) (k .num-at2 .ensures .0) (n .bit-or-end .ensures .0)
+    (in-map _ _ _ (l .before .before .before .before .before .before .before .before .before .map-of .ensures) (c .before .has-bit2 .ensures) (not-true _ (c .if2 .taken)))
+
+slice-aggregate-has-bit : tie.Need-slice-aggregate-has-bit Inv-loop μ-loop
+slice-aggregate-has-bit c = sym (c .before .before .before .before .before .before .before .loop .inv .marks .long)
+
+has-bit-requires-3 : tie.Need-has-bit-requires-3 Inv-loop μ-loop
+has-bit-requires-3 c κs = search needs
+
+returns-3 : tie.Need-returns-3 Inv-loop μ-loop
+returns-3 c =
+    let e = c .before .before .before in
+    let n = e .before .before in
+    let k = n .before in
+    let i = k .before .before in
+    let l = i .before in
+    comes-again _ _ _ _ _ _ _ _ _ (l .loop .inv) (i .loop-test .taken) (k .before .num-at .ensures .0) (k .num-at2 .ensures .0) (n .bit-or-end .ensures .0)
+    (in-map _ _ _ (l .before .before .before .before .before .before .before .before .before .map-of .ensures) (e .before .has-bit2 .ensures) (not-false _ (e .if2 .left)))
+    (sym (c .before .has-bit3 .ensures) ∙ c .if3 .taken)
+
+slice-aggregate-mark-2 : tie.Need-slice-aggregate-mark-2 Inv-loop μ-loop
+slice-aggregate-mark-2 c = sym (c .before .before .before .before .before .before .before .before .before .before .loop .inv .marks .long)
+
+mark-requires-2 : tie.Need-mark-requires-2 Inv-loop μ-loop
+mark-requires-2 c κs = search needs
 
 place-after-requires : tie.Need-place-after-requires Inv-loop μ-loop
 place-after-requires c κs =
-    let n = c .before .before in
+    let e = c .before .before .before .before .before .before in
+    let n = e .before .before in
     let l = n .before .before .before .before in
-    let m = in-map _ _ _ (l .before .before .before .before .before .before .map-of .ensures) (c .before .has-bit2 .ensures) (not-false _ (c .if2 .left)) in
-    (walked-inside _ _ _ _ _ (l .loop .inv) .0, l .loop .inv .place, map-small _ _ m, n .bit-or-end .ensures .0)
+    let m = in-map _ _ _ (l .before .before .before .before .before .before .before .before .before .map-of .ensures) (e .before .has-bit2 .ensures) (not-false _ (e .if2 .left)) in
+    (walked-inside _ _ _ _ _ _ (l .loop .inv) .0, l .loop .inv .place, map-small _ _ m, n .bit-or-end .ensures .0)
 
 sub-left : tie.Need-sub-left Inv-loop μ-loop
 sub-left c = search needs
@@ -84,14 +116,16 @@ loop-less c = search needs
 
 loop-again : tie.Need-loop-again Inv-loop μ-loop
 loop-again c =
-    let e = c .before in
+    let r = c .before .before .before .before in
+    let e = r .before .before .before in
     let n = e .before .before in
     let k = n .before in
     let i = k .before .before in
     let l = i .before in
-    walked _ _ _ _ _ _ _ _ (l .loop .inv) (i .loop-test .taken) (k .before .num-at .ensures .0) (k .num-at2 .ensures .0) (n .bit-or-end .ensures .0) _
-    (in-map _ _ _ (l .before .before .before .before .before .before .map-of .ensures) (e .before .has-bit2 .ensures) (not-false _ (e .if2 .left)))
-    (c .place-after .ensures)
+    walked _ _ _ _ _ _ _ _ _ (l .loop .inv) (i .loop-test .taken) (k .before .num-at .ensures .0) (k .num-at2 .ensures .0) (n .bit-or-end .ensures .0) _ _
+    (in-map _ _ _ (l .before .before .before .before .before .before .before .before .before .map-of .ensures) (e .before .has-bit2 .ensures) (not-false _ (e .if2 .left)))
+    (sym (r .before .has-bit3 .ensures) ∙ r .if3 .left)
+    (c .place-after .ensures) (c .before .before .mark2 .ensures)
 
 part-at-requires : tie.Need-part-at-requires Inv-loop μ-loop
 part-at-requires c κs = search needs
@@ -99,10 +133,10 @@ part-at-requires c κs = search needs
 is-last-requires : tie.Need-is-last-requires Inv-loop μ-loop
 is-last-requires c κs = search needs
 
-returns-3 : tie.Need-returns-3 Inv-loop μ-loop
-returns-3 c =
+returns-4 : tie.Need-returns-4 Inv-loop μ-loop
+returns-4 c =
     let a = c .before .before in
-    ap not (c .is-last .ensures) ∙ sym (end _ _ _ _ _ _ (a .before .loop .inv) (a .loop-test .left) (c .before .part-at .ensures))
+    ap not (c .is-last .ensures) ∙ sym (end _ _ _ _ _ _ _ (a .before .loop .inv) (a .loop-test .left) (c .before .part-at .ensures))
 
 pub chain-broken-spec : {M : Type 1} → statement M
 chain-broken-spec =
@@ -115,7 +149,9 @@ chain-broken-spec =
     has-bit-requires
     returns
     count-of-requires
-    bit-place-requires
+    first-place-requires
+    slice-aggregate-mark
+    mark-requires
     loop-holds
     add-num-at
     num-at-requires
@@ -124,10 +160,15 @@ chain-broken-spec =
     bit-or-end-requires
     has-bit-requires-2
     returns-2
+    slice-aggregate-has-bit
+    has-bit-requires-3
+    returns-3
+    slice-aggregate-mark-2
+    mark-requires-2
     place-after-requires
     sub-left
     loop-less
     loop-again
     part-at-requires
     is-last-requires
-    returns-3)
+    returns-4)

@@ -22,11 +22,11 @@ kind-of-requires c κs = search needs
 is-carried-requires : tie.Need-is-carried-requires
 is-carried-requires c κs = search needs
 
-first-of-requires : tie.Need-first-of-requires
-first-of-requires c κs = search needs
+first-place-requires : tie.Need-first-place-requires
+first-place-requires c κs = search needs
 
-sector-at-requires : tie.Need-sector-at-requires
-sector-at-requires c κs = search needs
+part-at-requires : tie.Need-part-at-requires
+part-at-requires c κs = search needs
 
 header-differs-requires : tie.Need-header-differs-requires
 header-differs-requires c κs = search needs
@@ -42,7 +42,7 @@ returns-2 c =
     let b = k .before .before in
     c .unsound2 .ensures
     ∙ later-differs _ _ _ (sym (b .before .chain-broken .ensures) ∙ b .if1 .left) _ _ _ (k .before .kind-of .ensures .0) (sym (k .is-carried .ensures) ∙ f .before .if2 .taken)
-    (f .first-of .ensures .0) (h .before .before .sector-at .ensures) (sym (h .before .header-differs .ensures) ∙ h .if3 .taken)
+    (f .first-place .ensures) (h .before .before .part-at .ensures) (sym (h .before .header-differs .ensures) ∙ h .if3 .taken)
 
 returns-3 : tie.Need-returns-3
 returns-3 c =
@@ -50,7 +50,7 @@ returns-3 c =
     let k = f .before .before in
     let b = k .before .before in
     later-same _ _ _ (sym (b .before .chain-broken .ensures) ∙ b .if1 .left) _ _
-    (f .first-of .ensures .0) (c .before .before .sector-at .ensures) (sym (c .before .header-differs .ensures) ∙ c .if3 .left)
+    (f .first-place .ensures) (c .before .before .part-at .ensures) (sym (c .before .header-differs .ensures) ∙ c .if3 .left)
 
 returns-4 : tie.Need-returns-4
 returns-4 c =
@@ -67,8 +67,8 @@ later-rows-spec =
     returns
     kind-of-requires
     is-carried-requires
-    first-of-requires
-    sector-at-requires
+    first-place-requires
+    part-at-requires
     header-differs-requires
     unsound-requires-2
     returns-2
