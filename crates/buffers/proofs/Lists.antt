@@ -270,3 +270,14 @@ word-there m i h = rw (le-leb (i + 8) (length m) h)
 pub word-not : (m : List ℕ) (i : ℕ) → length m < i + 8 → wordOr m i ≡ 0
 unfolding wordOr
 word-not m i h = rw (lt-leb (i + 8) (length m) h)
+
+-- the bytes of a part, as a number
+word-in : (k a n : ℕ) (m : List ℕ) (j : ℕ) → j + k ≤ n → word k (part a n m) 0 j ≡ word k m a j
+unfolding word
+word-in zero a n m j h = refl
+word-in (suc k) a n m j h =
+    let e : 0 + j ≡ j = omega arith in
+    rw (e, part-at a n m j (omega arith), word-in k a n m (suc j) (omega arith))
+
+pub word-part : (m : List ℕ) (a n : ℕ) → n ≡ 8 → a + 8 ≤ length m → wordOr (part a n m) 0 ≡ word 8 m a 0
+word-part m a n e h = word-there (part a n m) 0 (omega (arith, part-long a n m (omega arith))) ∙ word-in 8 a n m 0 (omega arith)
