@@ -1,0 +1,4 @@
+pub mod Positions
+pub mod Standing
+pub mod Runs
+pub mod Opening

@@ -1,0 +1,4 @@
+pub mod Positions
+pub mod Pieces
+pub mod Opening
+pub mod Readers
