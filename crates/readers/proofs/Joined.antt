@@ -48,7 +48,7 @@ pub record FileOpened (d n : List ℕ) (p : Place) : Type 0 where
   pub place : p ≡ beginOf (slotOr d slot)
 
 -- 510 × 1,560 less the nine bytes of the header
-length-few : (d n : List ℕ) (i : ℕ) → Named d n i → carried (kindOf (slotOr d i)) ≡ true → lengthOf (facts (slotOr d i)) ≤ longest
+pub length-few : (d n : List ℕ) (i : ℕ) → Named d n i → carried (kindOf (slotOr d i)) ≡ true → lengthOf (facts (slotOr d i)) ≤ longest
 unfolding checkDisk facts fileOf dataCount
 length-few d n i w c =
     let f = named-slot d n i w in
