@@ -14,18 +14,19 @@ use Rattle.refusals.specs.Answers.{Outcome, done, refused}
 use Rattle.slots.specs.Slot.{protected}
 use Rattle.slots.specs.Name.{askable, padded}
 use Rattle.chains.specs.File.{File, fileOf}
-use Rattle.directory.specs.Places.{slots, slotAt, dirSector}
+use Rattle.directory.specs.Places.{slots, slotAt, slotPlace, dirSector}
 use Rattle.directory.specs.Directory.{held, Directory, directory, slotOr}
 use Rattle.directory.specs.Find.{find}
-use Rattle.disk.specs.Look.{look, slotsOf}
+use Rattle.directory.proofs.Places.{slot-placed}
+use Rattle.disk.specs.Look.{Look, look, slotsOf}
 use Rattle.disk.specs.Check.{checkLook, checkDisk}
 use Rattle.disk.proofs.Look.{look-slots}
 use Rattle.files.specs.Calls.{barred, soughtBy, lookup, fileAt}
 use Rattle.files.proofs.Named.{Named, named-slot}
-use Rattle.steps.specs.Steps.{putAll, enact, numbers}
+use Rattle.steps.specs.Steps.{Step, putAll, enact, numbers}
 use Rattle.plans.specs.Change.{Mark, Change, erase, rename, mark, marked, usable}
 use Rattle.plans.specs.Plan.{Plan, no, go, orNo, byName, nameTaken, isProtected, touch, planOf, plan, settle, checked, run, Changed, changed, changedBy, change}
-use Rattle.changes.specs.Settled.{settled, touching, unprotected, renaming, Holds}
+use Rattle.changes.specs.Settled.{settled, touching, unprotected, renaming, Holds, Made}
 
 -- ---- a change is settled by its plan, once the disk is accepted
 
@@ -34,14 +35,24 @@ module _ (c : Change) (d buf : List ℕ) where
   unfolding change run
   change-unsound r e = rw e
 
-  pub change-settled : checkDisk d ≡ none → settled (plan c d) d buf ≡ change c d buf
+  pub change-planned : checkDisk d ≡ none → (p : Plan) → plan c d ≡ p → settled p d buf ≡ change c d buf
   unfolding change run settled
-  change-settled e = rw e
+  change-planned a p e = rw (a, e)
 
 -- a plan that refuses
 pub settled-no : (d buf : List ℕ) (r : Refusal) (o : Outcome) → o ≡ refused r → changed o d buf ≡ settled (no r) d buf
 unfolding settled
 settled-no d buf r o e = ap (λ (o : Outcome). changed o d buf) e
+
+-- a plan of steps: the list is too short for their sectors, or they are done
+module _ (sts : List (Step Look)) (d buf : List ℕ) where
+  pub settled-short : length buf < length (numbers sts) → (o : Outcome) → o ≡ refused (refuse 20 0) → changed o d buf ≡ settled (go sts) d buf
+  unfolding settled
+  settled-short h o e = rw (e, lt-ltb (length buf) (length (numbers sts)) h)
+
+  pub settled-done : length (numbers sts) ≤ length buf → (d′ buf′ : List ℕ) (r : ℕ) → Made sts d buf d′ buf′ r → changed (done r 0) d′ buf′ ≡ settled (go sts) d buf
+  unfolding settled
+  settled-done h d′ buf′ r w = rw (w .many, w .image, w .list, le-ltb (length buf) (length (numbers sts)) h)
 
 -- one plan for another
 pub settled-as : (d buf : List ℕ) (p q : Plan) → p ≡ q → (x : Changed) → x ≡ settled p d buf → x ≡ settled q d buf
@@ -49,20 +60,28 @@ settled-as d buf p q e x w = w ∙ ap (λ (p : Plan). settled p d buf) e
 
 -- ---- bytes put into a slot
 
+-- at its place, as the code has it
+pub slot-put : (d : List ℕ) (i o a : ℕ) (y e : List ℕ) → i < slots → a ≡ slotPlace i → e ≡ put d (a + o) y → e ≡ put d (slotAt i + o) y
+slot-put d i o a y e h p q = q ∙ ap (λ (a : ℕ). put d (a + o) y) (p ∙ slot-placed i h)
+
 -- its sector number fits the list
 pub sector-small : (i n : ℕ) → n ≡ dirSector i → i < slots → n < 65536
 unfolding dirSector
 sector-small i n e h = let q : i / 20 ≤ 3 = omega arith in omega arith
 
 module _ (d : List ℕ) (i o : ℕ) (y buf : List ℕ) where
+  abbrev steps : List (Step Look)
+  steps = touch (look d) i (fileAt (look d) i) o y
+
   pub touch-short : length buf < 1 → (a : Outcome) → a ≡ refused (refuse 20 0) → changed a d buf ≡ settled (touching d i o y) d buf
-  unfolding settled touching numbers
-  touch-short h a e = rw (e, lt-ltb (length buf) 1 h)
+  unfolding touching numbers
+  touch-short = settled-short steps d buf
 
   pub touch-done : 1 ≤ length buf → (d′ : List ℕ) → d′ ≡ put d (slotAt i + o) y → (n : ℕ) → n ≡ dirSector i → (buf′ : List ℕ) → buf′ ≡ put buf 0 (n ∷ [])
       → changed (done 1 0) d′ buf′ ≡ settled (touching d i o y) d buf
-  unfolding settled touching numbers enact putAll
-  touch-done h d′ p n q buf′ s = rw (p, s, q, le-ltb (length buf) 1 h)
+  unfolding touching numbers enact putAll
+  touch-done h d′ p n q buf′ s =
+      settled-done steps d buf h d′ buf′ 1 (record { many = refl; image = p; list = s ∙ ap (λ (n : ℕ). put buf 0 (n ∷ [])) q })
 
 -- ---- the slot that has the name
 
@@ -85,16 +104,13 @@ module _ (d : List ℕ) (i o : ℕ) (y : List ℕ) (w : Holds d i) (s : List ℕ
 
 -- 16
 module _ (d : List ℕ) (i : ℕ) (new : List ℕ) where
-  taken-at : (o : Option ℕ) → find (directory d) new ≡ o → nameTaken (look d) new ≡ held none (λ j. some (refuse 16 (suc j))) o
-  taken-at o e = ap (λ (v : Directory). held none (λ j. some (refuse 16 (suc j))) (find v new)) (look-slots d) ∙ ap (held none (λ j. some (refuse 16 (suc j)))) e
-
   pub plan-taken : (j : ℕ) → find (directory d) new ≡ some j → no (refuse 16 (j + 1)) ≡ renaming d i new
   unfolding renaming
-  plan-taken j e = rw (taken-at (some j) e, add-one)
+  plan-taken j e = rw (e, add-one)
 
   pub plan-new : find (directory d) new ≡ none → (y : List ℕ) → y ≡ padded new → unprotected d i 1 y ≡ renaming d i new
   unfolding renaming unprotected
-  plan-new e y q = rw (taken-at none e, q)
+  plan-new e y q = rw (e, q)
 
 -- ---- a change by name: 12 where a name is not fit (t), 15, and else what is planned of the file found (f)
 
@@ -102,11 +118,8 @@ abbrev pub naming : Bool → List ℕ → List ℕ → (ℕ → File → Plan) �
 naming t d n f = orNo (row 12 0 (not t)) (byName (look d) n f)
 
 module _ (c : Change) (d n buf : List ℕ) (t : Bool) (f : ℕ → File → Plan) (s : plan c d ≡ naming t d n f) (a : checkDisk d ≡ none) where
-  by-plan : (p : Plan) → plan c d ≡ p → settled p d buf ≡ change c d buf
-  by-plan p e = ap (λ (p : Plan). settled p d buf) (sym e) ∙ change-settled c d buf a
-
   pub name-unfit : t ≡ false → settled (no (refuse 12 0)) d buf ≡ change c d buf
-  name-unfit e = by-plan (no (refuse 12 0)) (s ∙ rw e)
+  name-unfit e = change-planned c d buf a (no (refuse 12 0)) (s ∙ rw e)
 
   by-name : t ≡ true → (o : Option ℕ) → find (directory d) n ≡ o → plan c d ≡ held (no (refuse 15 0)) (λ i. f i (fileAt (look d) i)) o
   by-name e o q =
@@ -115,10 +128,10 @@ module _ (c : Change) (d n buf : List ℕ) (t : Bool) (f : ℕ → File → Plan
       ∙ ap (held (no (refuse 15 0)) (λ i. f i (fileAt (look d) i))) q
 
   pub name-missing : t ≡ true → find (directory d) n ≡ none → settled (no (refuse 15 0)) d buf ≡ change c d buf
-  name-missing e q = by-plan (no (refuse 15 0)) (by-name e none q)
+  name-missing e q = change-planned c d buf a (no (refuse 15 0)) (by-name e none q)
 
   pub name-found : t ≡ true → (i : ℕ) → find (directory d) n ≡ some i → settled (f i (fileAt (look d) i)) d buf ≡ change c d buf
-  name-found e i q = by-plan (f i (fileAt (look d) i)) (by-name e (some i) q)
+  name-found e i q = change-planned c d buf a (f i (fileAt (look d) i)) (by-name e (some i) q)
 
 -- as the lookup answers
 module _ (c : Change) (d n buf : List ℕ) (f : ℕ → File → Plan) (s : plan c d ≡ naming (askable n) d n f) where
@@ -171,7 +184,7 @@ module _ (d n buf : List ℕ) where
 
 module _ (d n new buf : List ℕ) (a : checkDisk d ≡ none) where
   abbrev renameAt : ℕ → File → Plan
-  renameAt i f = orNo (nameTaken (look d) new else isProtected i f) (go (touch (look d) i f 1 (padded new)))
+  renameAt i f = orNo (nameTaken (slotsOf (look d)) new else isProtected i f) (go (touch (look d) i f 1 (padded new)))
 
   pub rename-unaskable : askable n ≡ false → settled (no (refuse 12 0)) d buf ≡ change (rename n new) d buf
   unfolding planOf
@@ -187,4 +200,6 @@ module _ (d n new buf : List ℕ) (a : checkDisk d ≡ none) where
 
   pub rename-found : (askable n && usable new) ≡ true → (i : ℕ) → find (directory d) n ≡ some i → settled (renaming d i new) d buf ≡ change (rename n new) d buf
   unfolding planOf renaming touching
-  rename-found = name-found (rename n new) d n buf (askable n && usable new) renameAt refl a
+  rename-found e i q =
+      ap (λ (v : Directory). settled (orNo (nameTaken v new else isProtected i (fileAt (look d) i)) (touching d i 1 (padded new))) d buf) (sym (look-slots d))
+      ∙ name-found (rename n new) d n buf (askable n && usable new) renameAt refl a e i q

@@ -5,25 +5,15 @@ ghost use mathlib.Core.List.{[], _∷_};
 ghost use Prim.Native.Nat.{_+_, _≤_, _<_};
 ghost use lib.ListN.{length};
 ghost use Rattle.buffers.specs.Bytes.{put};
-ghost use Rattle.refusals.specs.Order.{refuse};
-ghost use Rattle.refusals.specs.Answers.{outcomeOf};
-ghost use Rattle.directory.specs.Places.{slotAt, dirSector};
+ghost use Rattle.directory.specs.Places.{slotAt};
 ghost use Rattle.plans.specs.Change.{erase, rename, mark, hide, show, protect, release, marked, allBetween, usable};
-ghost use Rattle.plans.specs.Plan.{changed, change};
 ghost use Rattle.changes.specs.Marks.{markOf};
-ghost use Rattle.changes.specs.Settled.{settled, touching, unprotected, renaming, Place, Renames};
+ghost use Rattle.changes.specs.Settled.{Returns, Settles, touching, unprotected, renaming, Place, Renames};
 use directory::Found;
 use files::Lookup;
 use refusals::Answer;
 use refusals::Reason;
 use refusals::Verdict;
-
-// The number of the sector that slot `i`, counted from 0, lies in.
-pub fn dir_sector(i: usize) -> usize
-    ensures { λ r. ⌜ r ≡ dirSector i ⌝ }
-{
-    i / 20 * 20 + i % 20 / 2
-}
 
 // Whether every byte of a name is one of 32 to 126.
 fn is_printable(name: &[u8]) -> bool
@@ -60,7 +50,7 @@ fn put_in_slot(image: &mut [u8], i: usize, o: usize, y: &[u8])
     requires { ⌜ Place (now image) i o ⌝ }
     ensures { λ _. ⌜ now (image .exit) ≡ put (now (image .entry)) (slotAt i + o) (now (y .entry)) ⌝ }
 {
-    buffers::copy_into(image, i / 20 * 10240 + i % 20 * 256 + o, y);
+    buffers::copy_into(image, directory::slot_place(i) + o, y);
 }
 
 // Puts one sector number to the front of a list.
@@ -74,20 +64,20 @@ fn put_number(list: &mut [u16], n: usize)
 // Writes a change that only the list can still refuse.
 fn touch(image: &mut [u8], i: usize, o: usize, y: &[u8], list: &mut [u16]) -> Answer
     requires { ⌜ Place (now image) i o ⌝ }
-    ensures { λ r. ⌜ changed (outcomeOf r) (now (image .exit)) (now (list .exit)) ≡ settled (touching (now (image .entry)) i o (now (y .entry))) (now (image .entry)) (now (list .entry)) ⌝ }
+    ensures { λ r. ⌜ Settles (touching (now (image .entry)) i o (now (y .entry))) (now (image .entry)) (now (list .entry)) r (now (image .exit)) (now (list .exit)) ⌝ }
 {
     if list.len() < 1 {
         return refusals::no(Reason::BufferTooShort, 0);
     }
     put_in_slot(image, i, o, y);
-    put_number(list, dir_sector(i));
+    put_number(list, directory::dir_sector(i));
     Answer::Done(1, 0)
 }
 
 // The same, of a file that must not be protected.
 fn touch_unprotected(image: &mut [u8], i: usize, o: usize, y: &[u8], list: &mut [u16]) -> Answer
     requires { ⌜ Place (now image) i o ⌝ }
-    ensures { λ r. ⌜ changed (outcomeOf r) (now (image .exit)) (now (list .exit)) ≡ settled (unprotected (now (image .entry)) i o (now (y .entry))) (now (image .entry)) (now (list .entry)) ⌝ }
+    ensures { λ r. ⌜ Settles (unprotected (now (image .entry)) i o (now (y .entry))) (now (image .entry)) (now (list .entry)) r (now (image .exit)) (now (list .exit)) ⌝ }
 {
     if slots::is_protected(directory::slot_at(image, i)) {
         return refusals::no(Reason::FileProtected, i + 1);
@@ -97,7 +87,7 @@ fn touch_unprotected(image: &mut [u8], i: usize, o: usize, y: &[u8], list: &mut 
 
 // Erases a file: its slot's first byte becomes 0.
 pub fn erase(image: &mut [u8], name: &[u8], list: &mut [u16]) -> Answer
-    ensures { λ r. ⌜ changed (outcomeOf r) (now (image .exit)) (now (list .exit)) ≡ change (erase (now (name .entry))) (now (image .entry)) (now (list .entry)) ⌝ }
+    ensures { λ r. ⌜ Returns (erase (now (name .entry))) (now (image .entry)) (now (list .entry)) r (now (image .exit)) (now (list .exit)) ⌝ }
 {
     match files::look_up(image, name) {
         Lookup::Barred(r) => Answer::No(r),
@@ -108,7 +98,7 @@ pub fn erase(image: &mut [u8], name: &[u8], list: &mut [u16]) -> Answer
 // Gives the file in slot `i` a name that is fit for one.
 fn rename_at(image: &mut [u8], i: usize, new: &[u8], list: &mut [u16]) -> Answer
     requires { ⌜ Renames (now image) i (now new) ⌝ }
-    ensures { λ r. ⌜ changed (outcomeOf r) (now (image .exit)) (now (list .exit)) ≡ settled (renaming (now (image .entry)) i (now (new .entry))) (now (image .entry)) (now (list .entry)) ⌝ }
+    ensures { λ r. ⌜ Settles (renaming (now (image .entry)) i (now (new .entry))) (now (image .entry)) (now (list .entry)) r (now (image .exit)) (now (list .exit)) ⌝ }
 {
     match directory::find(image, new) {
         Found::At(j) => refusals::no(Reason::NameTaken, j + 1),
@@ -118,7 +108,7 @@ fn rename_at(image: &mut [u8], i: usize, new: &[u8], list: &mut [u16]) -> Answer
 
 // Renames a file. Both names are tested before either is looked for.
 pub fn rename(image: &mut [u8], name: &[u8], new: &[u8], list: &mut [u16]) -> Answer
-    ensures { λ r. ⌜ changed (outcomeOf r) (now (image .exit)) (now (list .exit)) ≡ change (rename (now (name .entry)) (now (new .entry))) (now (image .entry)) (now (list .entry)) ⌝ }
+    ensures { λ r. ⌜ Returns (rename (now (name .entry)) (now (new .entry))) (now (image .entry)) (now (list .entry)) r (now (image .exit)) (now (list .exit)) ⌝ }
 {
     match disk::check(image) {
         Verdict::Unsound(r) => Answer::No(r),
@@ -159,7 +149,7 @@ fn marked(marking: Marking, x: u8) -> u8
 
 // Marks a file; one that has the mark already is accepted.
 pub fn set_mark(image: &mut [u8], name: &[u8], marking: Marking, list: &mut [u16]) -> Answer
-    ensures { λ r. ⌜ changed (outcomeOf r) (now (image .exit)) (now (list .exit)) ≡ change (mark (markOf marking) (now (name .entry))) (now (image .entry)) (now (list .entry)) ⌝ }
+    ensures { λ r. ⌜ Returns (mark (markOf marking) (now (name .entry))) (now (image .entry)) (now (list .entry)) r (now (image .exit)) (now (list .exit)) ⌝ }
 {
     match files::look_up(image, name) {
         Lookup::Barred(r) => Answer::No(r),
@@ -172,25 +162,25 @@ pub fn set_mark(image: &mut [u8], name: &[u8], marking: Marking, list: &mut [u16
 }
 
 pub fn hide(image: &mut [u8], name: &[u8], list: &mut [u16]) -> Answer
-    ensures { λ r. ⌜ changed (outcomeOf r) (now (image .exit)) (now (list .exit)) ≡ change (mark hide (now (name .entry))) (now (image .entry)) (now (list .entry)) ⌝ }
+    ensures { λ r. ⌜ Returns (mark hide (now (name .entry))) (now (image .entry)) (now (list .entry)) r (now (image .exit)) (now (list .exit)) ⌝ }
 {
     set_mark(image, name, Marking::Hide, list)
 }
 
 pub fn show(image: &mut [u8], name: &[u8], list: &mut [u16]) -> Answer
-    ensures { λ r. ⌜ changed (outcomeOf r) (now (image .exit)) (now (list .exit)) ≡ change (mark show (now (name .entry))) (now (image .entry)) (now (list .entry)) ⌝ }
+    ensures { λ r. ⌜ Returns (mark show (now (name .entry))) (now (image .entry)) (now (list .entry)) r (now (image .exit)) (now (list .exit)) ⌝ }
 {
     set_mark(image, name, Marking::Show, list)
 }
 
 pub fn protect(image: &mut [u8], name: &[u8], list: &mut [u16]) -> Answer
-    ensures { λ r. ⌜ changed (outcomeOf r) (now (image .exit)) (now (list .exit)) ≡ change (mark protect (now (name .entry))) (now (image .entry)) (now (list .entry)) ⌝ }
+    ensures { λ r. ⌜ Returns (mark protect (now (name .entry))) (now (image .entry)) (now (list .entry)) r (now (image .exit)) (now (list .exit)) ⌝ }
 {
     set_mark(image, name, Marking::Protect, list)
 }
 
 pub fn release(image: &mut [u8], name: &[u8], list: &mut [u16]) -> Answer
-    ensures { λ r. ⌜ changed (outcomeOf r) (now (image .exit)) (now (list .exit)) ≡ change (mark release (now (name .entry))) (now (image .entry)) (now (list .entry)) ⌝ }
+    ensures { λ r. ⌜ Returns (mark release (now (name .entry))) (now (image .entry)) (now (list .entry)) r (now (image .exit)) (now (list .exit)) ⌝ }
 {
     set_mark(image, name, Marking::Release, list)
 }

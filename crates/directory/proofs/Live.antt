@@ -81,12 +81,13 @@ directory-some d i s e = by (ltb i slots) (isLive (slotBytes d i)) refl refl e
 
 -- ---- as the code meets a slot: its bytes s, and r that says whether it is live
 
-module _ (d : List ℕ) (i : ℕ) (h : i < slotsRead d) {s : List ℕ} (e : s ≡ slotOr d i) {r : Bool} (l : r ≡ isLive s) where
-  pub met-live : r ≡ true → directory d i ≡ some s
-  met-live t = directory-read d i h ∙ rw (← e, ← l, t)
+module _ (d : List ℕ) (i : ℕ) {s : List ℕ} (e : s ≡ slotOr d i) {r : Bool} (l : r ≡ isLive s) where
+  pub met-live : i < slotsRead d → r ≡ true → directory d i ≡ some s
+  met-live h t = directory-read d i h ∙ rw (← e, ← l, t)
 
+  -- read or not
   pub met-dead : r ≡ false → directory d i ≡ none
-  met-dead t = directory-read d i h ∙ rw (← e, ← l, t)
+  met-dead t = ⊎-elim (λ h. directory-read d i h ∙ rw (← e, ← l, t)) (directory-unread d i) (below-or-not i (slotsRead d))
 
 -- what a comparison of its name m with n says of the name k that n is
 pub met-name : (s : List ℕ) {m n k : List ℕ} {r t : Bool} → m ≡ nameOf s → n ≡ k → r ≡ sameName m n → r ≡ t → sameName (nameOf s) k ≡ t

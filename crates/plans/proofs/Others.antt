@@ -214,7 +214,7 @@ touched-others d n o y Also new ss ok now t m u v =
     (λ f e q. v (ap (λ (f : File). nameOf (f .bytes)) (sym (entry-is s (t .file .sectors) f e)) ∙ q))
 
 module _ (d : List ℕ) (ok : checkDisk d ≡ none) (room : ℕ) (new ss : List ℕ) where
-  -- "for every name but those the change names": the one of an erase or a mark
+  -- for every name but the one of an erase or a mark
   pub erase-others : (n : List ℕ) → run (erase n) d room ≡ made new ss → (m : List ℕ) → (padded m ≡ padded n → ⊥) → SameAnswers new m d m
   erase-others n e m u =
       let t = erased d ok room new ss n e in

@@ -148,7 +148,7 @@ module _ (d : List ℕ) (ok : checkDisk d ≡ none) (room : ℕ) (w : Wish) (new
             (sym (slots-other (look d) (k .slot) (some saved) j (omega arith)) ∙ p) q;
       })
 
-  -- "A saved file reads back byte for byte": the body and its length, into any buffer long enough
+  -- a saved file reads back byte for byte: the body and its length, into any buffer long enough
   pub read-back : (buf : List ℕ) → length (w .body) ≤ length buf → reading new (w .name) buf ≡ out (done (length (w .body)) 0) (put buf 0 (w .body))
   read-back buf h =
       let n : lengthOf (facts (newSlot (slotsOf (look d)) (k .slot) w (k .bits))) ≡ length (w .body) = length-is (slotsOf (look d)) (k .slot) w (k .bits) in

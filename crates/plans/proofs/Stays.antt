@@ -48,7 +48,7 @@ module _ (d : List ℕ) (ok : checkDisk d ≡ none) (room : ℕ) (new ss : List 
       let a = unusable-same (look new) (look d) (change-accepted c d room new ss ok e) ok m u in
       record { readings = a .0; starts = a .1 }
 
-  -- "for every name but those the change names, the whole answer of read and start is the old one"
+  -- for every name but those the change names, the whole answer of read and start is the old one
   pub stays : (c : Change) → run c d room ≡ made new ss → (m : List ℕ) → Unasked c m → SameAnswers new m d m
   stays c e m u = by (askable m) refl
     where
@@ -56,7 +56,7 @@ module _ (d : List ℕ) (ok : checkDisk d ≡ none) (room : ℕ) (new ss : List 
       by true q = others-stay c e m (u q)
       by false q = unusable-stay c e m q
 
-  -- "and so is every other listing entry": the slot of each live file that the change does not find
+  -- and so is every other listing entry: the slot of each live file that the change does not find
   pub entries-stay : (c : Change) → run c d room ≡ made new ss → (j : ℕ) (f : File) → look d .files j ≡ some f → finds c f ≡ false → directory new j ≡ directory d j
   entries-stay (save w) e j f h n =
       let k = stored d ok room w new ss e in

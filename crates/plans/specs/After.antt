@@ -36,7 +36,7 @@ Other (erase n) m = padded m ≡ padded n → ⊥
 Other (rename n to) m = (padded m ≡ padded n → ⊥) × (padded m ≡ padded to → ⊥)
 Other (mark k n) m = padded m ≡ padded n → ⊥
 
--- "every name but those the change names": one that cannot be asked for is none of them, whatever its bytes
+-- every name but those the change names: one that cannot be asked for is none of them, whatever its bytes
 abbrev pub Unasked : Change → List ℕ → Type 0
 Unasked c m = askable m ≡ true → Other c m
 

@@ -22,7 +22,7 @@ pub record Safe (finds : File → Bool) (old new ss : List ℕ) : Type 0 where
   pub small : (s : ℕ) → listed s ss ≡ true → s < 1600
   pub unnamed : (s : ℕ) → listed s ss ≡ false → sector new s ≡ sector old s
   pub long : length new ≡ length old
-  -- "Whichever number of them is written .. the disk left is accepted"
+  -- whichever number of them is written, the disk left is accepted
   pub accepts : (k : ℕ) → k ≤ length ss → checkDisk (cut old new ss k) ≡ none
   -- "For k below the number named, the listing, reading and start address calls give on the cut disk what they give on the old one,
   -- for every name and equal output buffers"

@@ -12,7 +12,7 @@ use lib.Seq.{getD-append-add}
 use Rattle.buffers.specs.Bytes.{part, put}
 use Rattle.buffers.proofs.Lists.{below-or-not, past-end, length-tab, getD-tab, tab-of, length-part, part-long, part-at, put-append}
 use Rattle.plans.specs.Saving.{stream, block}
-use Rattle.saves.specs.declared.Start.{Start}
+use Rattle.taking.specs.declared.Start.{Start}
 use Rattle.saves.specs.Write.{wishFor, header, run}
 
 -- a byte of a list after another

@@ -12,7 +12,7 @@ use Rattle.slots.specs.Name.{padded}
 use Rattle.plans.specs.Change.{Wish}
 use Rattle.plans.specs.Saving.{mapWith, slotByte}
 use Rattle.plans.proofs.NewFile.{length-mapWith, name-byte, map-byte, info-byte, exec-byte, before-info, after-info, after-date}
-use Rattle.saves.specs.declared.Start.{Start}
+use Rattle.taking.specs.declared.Start.{Start}
 use Rattle.saves.specs.Write.{wishFor, chainBytes, span}
 use Rattle.saves.proofs.Chained.{from}
 

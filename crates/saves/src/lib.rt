@@ -1,74 +1,30 @@
 // Saving a file: its data sectors along a chain of free bits, then its slot, and the list of the sectors written.
 ghost use mathlib.Core.Path.{_≡_};
 ghost use mathlib.Core.List.{_++_, map};
-ghost use Prim.Native.Nat.{_*_, _≤_, _<_};
+ghost use Prim.Native.Nat.{_+_, _*_, _≤_, _<_};
 ghost use lib.ListN.{length, drop, take};
 ghost use Rattle.buffers.specs.Bytes.{put, tab};
 ghost use Rattle.geometry.specs.Disk.{bitNumber, placeOrEnd};
-ghost use Rattle.refusals.specs.Order.{refuse};
-ghost use Rattle.refusals.specs.Answers.{numberOf, replyOf, outcomeOf, refused};
-ghost use Rattle.directory.specs.Find.{foundAt};
 ghost use Rattle.disk.specs.Look.{look};
-ghost use Rattle.files.specs.Calls.{barred, soughtOf};
 ghost use Rattle.steps.specs.Steps.{enact};
 ghost use Rattle.plans.specs.Change.{save};
-ghost use Rattle.plans.specs.Saving.{block, mapWith, slotByte, lowestSlot};
-ghost use Rattle.plans.specs.Plan.{dataSteps, saveSteps, changed, change};
-ghost use Rattle.saves.specs.Write.{wish, wishFor, askedReply, lowest, full, Bits, Plain, header, run, linkTo, chainBytes, span, Writable, slotFor, Open};
-use directory::Found;
+ghost use Rattle.plans.specs.Saving.{block, mapWith, slotByte};
+ghost use Rattle.plans.specs.Plan.{dataSteps, saveSteps};
+ghost use Rattle.changes.specs.Settled.{Returns, Made};
+ghost use Rattle.taking.specs.Taken.{lowest};
+ghost use Rattle.saves.specs.Write.{wish, wishFor, Bits, Plain, header, run, linkTo, chainBytes, span, Writable, Savable, Open};
 use directory::UsedMap;
 use files::Lookup;
 use geometry::Address;
 use refusals::Answer;
 use refusals::Reason;
-use refusals::Refused;
 use refusals::Verdict;
-
-// The kind of a file, and where it is loaded.
-struct Start {
-    kind: usize,
-    page: usize,
-    offset: usize,
-}
+use taking::Start;
 
 // The last two bytes of a data sector: where the next one is.
 struct Link {
     track: u8,
     sector: u8,
-}
-
-// Whether all eight bits of a map from `b` on are set, and `b` is the first of a byte.
-fn is_full(map: &[u8], b: usize) -> bool
-    ensures { λ r. ⌜ r ≡ full (now (map .entry)) b ⌝ }
-{
-    if b % 8 != 0 {
-        return false;
-    }
-    buffers::byte_at(map, b / 8) == 255
-}
-
-// Puts the `n` lowest clear bits of a map to the front of a list. Of a byte that is full no bit is looked at.
-fn pick_bits(map: &[u8], n: usize, list: &mut [u16])
-    requires { ⌜ n ≤ length (now list) ⌝ }
-    ensures { λ _. ⌜ now (list .exit) ≡ put (now (list .entry)) 0 (lowest (now (map .entry)) n) ⌝ }
-{
-    let mut j: usize = 0;
-    let mut b: usize = 0;
-    while b < 1560 {
-        if n <= j {
-            return;
-        }
-        let c = b;
-        if is_full(map, c) {
-            b += 8;
-        } else {
-            b += 1;
-            if !maps::has_bit(map, c) {
-                list[j] = c as u16;
-                j += 1;
-            }
-        }
-    }
 }
 
 // The nine bytes in front of a body of `len` bytes.
@@ -262,67 +218,30 @@ fn write_file(
     let head = header_of(start, body.len());
     write_chain(image, &head, body, bits);
     let slot = slot_of(start, name, exec, info, body, bits);
-    buffers::copy_into(image, i / 20 * 10240 + i % 20 * 256, &slot);
+    buffers::copy_into(image, directory::slot_place(i), &slot);
 }
 
-// Rows 12, 13 and 14, which go by the arguments alone.
-fn asked_rows(start: Start, name: &[u8]) -> Verdict
-    ensures { λ r. ⌜ replyOf r ≡ askedReply start (now (name .entry)) ⌝ }
+// Writes a file of `n` sectors into slot `i` of a disk whose used map is `map`: the lowest free bits are its chain, and the
+// list gets the numbers of its sectors, that of the directory last.
+fn write_save(
+    image: &mut [u8],
+    map: &[u8],
+    n: usize,
+    i: usize,
+    start: Start,
+    name: &[u8],
+    exec: &[u8],
+    info: &[u8],
+    body: &[u8],
+    list: &mut [u16],
+)
+    requires { ⌜ Savable (now map) n i start (now body) (now list) ⌝ }
+    ensures { λ _. ⌜ Made (saveSteps (look (now (image .entry))) i (wishFor start (now (name .entry)) (now (exec .entry)) (now (info .entry)) (now (body .entry))) (lowest (now (map .entry)) n)) (now (image .entry)) (now (list .entry)) (now (image .exit)) (now (list .exit)) (n + 1) ⌝ }
 {
-    if !changes::is_usable(name) {
-        return refusals::unsound(Reason::NameNotUsable, 0);
-    }
-    if !slots::is_carried(start.kind) {
-        return refusals::unsound(Reason::KindNotCarried, 0);
-    }
-    if 31 < start.page {
-        return refusals::unsound(Reason::StartOutOfRange, 0);
-    }
-    if start.offset < 32768 {
-        return refusals::unsound(Reason::StartOutOfRange, 0);
-    }
-    if 49151 < start.offset {
-        return refusals::unsound(Reason::StartOutOfRange, 0);
-    }
-    Verdict::Sound
-}
-
-// The lowest slot that holds no file.
-fn free_slot(image: &[u8]) -> Found
-    ensures { λ r. ⌜ foundAt r ≡ lowestSlot (look (now (image .entry))) ⌝ }
-{
-    let mut i: usize = 0;
-    while i < 80 {
-        let s = directory::slot_at(image, i);
-        let k = i;
-        i += 1;
-        if !slots::is_live(s) {
-            return Found::At(k);
-        }
-    }
-    Found::Nothing
-}
-
-fn barred(reason: Reason, slot: usize) -> Lookup
-    ensures { λ r. ⌜ soughtOf r ≡ barred (refuse (numberOf reason) slot) ⌝ }
-{
-    Lookup::Barred(Refused { reason, slot })
-}
-
-// The slot that a save takes, counted from 0; or what is refused before: 12, 13, 14, 16, 18.
-fn slot_for(image: &[u8], start: Start, name: &[u8]) -> Lookup
-    ensures { λ r. ⌜ soughtOf r ≡ slotFor (now (image .entry)) start (now (name .entry)) ⌝ }
-{
-    match asked_rows(start, name) {
-        Verdict::Unsound(r) => Lookup::Barred(r),
-        Verdict::Sound => match directory::find(image, name) {
-            Found::At(i) => barred(Reason::NameTaken, i + 1),
-            Found::Nothing => match free_slot(image) {
-                Found::At(i) => Lookup::At(i),
-                Found::Nothing => barred(Reason::NoFreeSlot, 0),
-            },
-        },
-    }
+    taking::pick_bits(map, n, list);
+    write_file(image, i, start, name, exec, info, body, &list[..n]);
+    to_numbers(list, n);
+    list[n] = directory::dir_sector(i) as u16;
 }
 
 // Saves into the free slot `i` of an accepted disk whose used map is `used`, where the sectors and the list suffice.
@@ -338,8 +257,12 @@ fn save_at(
     list: &mut [u16],
 ) -> Answer
     requires { ⌜ Open (now image) used i start (now name) ⌝ }
-    ensures { λ r. ⌜ changed (outcomeOf r) (now (image .exit)) (now (list .exit)) ≡ change (save (wishFor start (now (name .entry)) (now (exec .entry)) (now (info .entry)) (now (body .entry)))) (now (image .entry)) (now (list .entry)) ⌝ }
+    ensures { λ r. ⌜ Returns (save (wishFor start (now (name .entry)) (now (exec .entry)) (now (info .entry)) (now (body .entry)))) (now (image .entry)) (now (list .entry)) r (now (image .exit)) (now (list .exit)) ⌝ }
 {
+    // No disk holds more, and past the largest number the sectors could not be counted.
+    if 795591 < body.len() {
+        return refusals::no(Reason::TooFewSectors, 0);
+    }
     let n = (body.len() + 518) / 510;
     if directory::free_of(used) < n {
         return refusals::no(Reason::TooFewSectors, 0);
@@ -348,12 +271,8 @@ fn save_at(
         return refusals::no(Reason::BufferTooShort, 0);
     }
     let map = used.bytes;
-    pick_bits(&map, n, list);
-    write_file(image, i, start, name, exec, info, body, &list[..n]);
-    to_numbers(list, n);
-    let last = n;
-    list[last] = (i / 20 * 20 + i % 20 / 2) as u16;
-    Answer::Done(last + 1, 0)
+    write_save(image, &map, n, i, start, name, exec, info, body, list);
+    Answer::Done(n + 1, 0)
 }
 
 // Saves a file: the image changes, the front of `list` gets the numbers of the sectors in the order of writing, and the
@@ -369,7 +288,7 @@ pub fn save(
     body: &[u8],
     list: &mut [u16],
 ) -> Answer
-    ensures { λ r. ⌜ changed (outcomeOf r) (now (image .exit)) (now (list .exit)) ≡ change (save (wish kind (now (name .entry)) page offset (now (exec .entry)) (now (info .entry)) (now (body .entry)))) (now (image .entry)) (now (list .entry)) ⌝ }
+    ensures { λ r. ⌜ Returns (save (wish kind (now (name .entry)) page offset (now (exec .entry)) (now (info .entry)) (now (body .entry)))) (now (image .entry)) (now (list .entry)) r (now (image .exit)) (now (list .exit)) ⌝ }
 {
     let found = disk::examine(image);
     let verdict = found.verdict;
@@ -378,7 +297,7 @@ pub fn save(
         Verdict::Sound => {
             let used = found.used;
             let start = Start { kind, page, offset };
-            match slot_for(image, start, name) {
+            match taking::slot_for(image, start, name) {
                 Lookup::Barred(r) => Answer::No(r),
                 Lookup::At(i) => save_at(image, used, i, start, name, exec, info, body, list),
             }

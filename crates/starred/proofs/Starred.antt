@@ -1,9 +1,10 @@
 -- Every starred point is as document 01 says: one claim over the whole table, by a test that computes.
 -- Assumes nothing.
-use mathlib.Core.Bool.{Bool, true, false, _&&_}
+use mathlib.Core.Bool.{Bool, true, _&&_}
 use mathlib.Core.List.{List, [], _∷_}
 use lib.Dec.{T, eqb, eqb→eq}
 use Rattle.geometry.specs.Disk.{isSector, isData, trackOf, bitOf, bitNumber}
+use Rattle.geometry.proofs.Table.{both}
 use Rattle.directory.specs.Places.{slotAt}
 use Rattle.files.specs.Calls.{address}
 use Rattle.plans.specs.Saving.{sectorsFor}
@@ -12,10 +13,6 @@ use Rattle.starred.specs.Starred.{Point, starred, Every}
 abbrev right : List Point → Bool
 right [] = true
 right (p ∷ ps) = eqb (p .gives) (p .says) && right ps
-
-both : (p q : Bool) → T (p && q) → T p × T q
-both true q t = (tt, t)
-both false q t = absurd t
 
 each : (ps : List Point) → T (right ps) → Every ps
 each [] t = tt

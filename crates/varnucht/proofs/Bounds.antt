@@ -1,5 +1,5 @@
 -- Every outcome of a call keeps to bounds: refusals of the table, slots of the directory, and the greatest value that the call can give.
-use Prim.Native.Nat.{ℕ, suc, _+_, _≤_, _<_}
+use Prim.Native.Nat.{ℕ, _+_, _/_, _≤_}
 use mathlib.Core.Path.{_≡_, refl, sym, ap, _∙_, subst}
 use mathlib.Core.Bool.{Bool, true, false, cond, not, _&&_}
 use mathlib.Core.List.{List, [], _∷_}
@@ -8,6 +8,7 @@ use native.Mathlib.Omega.{arith}
 use borrow.Author.Tests.{leb-true, eqb-true, not-false}
 use lib.Dec.{eqb, leb, ltb}
 use lib.ListN.{length}
+use Rattle.buffers.proofs.Tests.{and-both}
 use Rattle.geometry.specs.Disk.{imageSize, isSector, placeOf}
 use Rattle.geometry.proofs.Laws.{sector-inside}
 use Rattle.refusals.specs.Order.{Refusal, refuse, Reply, _else_, Row, _when_, rows, row, sweep}
@@ -29,68 +30,22 @@ use Rattle.disk.specs.Check.{checkLook, checkDisk}
 use Rattle.disk.specs.Given.{rows9, rows11}
 use Rattle.disk.proofs.Look.{look-some}
 use Rattle.disk.proofs.Order.{passAt, pass, check-passes}
-use Rattle.disk.proofs.Rows.{and-both, carried-is}
+use Rattle.disk.proofs.Rows.{carried-is}
 use Rattle.disk.proofs.Sound.{sound}
 use Rattle.files.specs.Calls.{entries, listing, Sought, at, barred, soughtBy, lookup, address, startOf, startAt, starting, readAt, reading}
 use Rattle.files.proofs.Listed.{listing-is}
 use Rattle.files.proofs.Named.{Named, lookup-named, named-slot}
 use Rattle.files.proofs.Reading.{read-barred, read-found}
 use Rattle.files.proofs.Starting.{start-barred, start-found}
-use Rattle.varnucht.specs.Packed.{packed, checking, sectorPlace, Within, Told}
-use Rattle.varnucht.proofs.Parts.{within-fits, told}
+use Rattle.plans.specs.Change.{Change}
+use Rattle.plans.specs.Plan.{Result, stopped, made, run}
+use Rattle.packing.specs.Packed.{packed, Within, Told}
+use Rattle.packing.proofs.Parts.{within-fits, told}
+use Rattle.bytelists.specs.Lists.{changing, changingBy}
+use Rattle.bytelists.proofs.Table.{Small, small-else, small-row, check-small}
+use Rattle.bytelists.proofs.Changing.{most, most-few, Settled, mild-run}
+use Rattle.varnucht.specs.Calls.{checking, sectorPlace}
 use Rattle.directory.proofs.Live.{among-few}
-
--- ---- replies
-
--- a refusal of the table at a slot of the directory, or none
-abbrev pub Small : Reply → Type 0
-Small none = Unit {0}
-Small (some r) = (r .number ≤ 21) × (r .slot ≤ 80)
-
-pub small-else : (p q : Reply) → Small p → Small q → Small (p else q)
-small-else none q a b = b
-small-else (some r) q a b = a
-
-abbrev few : List Row → Bool
-few [] = true
-few (r ∷ rs) = leb (r .number) 21 && few rs
-
-small-rows : (s : ℕ) (rs : List Row) → s ≤ 80 → few rs ≡ true → Small (rows s rs)
-small-rows s [] h e = tt
-small-rows s (r ∷ rs) h e =
-    let c = and-both (leb (r .number) 21) (few rs) e in
-    by (r .holds) (leb-true (r .number) 21 (c .0)) (small-rows s rs h (c .1))
-  where
-    by : (t : Bool) → r .number ≤ 21 → Small (rows s rs) → Small (cond t (some (refuse (r .number) s)) (rows s rs))
-    by true a b = (a, h)
-    by false a b = b
-
-pub small-row : (n s : ℕ) (t : Bool) → n ≤ 21 → s ≤ 80 → Small (row n s t)
-small-row n s true p q = (p, q)
-small-row n s false p q = tt
-
-small-sweep : (n : ℕ) (f : ℕ → Reply) → ((i : ℕ) → i < n → Small (f i)) → Small (sweep n f)
-small-sweep n f h = by (sweep n f) refl
-  where
-    by : (q : Reply) → sweep n f ≡ q → Small q
-    by none e = tt
-    by (some r) e = let w = sweep-first n f r e in subst Small (w .here) (h (w .at) (w .below))
-
-small-pass : (l : Look) (rs : ℕ → File → List Row) → ((i : ℕ) (f : File) → few (rs i f) ≡ true) → Small (pass l rs)
-small-pass l rs h = small-sweep slots (passAt l rs) (λ i k. by i k (l .files i))
-  where
-    by : (i : ℕ) → i < slots → (o : Option File) → Small (held none (λ f. rows (suc i) (rs i f)) o)
-    by i k none = tt
-    by i k (some f) = small-rows (suc i) (rs i f) (omega arith) (h i f)
-
-pub check-small : (l : Look) → Small (checkLook l)
-check-small l =
-    subst Small (sym (check-passes l))
-    (small-else (row 1 0 (not (eqb (l .long) imageSize))) (pass l (rows9 l) else pass l (rows11 l)) (small-row 1 0 (not (eqb (l .long) imageSize)) (omega arith) (omega arith))
-    (small-else (pass l (rows9 l)) (pass l (rows11 l)) (small-pass l (rows9 l) (λ i f. refl)) (small-pass l (rows11 l) (λ i f. refl))))
-
-pub check-slot : (l : Look) (r : Refusal) → checkLook l ≡ some r → r .slot ≤ 80
-check-slot l r e = subst Small e (check-small l) .1
 
 -- ---- outcomes
 
@@ -224,6 +179,17 @@ module _ (one two : List ℕ) (d t s : ℕ) where
           record { refusal = omega arith; slot = omega arith; value = omega arith; free = omega arith }
       by false q = within-refused (refuse (rawRefusal one two d t s) 0) 818688 0 (raw-few, omega arith)
 
+-- ---- a change: 1,560 data sectors and one of the directory
+
+module _ (c : Change) (d b : List ℕ) where
+  pub changing-within : Within (changing c d b .outcome) 1561 0
+  unfolding changing
+  changing-within = by (run c d (length b / 2)) (mild-run c d (length b / 2))
+    where
+      by : (x : Result) → Settled (most c) x → Within (changingBy x d b .outcome) 1561 0
+      by (stopped r) m = within-refused r 1561 0 m
+      by (made new ss) m = record { refusal = omega arith; slot = omega arith; value = omega (arith, most-few c); free = omega arith }
+
 -- ---- so every answer can be read in its parts
 
 pub checking-told : (d : List ℕ) → Told (checking d) (packed (checking d))
@@ -240,3 +206,6 @@ starting-told d n = told _ (within-fits _ _ _ (omega arith) (omega arith) (start
 
 pub sector-told : (one two : List ℕ) (d t s : ℕ) → Told (sectorPlace one two d t s) (packed (sectorPlace one two d t s))
 sector-told one two d t s = told _ (within-fits _ _ _ (omega arith) (omega arith) (sector-within one two d t s))
+
+pub changing-told : (c : Change) (d b : List ℕ) → Told (changing c d b .outcome) (packed (changing c d b .outcome))
+changing-told c d b = told _ (within-fits _ _ _ (omega arith) (omega arith) (changing-within c d b))

@@ -1,6 +1,6 @@
--- What the calls below answer is the outcome that is packed, and it fits.
+-- What the calls below answer is packed whole: every outcome of theirs fits.
 use Prim.Native.Nat.{ℕ, _*_, _^_, _<_}
-use mathlib.Core.Path.{_≡_, sym, ap, _∙_, subst}
+use mathlib.Core.Path.{_≡_, sym, ap, _∙_}
 use mathlib.Core.Bool.{false≢true}
 use mathlib.Core.List.{List}
 use native.Mathlib.Omega.{arith}
@@ -9,43 +9,49 @@ use Rattle.geometry.specs.Disk.{spotOf}
 use Rattle.geometry.specs.declared.Spot.the-variants.{At, NoSector}
 use Rattle.geometry.proofs.Laws.{spot-at, spot-none}
 use Rattle.refusals.specs.Order.{Reply}
-use Rattle.refusals.specs.Answers.{Outcome, done, refused, unless, Out, out, replyOf, refusalOf}
-use Rattle.refusals.specs.declared.Refused.{Refused}
-use Rattle.refusals.specs.declared.Verdict.{Verdict}
-use Rattle.refusals.specs.declared.Verdict.the-variants.{Sound, Unsound}
+use Rattle.refusals.specs.Answers.{Outcome, Out, out}
+use Rattle.packing.specs.Packed.{packed, clipped, checked, Within}
+use Rattle.packing.proofs.Parts.{within-fits, clipped-is}
 use Rattle.drives.specs.Raw.{rawRefusal}
 use Rattle.drives.proofs.Laws.{accepted}
 use Rattle.disk.specs.Check.{checkDisk}
 use Rattle.files.specs.Calls.{listing, reading, starting}
-use Rattle.varnucht.specs.Packed.{packed, checking, sectorPlace, Within, Fits}
-use Rattle.varnucht.proofs.Parts.{within-fits}
-use Rattle.varnucht.proofs.Bounds.{checking-within, listing-within, reading-within, starting-within}
+use Rattle.plans.specs.Change.{Change}
+use Rattle.plans.specs.Plan.{Changed, changed}
+use Rattle.bytelists.specs.Lists.{changing}
+use Rattle.varnucht.specs.Calls.{checking, sectorPlace, Returns}
+use Rattle.varnucht.proofs.Bounds.{checking-within, listing-within, reading-within, starting-within, changing-within}
 
-module _ (d : List ℕ) (v : Verdict) (w : replyOf v ≡ checkDisk d) where
-  pub checking-refused : (r : Refused) → v ≡ Unsound r → refused (refusalOf r) ≡ checking d
-  checking-refused r e = ap (λ (q : Reply). unless q (done 0 0)) (ap replyOf (sym e) ∙ w)
+-- ---- a number that is packed of an outcome within bounds
 
-  pub checking-sound : v ≡ Sound → done 0 0 ≡ checking d
-  checking-sound e = ap (λ (q : Reply). unless q (done 0 0)) (ap replyOf (sym e) ∙ w)
+packed-within : (o : Outcome) (v f : ℕ) → v < 2 ^ 24 → f < 2 ^ 16 → Within o v f → (p : Outcome) → p ≡ o → (n : ℕ) → n ≡ clipped p → n ≡ packed o
+packed-within o v f h k w p e n q = q ∙ ap clipped e ∙ clipped-is o (within-fits o v f h k w)
 
-  pub refused-fits : (r : Refused) → v ≡ Unsound r → Fits (refused (refusalOf r))
-  refused-fits r e = rw (checking-refused r e) (within-fits (checking d) 0 0 (omega arith) (omega arith) (checking-within d))
+pub packed-check : (d : List ℕ) (q : Reply) → q ≡ checkDisk d → (n : ℕ) → n ≡ clipped (checked q) → n ≡ packed (checking d)
+packed-check d q e = packed-within (checking d) 0 0 (omega arith) (omega arith) (checking-within d) (checked q) (ap checked e)
 
-pub list-fits : (d buf : List ℕ) (o : Outcome) (b : List ℕ) → out o b ≡ listing d buf → Fits o
-list-fits d buf o b e =
-    within-fits o 80 1560 (omega arith) (omega arith) (subst (λ (x : Out). Within (x .outcome) 80 1560) (sym e) (listing-within d buf))
+pub packed-start : (d n : List ℕ) (o : Outcome) → o ≡ starting d n → (k : ℕ) → k ≡ clipped o → k ≡ packed (starting d n)
+packed-start d n = packed-within (starting d n) 540671 0 (omega arith) (omega arith) (starting-within d n)
 
-pub read-fits : (d n buf : List ℕ) (o : Outcome) (b : List ℕ) → out o b ≡ reading d n buf → Fits o
-read-fits d n buf o b e =
-    within-fits o 795591 0 (omega arith) (omega arith) (subst (λ (x : Out). Within (x .outcome) 795591 0) (sym e) (reading-within d n buf))
+-- with the buffer that the call fills
+module _ (o : Outcome) (b : List ℕ) (n : ℕ) (q : n ≡ clipped o) where
+  pub packed-list : (d buf : List ℕ) → out o b ≡ listing d buf → (n ≡ packed (listing d buf .outcome)) × (b ≡ listing d buf .buffer)
+  packed-list d buf e =
+      (packed-within (listing d buf .outcome) 80 1560 (omega arith) (omega arith) (listing-within d buf) o (ap (λ (x : Out). x .outcome) e) n q, ap (λ (x : Out). x .buffer) e)
 
-pub start-fits : (d n : List ℕ) (o : Outcome) → o ≡ starting d n → Fits o
-start-fits d n o e =
-    within-fits o 540671 0 (omega arith) (omega arith) (subst (λ (x : Outcome). Within x 540671 0) (sym e) (starting-within d n))
+  pub packed-read : (d name buf : List ℕ) → out o b ≡ reading d name buf → (n ≡ packed (reading d name buf .outcome)) × (b ≡ reading d name buf .buffer)
+  packed-read d name buf e =
+      (packed-within (reading d name buf .outcome) 795591 0 (omega arith) (omega arith) (reading-within d name buf) o (ap (λ (x : Out). x .outcome) e) n q, ap (λ (x : Out). x .buffer) e)
 
--- the number and the buffer of a call that fills one
-pub packed-out : (o : Outcome) (b : List ℕ) (x : Out) → out o b ≡ x → (n : ℕ) → n ≡ packed o → (n ≡ packed (x .outcome)) × (b ≡ x .buffer)
-packed-out o b x e n p = (p ∙ ap (λ (x : Out). packed (x .outcome)) e, ap (λ (x : Out). x .buffer) e)
+-- with the image and the list that a change leaves
+pub packed-change : (c : Change) (d b : List ℕ) (o : Outcome) (d′ b′ : List ℕ) → changed o d′ b′ ≡ changing c d b → (n : ℕ) → n ≡ clipped o → Returns c d b n d′ b′
+packed-change c d b o d′ b′ e n q = (
+  packed-within (changing c d b .outcome) 1561 0 (omega arith) (omega arith) (changing-within c d b) o (ap (λ (x : Changed). x .outcome) e) n q,
+  ap (λ (x : Changed). x .image) e,
+  ap (λ (x : Changed). x .list) e,
+)
+
+-- ---- a raw sector
 
 module _ (one two : List ℕ) (d t s r : ℕ) (w : r ≡ rawRefusal one two d t s) where
   pub sector-refused : (r ≡ 0 → ⊥) → r ≡ packed (sectorPlace one two d t s)

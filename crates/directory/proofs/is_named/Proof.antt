@@ -21,12 +21,10 @@ returns : tie.Need-returns
 returns c =
     let l = c .before .before in
     let s = l .before .before in
-    named-live _ _ _ _ (met-live _ _ (s .before .before .before .pre) (s .slot-at .ensures) (l .before .is-live .ensures) (l .if1 .taken)) (c .before .name-of .ensures) (c .same-name .ensures)
+    named-live _ _ _ _ (met-live _ _ (s .slot-at .ensures) (l .before .is-live .ensures) (s .before .before .before .pre) (l .if1 .taken)) (c .before .name-of .ensures) (c .same-name .ensures)
 
 returns-2 : tie.Need-returns-2
-returns-2 c =
-    let s = c .before .before in
-    named-dead _ _ _ (met-dead _ _ (s .before .before .before .pre) (s .slot-at .ensures) (c .before .is-live .ensures) (c .if1 .left))
+returns-2 c = named-dead _ _ _ (met-dead _ _ (c .before .before .slot-at .ensures) (c .before .is-live .ensures) (c .if1 .left))
 
 pub is-named-spec : {M : Type 1} → statement M
 is-named-spec =

@@ -47,7 +47,7 @@ live-rows-requires : tie.Need-live-rows-requires Inv-loop μ-loop
 live-rows-requires c κs =
     let y = c .before .before .before .before in
     let a = y .before .before .before .before .loop in
-    reached _ (a .i) _ (a .inv .1) _ (met-live _ _ (omega arith) (y .before .before .slot-at .ensures) (y .before .is-live .ensures) (y .if1 .taken)) (omega arith) (a .inv .3 .keyed)
+    reached _ (a .i) _ (a .inv .1) _ (met-live _ _ (y .before .before .slot-at .ensures) (y .before .is-live .ensures) (omega arith) (y .if1 .taken)) (omega arith) (a .inv .3 .keyed)
 
 enum-known-f : tie.Need-enum-known-f Inv-loop μ-loop
 enum-known-f c = search needs
@@ -93,7 +93,7 @@ joined-requires c κs =
     let t = c .before .before .before .before in
     let y = t .before .before .before .before .before .before .before in
     let a = y .before .before .before .before .loop in
-    apart _ (a .i) _ (a .inv .1) _ (met-live _ _ (omega arith) (y .before .before .slot-at .ensures) (y .before .is-live .ensures) (y .if1 .taken)) (c .before .map-of .ensures) (c .count-of .ensures .0) (sym (ap replyOf (sym (t .enum-told .given .1)) ∙ t .before .before .live-rows .ensures))
+    apart _ (a .i) _ (a .inv .1) _ (met-live _ _ (y .before .before .slot-at .ensures) (y .before .is-live .ensures) (omega arith) (y .if1 .taken)) (c .before .map-of .ensures) (c .count-of .ensures .0) (sym (ap replyOf (sym (t .enum-told .given .1)) ∙ t .before .before .live-rows .ensures))
 
 loop-less : tie.Need-loop-less Inv-loop μ-loop
 loop-less c = search needs
@@ -103,7 +103,7 @@ loop-again c =
     let t = c .before .before .before .before .before in
     let y = t .before .before .before .before .before .before .before in
     let a = y .before .before .before .before .loop in
-    let e = met-live _ _ (omega arith) (y .before .before .slot-at .ensures) (y .before .is-live .ensures) (y .if1 .taken) in (
+    let e = met-live _ _ (y .before .before .slot-at .ensures) (y .before .is-live .ensures) (omega arith) (y .if1 .taken) in (
       omega arith,
       used-more _ (a .i) _ (a .inv .1) _ e (c .before .before .map-of .ensures) _ (c .joined .ensures),
       a .inv .2 ∙ sweep-skip slots (a .i) _ (omega arith) (sym (ap replyOf (sym (t .enum-told .given .1)) ∙ t .before .before .live-rows .ensures)),
@@ -117,7 +117,7 @@ loop-again-2 : tie.Need-loop-again-2 Inv-loop μ-loop
 loop-again-2 c =
     let s = c .before .before in
     let a = s .before .before .loop in
-    let e = met-dead _ _ (omega arith) (s .slot-at .ensures) (c .before .is-live .ensures) (c .if1 .left) in
+    let e = met-dead _ _ (s .slot-at .ensures) (c .before .is-live .ensures) (c .if1 .left) in
     (omega arith, used-dead _ (a .i) _ (a .inv .1) e, a .inv .2 ∙ sweep-skip slots (a .i) _ (omega arith) (survey-dead 0 _ (a .i) e), noted-dead _ _ _ _ (a .inv .3) (omega arith) e)
 
 returns-2 : tie.Need-returns-2 Inv-loop μ-loop

@@ -35,7 +35,7 @@ next c = omega (arith, more c, read-most (now (c .before .before .before .args .
 
 -- a slot that is looked at is live
 live : (y : tie.Then1 Inv-loop μ-loop) → directory (now (y .before .before .before .before .before .before .args .image)) (y .before .before .before .before .loop .i) ≡ some (now (y .before .before .slot-at .result))
-live y = met-live _ _ (more (y .before .before .before)) (y .before .before .slot-at .ensures) (y .before .is-live .ensures) (y .if1 .taken)
+live y = met-live _ _ (y .before .before .slot-at .ensures) (y .before .is-live .ensures) (more (y .before .before .before)) (y .if1 .taken)
 
 loop-holds : tie.Need-loop-holds Inv-loop μ-loop
 loop-holds c = (omega arith, sweep-start slots _, sym (among-none _))
@@ -88,7 +88,7 @@ loop-again-2 : tie.Need-loop-again-2 Inv-loop μ-loop
 loop-again-2 c =
     let s = c .before .before in
     let a = s .before .before .loop in
-    let e = met-dead _ _ (more (s .before)) (s .slot-at .ensures) (c .before .is-live .ensures) (c .if1 .left) in
+    let e = met-dead _ _ (s .slot-at .ensures) (c .before .is-live .ensures) (c .if1 .left) in
     (omega (arith, next (s .before)), a .inv .1 ∙ sweep-skip slots (a .i) _ (next (s .before)) (chain-none _ (a .i) e), a .inv .2 ∙ sym (among-dead _ (a .i) e))
 
 returns-2 : tie.Need-returns-2 Inv-loop μ-loop

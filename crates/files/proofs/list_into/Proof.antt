@@ -54,7 +54,7 @@ loop-again c =
     let s = y .before .before in
     let a = s .before .before .loop in
     let n = next (s .before) in
-    let e = met-live _ _ (more (s .before)) (s .slot-at .ensures) (y .before .is-live .ensures) (y .if1 .taken) in
+    let e = met-live _ _ (s .slot-at .ensures) (y .before .is-live .ensures) (more (s .before)) (y .if1 .taken) in
     (omega arith, omega arith, listed-more _ _ (a .i) _ _ (a .inv .2) _ e n (omega arith) _ (p .put-entry .ensures))
 
 loop-less-2 : tie.Need-loop-less-2 Inv-loop μ-loop
@@ -65,7 +65,7 @@ loop-again-2 c =
     let s = c .before .before in
     let a = s .before .before .loop in
     let n = next (s .before) in
-    let e = met-dead _ _ (more (s .before)) (s .slot-at .ensures) (c .before .is-live .ensures) (c .if1 .left) in
+    let e = met-dead _ _ (s .slot-at .ensures) (c .before .is-live .ensures) (c .if1 .left) in
     (omega arith, omega arith, listed-same _ _ (a .i) _ _ (a .inv .2) e)
 
 same-length : tie.Need-same-length Inv-loop μ-loop

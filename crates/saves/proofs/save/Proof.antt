@@ -3,7 +3,7 @@ use mathlib.Core.Path.{sym, ap, _∙_}
 use Rattle.refusals.specs.Answers.{replyOf}
 use Rattle.files.specs.Calls.{soughtOf}
 use Rattle.files.proofs.Listed.{sound-accepted}
-use Rattle.saves.proofs.Told.{change-refused}
+use Rattle.changes.proofs.Laws.{change-unsound}
 use Rattle.saves.proofs.Planned.{save-barred}
 use borrow.Author.Needs.{needs}
 use Rattle.saves.proofs.save.Statement.{statement}
@@ -40,7 +40,7 @@ same-length : tie.Need-same-length
 same-length c = search needs
 
 returns : tie.Need-returns
-returns c = change-refused _ _ _ _ (sym (c .before .before .before .examine .ensures .reply) ∙ ap replyOf (c .before .verdict .given .1))
+returns c = change-unsound _ _ _ _ (sym (c .before .before .before .examine .ensures .reply) ∙ ap replyOf (c .before .verdict .given .1))
 
 same-length-2 : tie.Need-same-length-2
 same-length-2 c = search needs

@@ -1,22 +1,19 @@
--- `saves::save_at` meets its contract: each way out has the tests that led there; past them the bits, the file with that chain, and the list.
-use mathlib.Core.Path.{sym}
-use native.Mathlib.Omega.{arith}
+-- `saves::save_at` meets its contract: each way out has the tests that led there.
+use mathlib.Core.Path.{refl}
 use denote.Ref.{now}
-use lib.ListN.{length-set}
-use lib.Seq.{length-take-le}
 use Rattle.plans.specs.Saving.{sectorsFor}
-use Rattle.saves.proofs.Whole.{Savable, front-writable, saved-is}
-use Rattle.saves.proofs.Planned.{save-few, save-short, savable, save-done}
+use Rattle.saves.proofs.Planned.{save-few, save-large, save-short, savable, save-done}
 use borrow.Author.Needs.{needs}
 use Rattle.saves.proofs.save_at.Statement.{statement}
 use Rattle.saves.proofs.save_at.Tie as tie
 
--- past the tests nothing is refused
-ready : (c : tie.Else2) → let s = c .before .before .before .before .before .before .before .before .before .args in Savable (s .used .bytes) (s .i) (s .start) (now (s .body)) (now (s .list))
-unfolding sectorsFor
-ready c =
-    let s = c .before .before .before .before .before .before .before .before .before in
-    savable _ _ _ _ (now (s .args .name)) (now (s .args .exec)) (now (s .args .info)) _ _ (s .pre) _ (c .before .before .free-of .ensures) (c .before .if1 .left) (c .if2 .left)
+no-requires : tie.Need-no-requires
+no-requires c κs = search needs
+
+returns : tie.Need-returns
+returns c =
+    let s = c .before .before .before .before .before .before .before .before in
+    save-large _ _ _ _ _ (now (s .args .exec)) (now (s .args .info)) _ _ (s .pre) _ refl (c .before .if1 .taken) _ (c .no .ensures)
 
 add-n : tie.Need-add-n
 add-n c = search needs
@@ -24,99 +21,63 @@ add-n c = search needs
 free-of-requires : tie.Need-free-of-requires
 free-of-requires c κs = search needs
 
-no-requires : tie.Need-no-requires
-no-requires c κs = search needs
-
-returns : tie.Need-returns
-unfolding sectorsFor
-returns c = save-few _ _ _ _ _ _ _ _ _ (c .before .before .before .before .before .before .before .before .before .pre) _ (c .before .before .free-of .ensures) (c .before .if1 .taken) _ (c .no .ensures)
-
 no-requires-2 : tie.Need-no-requires-2
 no-requires-2 c κs = search needs
 
 returns-2 : tie.Need-returns-2
 unfolding sectorsFor
-returns-2 c = save-short _ _ _ _ _ _ _ _ _ (c .before .before .before .before .before .before .before .before .before .before .pre) _ (c .before .before .before .free-of .ensures) (c .before .before .if1 .left) (c .before .if2 .taken) _ (c .no2 .ensures)
+returns-2 c = save-few _ _ _ _ _ _ _ _ _ (c .before .before .before .before .before .before .before .before .before .before .pre) _ (c .before .before .free-of .ensures) (c .before .if2 .taken) _ (c .no2 .ensures)
 
-slice-aggregate-pick-bits : tie.Need-slice-aggregate-pick-bits
-slice-aggregate-pick-bits c = search needs
+no-requires-3 : tie.Need-no-requires-3
+no-requires-3 c κs = search needs
 
-pick-bits-requires : tie.Need-pick-bits-requires
-pick-bits-requires c κs = search needs
-
-slice-reshare-prefix-write-file : tie.Need-slice-reshare-prefix-write-file
-slice-reshare-prefix-write-file c = search needs
-
-slice-aggregate-write-file : tie.Need-slice-aggregate-write-file
-slice-aggregate-write-file c = sym (length-take-le _ _ (omega arith))
-
-write-file-requires : tie.Need-write-file-requires
+returns-3 : tie.Need-returns-3
 unfolding sectorsFor
-write-file-requires c κs = front-writable _ _ _ _ _ (ready (c .before .before .before .before .before .before .before .before)) _ (c .before .before .before .before .pick-bits .ensures)
+returns-3 c =
+    let e = c .before .before in
+    save-short _ _ _ _ _ _ _ _ _ (e .before .before .before .before .before .before .before .before .before .pre) _ (e .before .free-of .ensures) _ refl (e .if2 .left) (c .before .if3 .taken) _ (c .no3 .ensures)
 
-to-numbers-requires : tie.Need-to-numbers-requires
+slice-aggregate-write-save : tie.Need-slice-aggregate-write-save
+slice-aggregate-write-save c = search needs
+
+write-save-requires : tie.Need-write-save-requires
 unfolding sectorsFor
-to-numbers-requires c κs = (omega arith, front-writable _ _ _ _ _ (ready (c .before .before .before .before .before .before .before .before .before .before .before .before)) _ (c .before .before .before .before .before .before .before .before .pick-bits .ensures) .bits)
+write-save-requires c κs =
+    let e = c .before .before .before .before in
+    let s = e .before .before .before .before .before .before .before .before .before .before in
+    savable _ _ _ _ (now (s .args .name)) (now (s .args .exec)) (now (s .args .info)) _ _ (s .pre) _ (e .before .before .free-of .ensures) _ refl (e .before .if2 .left) (e .if3 .left)
 
-mul-list : tie.Need-mul-list
-mul-list c = search needs
-
-add-list : tie.Need-add-list
-add-list c = search needs
-
-cast-list : tie.Need-cast-list
-cast-list c = omega (arith, ready (c .before .before .before .before .before .before .before .before .before .before .before .before .before .before .before) .file .slot)
-
-mul-list-2 : tie.Need-mul-list-2
-unfolding sectorsFor
-mul-list-2 c = let r = ready (c .before .before .before .before .before .before .before .before .before .before .before .before .before .before .before) in omega (arith, r .file .bits .few, r .enough)
-
-slice-write-list : tie.Need-slice-write-list
-slice-write-list c = search needs
-
-add-t13 : tie.Need-add-t13
-unfolding sectorsFor
-add-t13 c = let r = ready (c .before .before .before .before .before .before .before .before .before .before .before .before .before .before .before) in omega (arith, r .file .bits .few, r .enough)
+add-t12 : tie.Need-add-t12
+add-t12 c = search needs
 
 same-length : tie.Need-same-length
 same-length c = search needs
 
 same-length-2 : tie.Need-same-length-2
-same-length-2 c = simp length-set (omega arith)
+same-length-2 c = search needs
 
-returns-3 : tie.Need-returns-3
+returns-4 : tie.Need-returns-4
 unfolding sectorsFor
-returns-3 c =
-    let n = c .before .before in
-    let f = n .before .before .before .before in
-    let p = f .before .before .before .before .before in
-    let l = p .before .before .before .before in
-    let r = ready l in
-    save-done _ _ _ _ _ _ _ _ _ (l .before .before .before .before .before .before .before .before .before .pre) _ (l .before .before .free-of .ensures) (l .before .if1 .left) (l .if2 .left) _ _ _
-    (saved-is _ _ _ _ _ _ _ _ (r .enough) (r .room) _ _ (p .pick-bits .ensures) (f .write-file .ensures) (n .to-numbers .ensures))
+returns-4 c =
+    let w = c .before .before .before .before in
+    let e = w .before .before .before .before .before in
+    save-done _ _ _ _ _ _ _ _ _ (e .before .before .before .before .before .before .before .before .before .before .pre) _ (e .before .before .free-of .ensures) _ refl (e .before .if2 .left) (e .if3 .left) _ _ _ (w .write-save .ensures)
 
 pub save-at-spec : {M : Type 1} → statement M
 save-at-spec =
     tie.close
     (tie.spec
-    add-n
-    free-of-requires
     no-requires
     returns
+    add-n
+    free-of-requires
     no-requires-2
     returns-2
-    slice-aggregate-pick-bits
-    pick-bits-requires
-    slice-reshare-prefix-write-file
-    slice-aggregate-write-file
-    write-file-requires
-    to-numbers-requires
-    mul-list
-    add-list
-    cast-list
-    mul-list-2
-    slice-write-list
-    add-t13
+    no-requires-3
+    returns-3
+    slice-aggregate-write-save
+    write-save-requires
+    add-t12
     same-length
     same-length-2
-    returns-3)
+    returns-4)

@@ -16,14 +16,8 @@ write-chain-requires c κs = search needs
 slot-of-requires : tie.Need-slot-of-requires
 slot-of-requires c κs = search needs
 
-mul-copy-into : tie.Need-mul-copy-into
-mul-copy-into c = search needs
-
-mul-copy-into-2 : tie.Need-mul-copy-into-2
-mul-copy-into-2 c = search needs
-
-add-copy-into : tie.Need-add-copy-into
-add-copy-into c = search needs
+slot-place-requires : tie.Need-slot-place-requires
+slot-place-requires c κs = search needs
 
 slice-aggregate-copy-into : tie.Need-slice-aggregate-copy-into
 slice-aggregate-copy-into c = search needs
@@ -37,9 +31,10 @@ same-length c = search needs
 returns : tie.Need-returns
 returns c =
     let w = c .before .before in
-    let s = w .before .before .before in
+    let s = w .before .before .before .before in
     let d = s .before .before .before in
-    file-written _ _ _ _ _ _ _ _ _ _ _ _ _ (d .before .before .before .header-of .ensures) (d .write-chain .ensures) (s .slot-of .ensures) (w .copy-into .ensures)
+    let h = d .before .before .before in
+    file-written _ _ _ _ _ _ _ (h .before .before .before .before .before .before .before .pre .slot) _ _ _ _ _ _ _ (h .header-of .ensures) (d .write-chain .ensures) (s .slot-of .ensures) (w .before .before .slot-place .ensures .0) (w .copy-into .ensures)
 
 pub write-file-spec : {M : Type 1} → statement M
 write-file-spec =
@@ -49,9 +44,7 @@ write-file-spec =
     slice-aggregate-write-chain
     write-chain-requires
     slot-of-requires
-    mul-copy-into
-    mul-copy-into-2
-    add-copy-into
+    slot-place-requires
     slice-aggregate-copy-into
     copy-into-requires
     same-length

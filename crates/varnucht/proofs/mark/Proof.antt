@@ -1,31 +1,15 @@
--- `varnucht::mark` meets its contract: the call below is lent room for the one number that it can name.
-use mathlib.Core.List.{[], _∷_}
-use native.Mathlib.Omega.{arith}
+-- `varnucht::mark` meets its contract: the change's answer is packed whole.
 use Rattle.plans.specs.Change.{mark}
-use Rattle.varnucht.proofs.Changing.{lent-long, back-long, tellable, changing-is}
+use Rattle.varnucht.proofs.Replies.{packed-change}
 use borrow.Author.Needs.{needs}
 use Rattle.varnucht.proofs.mark.Statement.{statement}
 use Rattle.varnucht.proofs.mark.Tie as tie
 
-lesser-requires : tie.Need-lesser-requires
-lesser-requires c κs = search needs
-
-array-borrow-prefix-numbers : tie.Need-array-borrow-prefix-numbers
-array-borrow-prefix-numbers c = search needs
-
-slice-aggregate-set-mark : tie.Need-slice-aggregate-set-mark
-slice-aggregate-set-mark c = lent-long _ _ _ (c .before .before .lesser .ensures)
-
 set-mark-requires : tie.Need-set-mark-requires
 set-mark-requires c κs = search needs
 
-slice-aggregate-tell : tie.Need-slice-aggregate-tell
-slice-aggregate-tell c =
-    let t = c .before .before .before .before in
-    back-long (0 ∷ []) (t .set-mark .last .1 .1 .1 .0) (t .before .before .before .lesser .result) (t .set-mark .kept .1 .1 .1 .0)
-
-tell-requires : tie.Need-tell-requires
-tell-requires c κs = tellable (mark _ _) _ _ _ _ (c .before .before .before .before .before .before .before .before .lesser .ensures) (omega arith) _ _ _ (c .before .before .before .before .before .set-mark .ensures)
+pack-requires : tie.Need-pack-requires
+pack-requires c κs = search needs
 
 same-length : tie.Need-same-length
 same-length c = search needs
@@ -34,21 +18,7 @@ same-length-2 : tie.Need-same-length-2
 same-length-2 c = search needs
 
 returns : tie.Need-returns
-returns c =
-    let t = c .before .before in
-    changing-is (mark _ _) _ _ _ _ (t .before .before .before .before .before .before .before .before .before .lesser .ensures) (omega arith) _ _ _
-    (t .before .before .before .before .before .before .set-mark .ensures) _ (t .tell .ensures .0) _ (t .tell .ensures .1)
+returns c = packed-change (mark _ _) _ _ _ _ _ (c .before .before .before .before .before .set-mark .ensures) _ (c .pack .ensures)
 
 pub mark-spec : {M : Type 1} → statement M
-mark-spec =
-    tie.close
-    (tie.spec
-    lesser-requires
-    array-borrow-prefix-numbers
-    slice-aggregate-set-mark
-    set-mark-requires
-    slice-aggregate-tell
-    tell-requires
-    same-length
-    same-length-2
-    returns)
+mark-spec = tie.close (tie.spec set-mark-requires pack-requires same-length same-length-2 returns)

@@ -1,5 +1,5 @@
--- `varnucht::varnucht_read` meets its contract: the read's answer is packed.
-use Rattle.varnucht.proofs.Replies.{read-fits, packed-out}
+-- `varnucht::varnucht_read` meets its contract: the reading's answer is packed whole.
+use Rattle.varnucht.proofs.Replies.{packed-read}
 use borrow.Author.Needs.{needs}
 use Rattle.varnucht.proofs.varnucht_read.Statement.{statement}
 use Rattle.varnucht.proofs.varnucht_read.Tie as tie
@@ -8,13 +8,13 @@ read-requires : tie.Need-read-requires
 read-requires c κs = search needs
 
 pack-requires : tie.Need-pack-requires
-pack-requires c κs = read-fits _ _ _ _ _ (c .before .before .read .ensures)
+pack-requires c κs = search needs
 
 same-length : tie.Need-same-length
 same-length c = search needs
 
 returns : tie.Need-returns
-returns c = packed-out _ _ _ (c .before .before .before .read .ensures) _ (c .pack .ensures)
+returns c = packed-read _ _ _ (c .pack .ensures) _ _ _ (c .before .before .before .read .ensures)
 
 pub varnucht-read-spec : {M : Type 1} → statement M
 varnucht-read-spec = tie.close (tie.spec read-requires pack-requires same-length returns)

@@ -1,39 +1,15 @@
--- `varnucht::varnucht_save` meets its contract: the call below is lent room for as many numbers as a save can name.
-use mathlib.Core.Path.{sym, _∙_}
-use native.Mathlib.Omega.{arith}
+-- `varnucht::varnucht_save` meets its contract: the change's answer is packed whole.
 use Rattle.plans.specs.Change.{save}
-use Rattle.varnucht.proofs.Changing.{lent-long, lent-of, back-long, tellable, changing-is}
+use Rattle.varnucht.proofs.Replies.{packed-change}
 use borrow.Author.Needs.{needs}
 use Rattle.varnucht.proofs.varnucht_save.Statement.{statement}
 use Rattle.varnucht.proofs.varnucht_save.Tie as tie
 
-no-numbers-requires : tie.Need-no-numbers-requires
-no-numbers-requires c κs = search needs
-
-lesser-requires : tie.Need-lesser-requires
-lesser-requires c κs = search needs
-
-array-borrow-prefix-numbers : tie.Need-array-borrow-prefix-numbers
-array-borrow-prefix-numbers c = search needs
-
-slice-aggregate-save : tie.Need-slice-aggregate-save
-slice-aggregate-save c = let t = c .before .before in lent-long _ _ _ (lent-of (t .before .no-numbers .result) _ _ _ (t .lesser .ensures) (t .before .no-numbers .ensures))
-
 save-requires : tie.Need-save-requires
 save-requires c κs = search needs
 
-slice-aggregate-tell : tie.Need-slice-aggregate-tell
-slice-aggregate-tell c =
-    let t = c .before .before .before .before in
-    let s = t .before .before .before in
-    sym (s .before .no-numbers .ensures)
-    ∙ back-long (s .before .no-numbers .result) (t .save .last .1 .1 .1 .1 .1 .1 .1 .1 .0) (s .lesser .result) (t .save .kept .1 .1 .1 .1 .1 .1 .1 .1 .0)
-
-tell-requires : tie.Need-tell-requires
-tell-requires c κs =
-    let t = c .before .before .before .before .before in
-    let s = t .before .before .before in
-    tellable (save _) _ _ _ _ (lent-of (s .before .no-numbers .result) _ _ _ (s .lesser .ensures) (s .before .no-numbers .ensures)) (omega (arith, s .before .no-numbers .ensures)) _ _ _ (t .save .ensures)
+pack-requires : tie.Need-pack-requires
+pack-requires c κs = search needs
 
 same-length : tie.Need-same-length
 same-length c = search needs
@@ -42,24 +18,8 @@ same-length-2 : tie.Need-same-length-2
 same-length-2 c = search needs
 
 returns : tie.Need-returns
-returns c =
-    let t = c .before .before in
-    let u = t .before .before .before .before .before .before in
-    let s = u .before .before .before in
-    changing-is (save _) _ _ _ _ (lent-of (s .before .no-numbers .result) _ _ _ (s .lesser .ensures) (s .before .no-numbers .ensures)) (omega (arith, s .before .no-numbers .ensures)) _ _ _ (u .save .ensures)
-    _ (t .tell .ensures .0) _ (t .tell .ensures .1)
+returns c = packed-change (save _) _ _ _ _ _ (c .before .before .before .before .before .save .ensures) _ (c .pack .ensures)
 
 pub varnucht-save-spec : {M : Type 1} → statement M
 varnucht-save-spec =
-    tie.close
-    (tie.spec
-    no-numbers-requires
-    lesser-requires
-    array-borrow-prefix-numbers
-    slice-aggregate-save
-    save-requires
-    slice-aggregate-tell
-    tell-requires
-    same-length
-    same-length-2
-    returns)
+    tie.close (tie.spec save-requires pack-requires same-length same-length-2 returns)

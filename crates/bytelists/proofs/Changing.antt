@@ -1,0 +1,235 @@
+-- A change with a list of bytes is the change with a list of numbers: no change names more than 1,561 sectors, so that many numbers are always room enough.
+use Prim.Native.Nat.{ℕ, suc, _+_, _-_, _/_, _^_, _≤_, _<_, min}
+use mathlib.Core.Path.{_≡_, refl, sym, ap, _∙_, subst}
+use mathlib.Core.Bool.{Bool, true, false, cond, not, _&&_}
+use mathlib.Core.List.{List, [], _∷_, _++_}
+use mathlib.Core.Logic.{_⊎_, inl, inr}
+use mathlib.Core.Option.{Option, none, some}
+use native.Mathlib.Omega.{arith}
+use borrow.Author.Tests.{lt-ltb, le-ltb}
+use lib.Dec.{leb, ltb}
+use lib.ListN.{length, getD, take, drop, length-take, length-append, length-drop}
+use lib.Seq.{take-append-le}
+use Rattle.buffers.specs.Bytes.{part, put}
+use Rattle.buffers.proofs.Lists.{below-or-not, length-put, put-none, part-put}
+use Rattle.refusals.specs.Order.{refuse, Reply, _else_, row}
+use Rattle.refusals.specs.Answers.{Outcome, done, refused}
+use Rattle.slots.specs.Slot.{carried, protected}
+use Rattle.slots.specs.Rows.{dataCount}
+use Rattle.slots.specs.Name.{askable, padded}
+use Rattle.chains.specs.File.{File}
+use Rattle.directory.specs.Places.{slots}
+use Rattle.directory.specs.Directory.{held, Directory}
+use Rattle.directory.specs.Survey.{free, freeOf}
+use Rattle.directory.specs.Find.{find}
+use Rattle.directory.proofs.Search.{find-some}
+use Rattle.disk.specs.Look.{Look, look, slotsOf, extra}
+use Rattle.disk.specs.Check.{checkDisk}
+use Rattle.files.specs.Calls.{fileAt}
+use Rattle.steps.specs.Steps.{enact, numbers}
+use Rattle.plans.specs.Change.{Wish, Change, save, erase, rename, mark, marked, between, usable}
+use Rattle.plans.specs.Saving.{sectorsFor, taken, lowestSlot, slotTaken}
+use Rattle.plans.specs.Plan.{touch, saveSteps, Plan, no, go, orNo, byName, nameTaken, isProtected, saveReply, planOf, plan, Result, stopped, made, settle, checked, run, Changed, changed, changedBy, change}
+use Rattle.plans.proofs.Free.{taken-long}
+use Rattle.plans.proofs.Refused.{save-long}
+use Rattle.plans.proofs.Sure.{save-tested}
+use Rattle.plans.proofs.Demand3.{run-room}
+use Rattle.packing.specs.Packed.{valueIn}
+use Rattle.bytelists.specs.Lists.{inBytes, changingBy, changing, Counted}
+use Rattle.bytelists.proofs.Table.{Small, small-else, small-row, check-small}
+
+-- how many sectors a change names at most
+abbrev pub most : Change → ℕ
+most (save w) = 1561
+most (erase n) = 1
+most (rename n new) = 1
+most (mark m n) = 1
+
+pub most-few : (c : Change) → most c ≤ 1561
+most-few (save w) = omega arith
+most-few (erase n) = omega arith
+most-few (rename n new) = omega arith
+most-few (mark m n) = omega arith
+
+-- a plan whose refusals are of the table at slots of the directory, and whose sectors are at most m
+abbrev Mild : ℕ → Plan → Type 0
+Mild m (no r) = Small (some r)
+Mild m (go p) = length (numbers p) ≤ m
+
+mild-or : (m : ℕ) (q : Reply) (p : Plan) → Small q → Mild m p → Mild m (orNo q p)
+mild-or m none p a b = b
+mild-or m (some r) p a b = a
+
+module _ (l : Look) (n : List ℕ) where
+  mild-named : (m : ℕ) (at : ℕ → File → Plan) → ((i : ℕ) → i < 80 → Mild m (at i (fileAt l i))) → Mild m (byName l n at)
+  mild-named m at h = by (find (slotsOf l) n) refl
+    where
+      by : (o : Option ℕ) → find (slotsOf l) n ≡ o → Mild m (held (no (refuse 15 0)) (λ i. at i (fileAt l i)) o)
+      by none e = (omega arith, omega arith)
+      by (some i) e = h i (find-some (slotsOf l) n i e .below)
+
+small-taken : (v : Directory) (n : List ℕ) → Small (nameTaken v n)
+small-taken v n = by (find v n) refl
+  where
+    by : (o : Option ℕ) → find v n ≡ o → Small (held none (λ i. some (refuse 16 (suc i))) o)
+    by none e = tt
+    by (some i) e = let h : i < 80 = find-some v n i e .below in (omega arith, omega arith)
+
+small-protected : (i : ℕ) (f : File) → i < 80 → Small (isProtected i f)
+small-protected i f h = small-row 17 (suc i) (protected (f .bytes)) (omega arith) (omega arith)
+
+free-few : (l : Look) → free (extra l) (slotsOf l) ≤ 1560
+unfolding free freeOf dataCount extra
+free-few l = omega arith
+
+small-save : (n : ℕ) (v : Directory) (w : Wish) → Small (saveReply n v w)
+unfolding saveReply
+small-save n v w =
+    small-else (row 12 0 (not (usable (w .name)))) (r13 else r14 else nameTaken v (w .name) else r18 else r19) (small-row 12 0 (not (usable (w .name))) (omega arith) (omega arith))
+    (small-else r13 (r14 else nameTaken v (w .name) else r18 else r19) (small-row 13 0 (not (carried (w .kind))) (omega arith) (omega arith))
+    (small-else r14 (nameTaken v (w .name) else r18 else r19) (small-row 14 0 (not (leb (w .page) 31 && between 32768 (w .offset) 49151)) (omega arith) (omega arith))
+    (small-else (nameTaken v (w .name)) (r18 else r19) (small-taken v (w .name))
+    (small-else r18 r19 (small-row 18 0 (held true (λ i. false) (lowestSlot n v)) (omega arith) (omega arith))
+    (small-row 19 0 (ltb (free n v) (sectorsFor (length (w .body)))) (omega arith) (omega arith))))))
+  where
+    r13 : Reply
+    r13 = row 13 0 (not (carried (w .kind)))
+
+    r14 : Reply
+    r14 = row 14 0 (not (leb (w .page) 31 && between 32768 (w .offset) 49151))
+
+    r18 : Reply
+    r18 = row 18 0 (held true (λ i. false) (lowestSlot n v))
+
+    r19 : Reply
+    r19 = row 19 0 (ltb (free n v) (sectorsFor (length (w .body))))
+
+mild-save : (l : Look) (w : Wish) → Mild 1561 (planOf (save w) l)
+unfolding planOf
+mild-save l w = by (saveReply n v w) refl (small-save n v w)
+  where
+    n : ℕ
+    n = extra l
+
+    v : Directory
+    v = slotsOf l
+
+    by : (q : Reply) → saveReply n v w ≡ q → Small q → Mild 1561 (orNo q (go (saveSteps l (slotTaken n v) w (taken n v w))))
+    by (some r) e a = a
+    by none e a = omega (arith, save-long l (slotTaken n v) w (taken n v w), taken-long l w (save-tested n v w e .room), free-few l, save-tested n v w e .room)
+
+mild : (c : Change) (l : Look) → Mild (most c) (planOf c l)
+unfolding planOf numbers
+mild (save w) l = mild-save l w
+mild (erase n) l =
+    mild-or 1 (row 12 0 (not (askable n))) (byName l n (λ i f. orNo (isProtected i f) (go (touch l i f 0 (0 ∷ []))))) (small-row 12 0 (not (askable n)) (omega arith) (omega arith))
+    (mild-named l n 1 (λ i f. orNo (isProtected i f) (go (touch l i f 0 (0 ∷ []))))
+    (λ i h. mild-or 1 (isProtected i (fileAt l i)) (go (touch l i (fileAt l i) 0 (0 ∷ []))) (small-protected i (fileAt l i) h) (omega arith)))
+mild (rename n new) l =
+    mild-or 1 (row 12 0 (not (askable n && usable new))) (byName l n (λ i f. orNo (nameTaken (slotsOf l) new else isProtected i f) (go (touch l i f 1 (padded new)))))
+    (small-row 12 0 (not (askable n && usable new)) (omega arith) (omega arith))
+    (mild-named l n 1 (λ i f. orNo (nameTaken (slotsOf l) new else isProtected i f) (go (touch l i f 1 (padded new))))
+    (λ i h. mild-or 1 (nameTaken (slotsOf l) new else isProtected i (fileAt l i)) (go (touch l i (fileAt l i) 1 (padded new)))
+    (small-else (nameTaken (slotsOf l) new) (isProtected i (fileAt l i)) (small-taken (slotsOf l) new) (small-protected i (fileAt l i) h)) (omega arith)))
+mild (mark m n) l =
+    mild-or 1 (row 12 0 (not (askable n))) (byName l n (λ i f. go (touch l i f 0 (marked m (getD (f .bytes) 0 0) ∷ [])))) (small-row 12 0 (not (askable n)) (omega arith) (omega arith))
+    (mild-named l n 1 (λ i f. go (touch l i f 0 (marked m (getD (f .bytes) 0 0) ∷ []))) (λ i h. omega arith))
+
+-- ---- the same of what comes of it
+
+abbrev pub Settled : ℕ → Result → Type 0
+Settled m (stopped r) = Small (some r)
+Settled m (made new ss) = length ss ≤ m
+
+pub mild-run : (c : Change) (d : List ℕ) (room : ℕ) → Settled (most c) (run c d room)
+unfolding run checkDisk
+mild-run c d room = by (checkDisk d) (plan c d) (check-small (look d)) (mild c (look d))
+  where
+    room-or : (t : Bool) (new ss : List ℕ) → length ss ≤ most c → Settled (most c) (cond t (stopped (refuse 20 0)) (made new ss))
+    room-or true new ss h = (omega arith, omega arith)
+    room-or false new ss h = h
+
+    by : (q : Reply) (p : Plan) → Small q → Mild (most c) p → Settled (most c) (checked q (settle d room p))
+    by (some r) p a b = a
+    by none (no r) a b = b
+    by none (go p) a b = room-or (ltb room (length (numbers p))) (enact d p) (numbers p) b
+
+-- more room than a change can need makes no difference
+run-same : (c : Change) (d : List ℕ) (a b : ℕ) → ((x : ℕ) → x ≤ most c → ltb a x ≡ ltb b x) → run c d a ≡ run c d b
+unfolding run
+run-same c d a b h = ap (checked (checkDisk d)) (by (plan c d) (mild c (look d)))
+  where
+    by : (p : Plan) → Mild (most c) p → settle d a p ≡ settle d b p
+    by (no r) w = refl
+    by (go p) w = ap (λ (t : Bool). cond t (stopped (refuse 20 0)) (made (enact d p) (numbers p))) (h (length (numbers p)) w)
+
+least-room : (r n x : ℕ) → x ≤ n → ltb (min r n) x ≡ ltb r x
+least-room r n x h = by (below-or-not r x)
+  where
+    by : (r < x) ⊎ (x ≤ r) → ltb (min r n) x ≡ ltb r x
+    by (inl k) = rw (lt-ltb (min r n) x (omega arith), lt-ltb r x k)
+    by (inr k) = rw (le-ltb (min r n) x (omega arith), le-ltb r x k)
+
+-- outcome, image and list make what a call gives
+whole : {o p : Outcome} {d e x y : List ℕ} → o ≡ p → d ≡ e → x ≡ y → changed o d x ≡ changed p e y
+whole a b c = rw (a, b, c)
+
+-- ---- the call below, which is lent the first k of some numbers xs: as many as the bytes b have room for, and enough for every change
+
+pub lent-long : (xs : List ℕ) (k r : ℕ) → k ≡ min r (length xs) → k ≡ length (take k xs)
+lent-long xs k r room = omega (arith, length-take k xs)
+
+pub lent-of : (xs : List ℕ) (k r n : ℕ) → k ≡ min r n → length xs ≡ n → k ≡ min r (length xs)
+lent-of xs k r n e l = e ∙ ap (min r) (sym l)
+
+pub back-long : (xs ys : List ℕ) (k : ℕ) → length ys ≡ length (take k xs) → length xs ≡ length (ys ++ drop k xs)
+back-long xs ys k e = omega (arith, length-append ys (drop k xs), length-drop k xs, length-take k xs)
+
+module _ (c : Change) (d b xs : List ℕ) (k : ℕ) (room : k ≡ min (length b / 2) (length xs)) (enough : most c ≤ length xs) where
+  ran : run c d (length (take k xs)) ≡ run c d (length b / 2)
+  ran = ap (run c d) (sym (lent-long xs k (length b / 2) room) ∙ room) ∙ run-same c d (min (length b / 2) (length xs)) (length b / 2) (λ x h. least-room (length b / 2) (length xs) x (omega arith))
+
+  -- what the call below gave, by what came of it
+  module _ (o : Outcome) (d′ ys : List ℕ) (e : changed o d′ ys ≡ change c d (take k xs)) where
+    -- as many numbers as were lent
+    ys-long : length ys ≡ length (take k xs)
+    unfolding change
+    ys-long = by (run c d (length (take k xs))) e
+      where
+        by : (x : Result) → changed o d′ ys ≡ changedBy x d (take k xs) → length ys ≡ length (take k xs)
+        by (stopped r) w = ap (λ (x : Changed). length (x .list)) w
+        by (made new ss) w = ap (λ (x : Changed). length (x .list)) w ∙ length-put (take k xs) 0 ss
+
+    pub counted : Counted o (ys ++ drop k xs) b
+    unfolding change
+    counted = by (run c d (length (take k xs))) refl e
+      where
+        by : (x : Result) → run c d (length (take k xs)) ≡ x → changed o d′ ys ≡ changedBy x d (take k xs) → Counted o (ys ++ drop k xs) b
+        by (stopped r) q w =
+            subst (λ (o : Outcome). Counted o (ys ++ drop k xs) b) (sym (ap (λ (x : Changed). x .outcome) w)) (record { enough = omega arith; room = omega arith })
+        by (made new ss) q w =
+            let f = run-room c d (length (take k xs)) new ss q .fits in
+            subst (λ (o : Outcome). Counted o (ys ++ drop k xs) b) (sym (ap (λ (x : Changed). x .outcome) w))
+            (record { enough = omega (arith, back-long xs ys k ys-long, length-take k xs); room = omega (arith, length-take k xs) })
+
+    pub changing-is : (p : Outcome) → p ≡ o → (b′ : List ℕ) → b′ ≡ put b 0 (inBytes (take (valueIn o) (ys ++ drop k xs))) → changed p d′ b′ ≡ changing c d b
+    unfolding change changing inBytes part
+    changing-is p a b′ q = ap (λ (o : Outcome). changed o d′ b′) a ∙ by (run c d (length (take k xs))) refl e
+      where
+        by : (x : Result) → run c d (length (take k xs)) ≡ x → changed o d′ ys ≡ changedBy x d (take k xs) → changed o d′ b′ ≡ changing c d b
+        by (stopped z) g w =
+            let a : o ≡ refused z = ap (λ (x : Changed). x .outcome) w in
+            let i : d′ ≡ d = ap (λ (x : Changed). x .image) w in
+            let h : stopped z ≡ run c d (length b / 2) = sym g ∙ ran in
+            let l : b′ ≡ b = q ∙ ap (λ (o : Outcome). put b 0 (inBytes (take (valueIn o) (ys ++ drop k xs)))) a ∙ sym (put-none b 0 []) in
+            whole a i l ∙ ap (λ (x : Result). changingBy x d b) h
+        by (made new ss) g w =
+            let f = run-room c d (length (take k xs)) new ss g .fits in
+            let a : o ≡ done (length ss) 0 = ap (λ (x : Changed). x .outcome) w in
+            let i : d′ ≡ new = ap (λ (x : Changed). x .image) w in
+            let h : made new ss ≡ run c d (length b / 2) = sym g ∙ ran in
+            let t : take (length ss) (ys ++ drop k xs) ≡ ss =
+            take-append-le (length ss) ys (drop k xs) (omega (arith, ys-long)) ∙ ap (λ (x : Changed). take (length ss) (x .list)) w ∙ part-put (take k xs) 0 ss (omega arith) in
+            let l : b′ ≡ put b 0 (inBytes ss) =
+            q ∙ ap (λ (o : Outcome). put b 0 (inBytes (take (valueIn o) (ys ++ drop k xs)))) a ∙ ap (λ (x : List ℕ). put b 0 (inBytes x)) t in
+            whole a i l ∙ ap (λ (x : Result). changingBy x d b) h

@@ -1,0 +1,4 @@
+pub mod Table
+pub mod Pairs
+pub mod Changing
+pub mod Safe

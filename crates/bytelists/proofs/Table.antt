@@ -1,0 +1,70 @@
+-- Refusals of the table at slots of the directory: the check gives no other.
+use Prim.Native.Nat.{ℕ, suc, _≤_, _<_}
+use mathlib.Core.Path.{_≡_, refl, sym, subst}
+use mathlib.Core.Bool.{Bool, true, false, cond, not, _&&_}
+use mathlib.Core.List.{List, [], _∷_}
+use mathlib.Core.Option.{Option, none, some}
+use native.Mathlib.Omega.{arith}
+use borrow.Author.Tests.{leb-true}
+use lib.Dec.{eqb, leb}
+use Rattle.buffers.proofs.Tests.{and-both}
+use Rattle.geometry.specs.Disk.{imageSize}
+use Rattle.refusals.specs.Order.{Refusal, refuse, Reply, _else_, Row, rows, row, sweep}
+use Rattle.refusals.proofs.First.{sweep-first}
+use Rattle.chains.specs.File.{File}
+use Rattle.directory.specs.Places.{slots}
+use Rattle.directory.specs.Directory.{held}
+use Rattle.disk.specs.Look.{Look}
+use Rattle.disk.specs.Check.{checkLook}
+use Rattle.disk.specs.Given.{rows9, rows11}
+use Rattle.disk.proofs.Order.{passAt, pass, check-passes}
+
+-- a refusal of the table at a slot of the directory, or none
+abbrev pub Small : Reply → Type 0
+Small none = Unit {0}
+Small (some r) = (r .number ≤ 21) × (r .slot ≤ 80)
+
+pub small-else : (p q : Reply) → Small p → Small q → Small (p else q)
+small-else none q a b = b
+small-else (some r) q a b = a
+
+abbrev few : List Row → Bool
+few [] = true
+few (r ∷ rs) = leb (r .number) 21 && few rs
+
+small-rows : (s : ℕ) (rs : List Row) → s ≤ 80 → few rs ≡ true → Small (rows s rs)
+small-rows s [] h e = tt
+small-rows s (r ∷ rs) h e =
+    let c = and-both (leb (r .number) 21) (few rs) e in
+    by (r .holds) (leb-true (r .number) 21 (c .0)) (small-rows s rs h (c .1))
+  where
+    by : (t : Bool) → r .number ≤ 21 → Small (rows s rs) → Small (cond t (some (refuse (r .number) s)) (rows s rs))
+    by true a b = (a, h)
+    by false a b = b
+
+pub small-row : (n s : ℕ) (t : Bool) → n ≤ 21 → s ≤ 80 → Small (row n s t)
+small-row n s true p q = (p, q)
+small-row n s false p q = tt
+
+small-sweep : (n : ℕ) (f : ℕ → Reply) → ((i : ℕ) → i < n → Small (f i)) → Small (sweep n f)
+small-sweep n f h = by (sweep n f) refl
+  where
+    by : (q : Reply) → sweep n f ≡ q → Small q
+    by none e = tt
+    by (some r) e = let w = sweep-first n f r e in subst Small (w .here) (h (w .at) (w .below))
+
+small-pass : (l : Look) (rs : ℕ → File → List Row) → ((i : ℕ) (f : File) → few (rs i f) ≡ true) → Small (pass l rs)
+small-pass l rs h = small-sweep slots (passAt l rs) (λ i k. by i k (l .files i))
+  where
+    by : (i : ℕ) → i < slots → (o : Option File) → Small (held none (λ f. rows (suc i) (rs i f)) o)
+    by i k none = tt
+    by i k (some f) = small-rows (suc i) (rs i f) (omega arith) (h i f)
+
+pub check-small : (l : Look) → Small (checkLook l)
+check-small l =
+    subst Small (sym (check-passes l))
+    (small-else (row 1 0 (not (eqb (l .long) imageSize))) (pass l (rows9 l) else pass l (rows11 l)) (small-row 1 0 (not (eqb (l .long) imageSize)) (omega arith) (omega arith))
+    (small-else (pass l (rows9 l)) (pass l (rows11 l)) (small-pass l (rows9 l) (λ i f. refl)) (small-pass l (rows11 l) (λ i f. refl))))
+
+pub check-slot : (l : Look) (r : Refusal) → checkLook l ≡ some r → r .slot ≤ 80
+check-slot l r e = subst Small e (check-small l) .1

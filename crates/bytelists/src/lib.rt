@@ -1,0 +1,108 @@
+// The changes for the app's C layer, with the list of sectors as bytes, two to a number, low byte first.
+ghost use mathlib.Core.Path.{_≡_};
+ghost use Prim.Native.Nat.{_*_, _≤_};
+ghost use lib.ListN.{length, take};
+ghost use Rattle.buffers.specs.Bytes.{put};
+ghost use Rattle.refusals.specs.Answers.{outcomeOf};
+ghost use Rattle.packing.specs.Packed.{valueIn};
+ghost use Rattle.plans.specs.Change.{save, erase, rename, mark};
+ghost use Rattle.changes.specs.Marks.{markOf};
+ghost use Rattle.saves.specs.Write.{wish};
+ghost use Rattle.bytelists.specs.Lists.{inBytes, Returns, Counted};
+use changes::Marking;
+use refusals::Answer;
+
+// Puts the first `n` of the numbers to the front of a list, two bytes each, low byte first.
+fn put_numbers(list: &mut [u8], numbers: &[u16], n: usize)
+    requires { ⌜ (n ≤ length (now numbers)) × (2 * n ≤ length (now list)) ⌝ }
+    ensures { λ _. ⌜ now (list .exit) ≡ put (now (list .entry)) 0 (inBytes (take n (now (numbers .entry)))) ⌝ }
+{
+    let mut j: usize = 0;
+    while j < n {
+        let s = numbers[j];
+        list[2 * j] = (s % 256) as u8;
+        list[2 * j + 1] = (s / 256) as u8;
+        j += 1;
+    }
+}
+
+// Puts the sectors that a change's answer counts to the front of the list, and answers the same.
+fn put_counted(a: Answer, numbers: &[u16], list: &mut [u8]) -> Answer
+    requires { ⌜ Counted (outcomeOf a) (now numbers) (now list) ⌝ }
+    ensures { λ r. ⌜ (r ≡ a) × (now (list .exit) ≡ put (now (list .entry)) 0 (inBytes (take (valueIn (outcomeOf a)) (now (numbers .entry))))) ⌝ }
+{
+    match a {
+        Answer::Done(n, _) => {
+            put_numbers(list, numbers, n);
+            a
+        }
+        Answer::No(_) => a,
+    }
+}
+
+// Erases a file: how many sectors, and their numbers to the front of the list.
+pub fn erase(image: &mut [u8], name: &[u8], list: &mut [u8]) -> Answer
+    ensures { λ r. ⌜ Returns (erase (now (name .entry))) (now (image .entry)) (now (list .entry)) r (now (image .exit)) (now (list .exit)) ⌝ }
+{
+    let mut numbers = [0u16; 1];
+    let room = buffers::lesser(list.len() / 2, 1);
+    let erased = changes::erase(image, name, &mut numbers[..room]);
+    put_counted(erased, &numbers, list)
+}
+
+// Gives a file a new name.
+pub fn rename(image: &mut [u8], name: &[u8], new: &[u8], list: &mut [u8]) -> Answer
+    ensures { λ r. ⌜ Returns (rename (now (name .entry)) (now (new .entry))) (now (image .entry)) (now (list .entry)) r (now (image .exit)) (now (list .exit)) ⌝ }
+{
+    let mut numbers = [0u16; 1];
+    let room = buffers::lesser(list.len() / 2, 1);
+    let renamed = changes::rename(image, name, new, &mut numbers[..room]);
+    put_counted(renamed, &numbers, list)
+}
+
+// Sets or clears one of a file's two marks.
+pub fn set_mark(image: &mut [u8], name: &[u8], marking: Marking, list: &mut [u8]) -> Answer
+    ensures { λ r. ⌜ Returns (mark (markOf marking) (now (name .entry))) (now (image .entry)) (now (list .entry)) r (now (image .exit)) (now (list .exit)) ⌝ }
+{
+    let mut numbers = [0u16; 1];
+    let room = buffers::lesser(list.len() / 2, 1);
+    let marked = changes::set_mark(image, name, marking, &mut numbers[..room]);
+    put_counted(marked, &numbers, list)
+}
+
+// Room for the numbers of every save: 1,560 data sectors and one of the directory.
+fn no_numbers() -> [u16; 1561]
+    ensures { λ r. ⌜ length r ≡ 1561 ⌝ }
+{
+    [0u16; 1561]
+}
+
+// Saves a file.
+pub fn save(
+    image: &mut [u8],
+    kind: usize,
+    name: &[u8],
+    page: usize,
+    offset: usize,
+    exec: &[u8],
+    info: &[u8],
+    body: &[u8],
+    list: &mut [u8],
+) -> Answer
+    ensures { λ r. ⌜ Returns (save (wish kind (now (name .entry)) page offset (now (exec .entry)) (now (info .entry)) (now (body .entry)))) (now (image .entry)) (now (list .entry)) r (now (image .exit)) (now (list .exit)) ⌝ }
+{
+    let mut numbers = no_numbers();
+    let room = buffers::lesser(list.len() / 2, 1561);
+    let saved = saves::save(
+        image,
+        kind,
+        name,
+        page,
+        offset,
+        exec,
+        info,
+        body,
+        &mut numbers[..room],
+    );
+    put_counted(saved, &numbers, list)
+}

@@ -1,0 +1,55 @@
+-- An outcome as one number, for the app's C layer.
+use Prim.Native.Nat.{ℕ, _+_, _-_, _*_, _/_, _%_, _^_, _≤_}
+use mathlib.Core.Path.{_≡_}
+use Rattle.refusals.specs.Order.{Reply}
+use Rattle.refusals.specs.Answers.{Outcome, done, refused, unless}
+
+-- answer = refusal + 256 × slot + 2^24 × value + 2^48 × free; refusal 0: accepted, and then slot is 0; refused: value and free are 0
+abbrev pub packed : Outcome → ℕ
+packed (done value free) = 2 ^ 24 * value + 2 ^ 48 * free
+packed (refused r) = r .number + 256 * r .slot
+
+-- the same with as much of each part as has room
+unfoldable pub clipped : Outcome → ℕ
+clipped (done value free) = 2 ^ 24 * (value % 2 ^ 24) + 2 ^ 48 * (free % 2 ^ 16)
+clipped (refused r) = r .number + 256 * (r .slot % 2 ^ 16)
+
+-- a check as an outcome
+abbrev pub checked : Reply → Outcome
+checked q = unless q (done 0 0)
+
+-- ---- the four parts of an answer
+
+abbrev pub refusalIn : Outcome → ℕ
+refusalIn (done value free) = 0
+refusalIn (refused r) = r .number
+
+abbrev pub slotIn : Outcome → ℕ
+slotIn (done value free) = 0
+slotIn (refused r) = r .slot
+
+abbrev pub valueIn : Outcome → ℕ
+valueIn (done value free) = value
+valueIn (refused r) = 0
+
+abbrev pub freeIn : Outcome → ℕ
+freeIn (done value free) = free
+freeIn (refused r) = 0
+
+-- refusals of the table at slots of the directory, values up to v, free sectors up to f
+pub record Within (o : Outcome) (v f : ℕ) : Type 0 where
+  pub refusal : refusalIn o ≤ 21
+  pub slot : slotIn o ≤ 80
+  pub value : valueIn o ≤ v
+  pub free : freeIn o ≤ f
+
+-- every part has room in the answer
+abbrev pub Fits : Outcome → Type 0
+Fits o = Within o (2 ^ 24 - 1) (2 ^ 16 - 1)
+
+-- an answer read in its parts
+pub record Told (o : Outcome) (answer : ℕ) : Type 0 where
+  pub refusal : answer % 256 ≡ refusalIn o
+  pub slot : answer / 256 % 2 ^ 16 ≡ slotIn o
+  pub value : answer / 2 ^ 24 % 2 ^ 24 ≡ valueIn o
+  pub free : answer / 2 ^ 48 ≡ freeIn o

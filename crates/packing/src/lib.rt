@@ -1,0 +1,31 @@
+// An answer as one number, for the app's C layer: refusal + 256 × slot + 2^24 × value + 2^48 × free.
+ghost use mathlib.Core.Path.{_≡_};
+ghost use Rattle.refusals.specs.Answers.{replyOf, outcomeOf};
+ghost use Rattle.packing.specs.Packed.{clipped, checked};
+use refusals::Answer;
+use refusals::Verdict;
+
+// An answer. A part that has no room beside the others loses what is too much; of the library's calls none does.
+pub fn pack(a: Answer) -> u64
+    ensures { λ r. ⌜ r ≡ clipped (outcomeOf a) ⌝ }
+{
+    match a {
+        Answer::Done(value, free) => {
+            16777216 * (value % 16777216) as u64 + 281474976710656 * (free % 65536) as u64
+        }
+        Answer::No(r) => {
+            let reason = r.reason;
+            refusals::number_of(reason) as u64 + 256 * (r.slot % 65536) as u64
+        }
+    }
+}
+
+// The verdict of a check; 0 of a sound disk.
+pub fn pack_verdict(v: Verdict) -> u64
+    ensures { λ r. ⌜ r ≡ clipped (checked (replyOf v)) ⌝ }
+{
+    match v {
+        Verdict::Unsound(r) => pack(Answer::No(r)),
+        Verdict::Sound => 0,
+    }
+}

@@ -1,0 +1,101 @@
+// What the programs of document 01's points share: the lines that they write, one for each call with its answer, and an
+// empty disk. No contract can say what is written, so one that only writes states nothing.
+ghost use mathlib.Core.Path.{_≡_};
+ghost use lib.ListN.{length, replicate};
+ghost use Rattle.files.specs.Calls.{listing, reading};
+use refusals::Answer;
+use refusals::Refused;
+use refusals::Verdict;
+
+pub const LARGEST: usize = 18446744073709551615;
+
+// An empty disk.
+pub fn blank() -> [u8; 819200]
+    ensures { λ r. ⌜ r ≡ replicate 819200 0 ⌝ }
+    ensures { λ r. ⌜ 819200 ≡ length r ⌝ }
+{
+    [0; 819200]
+}
+
+pub fn say(text: &[u8]) {
+    io::write_all(1, text);
+}
+
+pub fn number(before: &[u8], n: usize) {
+    say(before);
+    io::print_decimal(1, n as u64);
+}
+
+pub fn refused(r: Refused) {
+    let reason = r.reason;
+    number(b"refused ", refusals::number_of(reason));
+    number(b" slot ", r.slot);
+    say(b"\n");
+}
+
+pub fn title(call: &[u8], what: &[u8]) {
+    say(call);
+    say(what);
+    say(b": ");
+}
+
+pub fn checked(what: &[u8], image: &[u8]) {
+    title(b"check of ", what);
+    match disk::check(image) {
+        Verdict::Sound => say(b"accepted\n"),
+        Verdict::Unsound(r) => refused(r),
+    }
+}
+
+fn files_and_free(answer: Answer) {
+    match answer {
+        Answer::Done(n, free) => {
+            number(b"files ", n);
+            number(b", free ", free);
+            say(b"\n");
+        }
+        Answer::No(r) => refused(r),
+    }
+}
+
+pub fn listed(what: &[u8], image: &[u8], buf: &mut [u8])
+    ensures { λ _. ⌜ now (buf .exit) ≡ listing (now (image .entry)) (now (buf .entry)) .buffer ⌝ }
+{
+    title(b"listing of ", what);
+    let answer = files::list(image, buf);
+    files_and_free(answer);
+}
+
+pub fn started(what: &[u8], image: &[u8], name: &[u8]) {
+    title(b"start of ", what);
+    match files::start(image, name) {
+        Answer::Done(address, _) => {
+            number(b"", address);
+            say(b"\n");
+        }
+        Answer::No(r) => refused(r),
+    }
+}
+
+// Four bytes of the body's front, and at 501, where the second sector's bytes begin, seven.
+fn length_and_body(answer: Answer, buf: &[u8]) {
+    match answer {
+        Answer::Done(len, _) => {
+            number(b"length ", len);
+            say(b", from 0 ");
+            say(buffers::part_at(buf, 0, 4));
+            say(b", from 501 ");
+            say(buffers::part_at(buf, 501, 7));
+            say(b"\n");
+        }
+        Answer::No(r) => refused(r),
+    }
+}
+
+pub fn read(what: &[u8], image: &[u8], name: &[u8], buf: &mut [u8])
+    ensures { λ _. ⌜ now (buf .exit) ≡ reading (now (image .entry)) (now (name .entry)) (now (buf .entry)) .buffer ⌝ }
+{
+    title(b"read of ", what);
+    let answer = files::read(image, name, buf);
+    length_and_body(answer, buf);
+}

@@ -1,0 +1,23 @@
+-- `points_changing::listed_at` is safe: a number of the list fits a wider type.
+use native.Mathlib.Omega.{arith}
+use borrow.Author.Needs.{needs}
+use Rattle.points_changing.proofs.listed_at.Statement.{statement}
+use Rattle.points_changing.proofs.listed_at.Tie as tie
+
+mul-result : tie.Need-mul-result
+mul-result c = search needs
+
+shared-slice-read-result : tie.Need-shared-slice-read-result
+shared-slice-read-result c = search needs
+
+cast-result : tie.Need-cast-result
+cast-result c = omega (arith, c .shared-slice-known .given (c .before .before .args .k))
+
+returns : tie.Need-returns
+returns c = search needs
+
+returns-2 : tie.Need-returns-2
+returns-2 c = search needs
+
+pub listed-at-spec : {M : Type 1} → statement M
+listed-at-spec = tie.close (tie.spec mul-result shared-slice-read-result cast-result returns returns-2)

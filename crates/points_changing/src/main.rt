@@ -1,0 +1,276 @@
+// Points of document 01: save, erase, rename and the marks.
+use refusals::Answer;
+
+// Number `k` of a list, 0 past its end.
+fn listed_at(list: &[u16], k: usize) -> usize {
+    if k < list.len() {
+        return list[k] as usize;
+    }
+    0
+}
+
+fn three(before: &[u8], one: usize, two: usize, three: usize) {
+    points::number(before, one);
+    points::number(b" ", two);
+    points::number(b" ", three);
+    points::say(b"\n");
+}
+
+// How many sectors a change names, and the front of its list as it then is.
+fn told(answer: Answer, list: &[u16]) {
+    match answer {
+        Answer::Done(n, _) => {
+            points::number(b"sectors ", n);
+            three(
+                b", list ",
+                listed_at(list, 0),
+                listed_at(list, 1),
+                listed_at(list, 2),
+            );
+        }
+        Answer::No(r) => points::refused(r),
+    }
+}
+
+fn saved(what: &[u8], image: &mut [u8], name: &[u8], body: &[u8], list: &mut [u16]) {
+    points::title(b"save of ", what);
+    let answer = saves::save(image, 19, name, 29, 32768, b"", b"", body, list);
+    told(answer, list);
+}
+
+fn saved_at(
+    what: &[u8],
+    image: &mut [u8],
+    kind: usize,
+    page: usize,
+    offset: usize,
+    list: &mut [u16],
+) {
+    points::title(b"save of ", what);
+    let answer = saves::save(image, kind, b"FILE X", page, offset, b"", b"", b"", list);
+    told(answer, list);
+}
+
+fn erased(image: &mut [u8], name: &[u8], list: &mut [u16]) {
+    points::title(b"erase of ", name);
+    let answer = changes::erase(image, name, list);
+    told(answer, list);
+}
+
+fn renamed(image: &mut [u8], name: &[u8], new: &[u8], list: &mut [u16]) {
+    points::title(b"rename of ", name);
+    points::title(b"to ", new);
+    let answer = changes::rename(image, name, new, list);
+    told(answer, list);
+}
+
+fn protected(image: &mut [u8], name: &[u8], list: &mut [u16]) {
+    points::title(b"protect of ", name);
+    let answer = changes::protect(image, name, list);
+    told(answer, list);
+}
+
+fn released(image: &mut [u8], name: &[u8], list: &mut [u16]) {
+    points::title(b"release of ", name);
+    let answer = changes::release(image, name, list);
+    told(answer, list);
+}
+
+fn hidden(image: &mut [u8], name: &[u8], list: &mut [u16]) {
+    points::title(b"hide of ", name);
+    let answer = changes::hide(image, name, list);
+    told(answer, list);
+}
+
+fn shown(image: &mut [u8], name: &[u8], list: &mut [u16]) {
+    points::title(b"show of ", name);
+    let answer = changes::show(image, name, list);
+    told(answer, list);
+}
+
+// The largest body that a disk holds, and the next.
+fn largest(image: &mut [u8], body: &[u8], list: &mut [u16]) {
+    saved(
+        b"795592 bytes",
+        image,
+        b"BIG",
+        buffers::part_at(body, 0, 795592),
+        list,
+    );
+    saved(
+        b"795591 bytes",
+        image,
+        b"BIG",
+        buffers::part_at(body, 0, 795591),
+        list,
+    );
+    saved(b"no bytes on a full disk", image, b"FILE A", b"", list);
+}
+
+// The same read back, and erased.
+fn largest_back(image: &mut [u8], buf: &mut [u8], list: &mut [u16]) {
+    points::read(b"BIG", image, b"BIG", buf);
+    points::started(b"BIG", image, b"BIG");
+    erased(image, b"BIG", list);
+    points::read(b"BIG", image, b"BIG", buf);
+    points::listed(b"the disk", image, buf);
+}
+
+// Where slot 1 and its first sector say how long the file is.
+fn length_bytes(image: &[u8]) {
+    three(
+        b"slot bytes 239 to 241: ",
+        buffers::num_at(image, 239),
+        buffers::num_at(image, 240),
+        buffers::num_at(image, 241),
+    );
+    three(
+        b"header bytes 1, 2 and 7: ",
+        buffers::num_at(image, 40961),
+        buffers::num_at(image, 40962),
+        buffers::num_at(image, 40967),
+    );
+}
+
+// Length 16,384 is pages 1, remainder 0.
+fn one_page(image: &mut [u8], body: &[u8], buf: &mut [u8], list: &mut [u16]) {
+    saved(
+        b"16384 bytes",
+        image,
+        b"PAGE",
+        buffers::part_at(body, 0, 16384),
+        list,
+    );
+    length_bytes(image);
+    points::read(b"PAGE", image, b"PAGE", buf);
+    erased(image, b"PAGE", list);
+}
+
+fn small(image: &mut [u8], body: &[u8], list: &mut [u16]) {
+    saved(
+        b"501 bytes",
+        image,
+        b"FILE A",
+        buffers::part_at(body, 0, 501),
+        list,
+    );
+    saved(
+        b"502 bytes",
+        image,
+        b"FILE B",
+        buffers::part_at(body, 0, 502),
+        list,
+    );
+    saved(b"a name that is live", image, b"FILE B", b"", list);
+    points::checked(b"two files saved", image);
+}
+
+fn unfit_names(image: &mut [u8], list: &mut [u16]) {
+    saved(b"a name from a space", image, b" FILE", b"", list);
+    saved(b"a name of 11 bytes", image, b"ELEVENBYTES", b"", list);
+    renamed(image, b"FILE A", b" FILE C", list);
+}
+
+fn unfit(image: &mut [u8], list: &mut [u16]) {
+    saved_at(b"kind 21", image, 21, 0, 32768, list);
+    saved_at(b"page 32", image, 16, 32, 32768, list);
+    saved_at(b"offset 49152", image, 16, 0, 49152, list);
+}
+
+// One number fewer than a save names.
+fn short_list(image: &mut [u8]) {
+    let mut list = [7u16; 1];
+    saved(
+        b"no bytes with a list of 1",
+        image,
+        b"FILE X",
+        b"",
+        &mut list,
+    );
+    points::number(b"the list: ", listed_at(&list, 0));
+    points::say(b"\n");
+}
+
+fn taken(image: &mut [u8], list: &mut [u16]) {
+    renamed(image, b"FILE A", b"FILE C", list);
+    renamed(image, b"FILE A", b"FILE B", list);
+    renamed(image, b"FILE B", b"FILE B", list);
+}
+
+fn kept(image: &mut [u8], list: &mut [u16]) {
+    protected(image, b"FILE A", list);
+    erased(image, b"FILE A", list);
+    taken(image, list);
+}
+
+fn marks(image: &mut [u8], list: &mut [u16]) {
+    protected(image, b"FILE A", list);
+    released(image, b"FILE A", list);
+    hidden(image, b"FILE B", list);
+    shown(image, b"FILE B", list);
+}
+
+// What an erased file held is used again: its slot, and its sector before the next that is free.
+fn used_again(image: &mut [u8], body: &[u8], list: &mut [u16]) {
+    renamed(image, b"FILE A", b"FILE C", list);
+    erased(image, b"FILE A", list);
+    erased(image, b"FILE C", list);
+    saved(
+        b"502 bytes",
+        image,
+        b"FILE D",
+        buffers::part_at(body, 0, 502),
+        list,
+    );
+}
+
+// A file in every slot that is free, the names AA to HJ.
+fn fill(image: &mut [u8], list: &mut [u16]) {
+    let mut i: u8 = 0;
+    while i < 80 {
+        let name = [65 + i / 10, 65 + i % 10];
+        saves::save(image, 16, &name, 0, 32768, b"", b"", b"", list);
+        i += 1;
+    }
+}
+
+fn every_slot(image: &mut [u8], buf: &mut [u8], list: &mut [u16]) {
+    fill(image, list);
+    points::listed(b"a disk of 80 files", image, buf);
+    saved(b"one file more", image, b"FILE X", b"", list);
+}
+
+fn changes_made(image: &mut [u8], body: &[u8], buf: &mut [u8]) {
+    let mut list = [0u16; 1561];
+    largest(image, body, &mut list);
+    largest_back(image, buf, &mut list);
+    one_page(image, body, buf, &mut list);
+    small(image, body, &mut list);
+}
+
+fn changes_refused(image: &mut [u8]) {
+    let mut list = [0u16; 8];
+    unfit_names(image, &mut list);
+    unfit(image, &mut list);
+    short_list(image);
+    kept(image, &mut list);
+}
+
+fn changes_more(image: &mut [u8], body: &[u8], buf: &mut [u8]) {
+    let mut list = [0u16; 8];
+    marks(image, &mut list);
+    used_again(image, body, &mut list);
+    points::read(b"FILE D", image, b"FILE D", buf);
+    every_slot(image, buf, &mut list);
+}
+
+fn main() {
+    let mut image = points::blank();
+    let mut body = points::blank();
+    let mut buf = points::blank();
+    buffers::copy_into(&mut body, 0, b"HEAD");
+    buffers::copy_into(&mut body, 501, b"MIDDLE!");
+    changes_made(&mut image, &body, &mut buf);
+    changes_refused(&mut image);
+    changes_more(&mut image, &body, &mut buf);
+}

@@ -1,0 +1,62 @@
+-- The slot that a save takes, as a loop looks for it and by the tests that led there.
+use Prim.Native.Nat.{ℕ, suc, _+_, _-_, _≤_, _<_}
+use mathlib.Core.Path.{_≡_, refl, sym, ap₂, _∙_}
+use mathlib.Core.List.{List}
+use mathlib.Core.Option.{Option, none, some}
+use native.Mathlib.Numerals.{add-one}
+use native.Mathlib.Omega.{arith}
+use Rattle.refusals.specs.Order.{Refusal, refuse, Reply, _else_, sweepFrom}
+use Rattle.refusals.proofs.First.{sweep-start, sweep-skip, sweep-stop, sweep-end}
+use Rattle.directory.specs.Places.{slotCount}
+use Rattle.directory.specs.Directory.{held, Directory, slotsRead, directory}
+use Rattle.directory.specs.Find.{find}
+use Rattle.files.specs.Calls.{at, barred}
+use Rattle.plans.specs.Saving.{lowestSlot}
+use Rattle.taking.specs.declared.Start.{Start}
+use Rattle.taking.specs.Taken.{askedReply, soughtIn, slotFor}
+
+-- ---- the lowest slot that holds no file, as a loop looks for it
+
+abbrev pub emptyAt : Directory → ℕ → Option ℕ
+emptyAt v i = held (some i) (λ s. none) (v i)
+
+-- the slots that are read are those of the four tracks
+all-read : (d : List ℕ) → slotsRead d ≡ slotCount 0
+unfolding slotsRead slotCount
+all-read d = refl
+
+pub slot-start : (d : List ℕ) → lowestSlot 0 (directory d) ≡ sweepFrom (slotsRead d - 0) 0 (emptyAt (directory d))
+unfolding lowestSlot
+slot-start d = rw (all-read d) (sweep-start (slotCount 0) (emptyAt (directory d)))
+
+module _ (d : List ℕ) (i : ℕ) (w : lowestSlot 0 (directory d) ≡ sweepFrom (slotsRead d - i) i (emptyAt (directory d))) where
+  pub slot-held : i < slotsRead d → (s : List ℕ) → directory d i ≡ some s → lowestSlot 0 (directory d) ≡ sweepFrom (slotsRead d - (i + 1)) (i + 1) (emptyAt (directory d))
+  slot-held h s e = w ∙ sweep-skip (slotsRead d) i (emptyAt (directory d)) h (rw e)
+
+  pub slot-free : i < slotsRead d → directory d i ≡ none → some i ≡ lowestSlot 0 (directory d)
+  slot-free h e = sym (w ∙ sweep-stop (slotsRead d) i (emptyAt (directory d)) i h (rw e))
+
+  pub slot-none : slotsRead d ≤ i → none ≡ lowestSlot 0 (directory d)
+  slot-none h = sym (w ∙ sweep-end (slotsRead d - i) i (emptyAt (directory d)) (omega arith))
+
+-- ---- the slot that a save takes, by the tests that led there
+
+module _ (d : List ℕ) (s : Start) (n : List ℕ) where
+  place-by : {a : Reply} {f o : Option ℕ} → askedReply s n ≡ a → find (directory d) n ≡ f → lowestSlot 0 (directory d) ≡ o
+      → slotFor d s n ≡ soughtIn (a else held none (λ i. some (refuse 16 (suc i))) f) o
+  unfolding slotFor
+  place-by ea ef eo = ap₂ soughtIn (ap₂ (λ (p : Reply) (o : Option ℕ). p else held none (λ i. some (refuse 16 (suc i))) o) ea ef) eo
+
+  pub place-asked : (r : Refusal) → askedReply s n ≡ some r → barred r ≡ slotFor d s n
+  place-asked r e = sym (place-by e refl refl)
+
+  module _ (e : askedReply s n ≡ none) where
+    pub place-named : (i : ℕ) → find (directory d) n ≡ some i → barred (refuse 16 (i + 1)) ≡ slotFor d s n
+    place-named i f = rw add-one (sym (place-by e f refl))
+
+    module _ (f : find (directory d) n ≡ none) where
+      pub place-full : lowestSlot 0 (directory d) ≡ none → barred (refuse 18 0) ≡ slotFor d s n
+      place-full o = sym (place-by e f o)
+
+      pub place-at : (i : ℕ) → lowestSlot 0 (directory d) ≡ some i → at i ≡ slotFor d s n
+      place-at i o = sym (place-by e f o)

@@ -1,0 +1,68 @@
+-- `taking::free_slot` meets its contract: the answer is that of the slots from `i` on.
+use Prim.Native.Nat.{_-_, _≤_}
+use mathlib.Core.Path.{_≡_}
+use native.Mathlib.Omega.{arith}
+use borrow.Author.Tests.{not-true, not-false}
+use Rattle.refusals.specs.Order.{sweepFrom}
+use Rattle.directory.specs.Directory.{slotsRead, directory}
+use Rattle.directory.proofs.Live.{met-live, met-dead}
+use Rattle.plans.specs.Saving.{lowestSlot}
+use Rattle.taking.proofs.Placed.{emptyAt, slot-start, slot-held, slot-free, slot-none}
+use borrow.Author.Needs.{needs}
+use Rattle.taking.proofs.free_slot.Statement.{statement}
+use Rattle.taking.proofs.free_slot.Tie as tie
+
+abbrev Inv-loop : tie.InvT-loop
+Inv-loop image end i₀ i = (i ≤ slotsRead image) × (lowestSlot 0 (directory image) ≡ sweepFrom (slotsRead image - i) i (emptyAt (directory image)))
+
+abbrev μ-loop : tie.MeasureT-loop
+μ-loop image end i₀ i = end - i
+
+slots-read-requires : tie.Need-slots-read-requires Inv-loop μ-loop
+slots-read-requires c κs = search needs
+
+loop-holds : tie.Need-loop-holds Inv-loop μ-loop
+loop-holds c = (omega arith, slot-start _)
+
+slot-at-requires : tie.Need-slot-at-requires Inv-loop μ-loop
+slot-at-requires c κs = search needs
+
+add-i : tie.Need-add-i Inv-loop μ-loop
+add-i c = search needs
+
+is-live-requires : tie.Need-is-live-requires Inv-loop μ-loop
+is-live-requires c κs = search needs
+
+returns : tie.Need-returns Inv-loop μ-loop
+returns c =
+    let s = c .before .before in
+    let l = s .before .before .loop in
+    slot-free _ (l .i) (l .inv .1) (omega arith) (met-dead _ _ (s .slot-at .ensures) (c .before .is-live .ensures) (not-true _ (c .if1 .taken)))
+
+loop-less : tie.Need-loop-less Inv-loop μ-loop
+loop-less c = search needs
+
+loop-again : tie.Need-loop-again Inv-loop μ-loop
+loop-again c =
+    let s = c .before .before in
+    let l = s .before .before .loop in
+    (omega arith, slot-held _ (l .i) (l .inv .1) (omega arith) _ (met-live _ _ (s .slot-at .ensures) (c .before .is-live .ensures) (omega arith) (not-false _ (c .if1 .left))))
+
+returns-2 : tie.Need-returns-2 Inv-loop μ-loop
+returns-2 c = let l = c .before .loop in slot-none _ (l .i) (l .inv .1) (omega arith)
+
+pub free-slot-spec : {M : Type 1} → statement M
+free-slot-spec =
+    tie.close
+    (tie.spec
+    Inv-loop
+    μ-loop
+    slots-read-requires
+    loop-holds
+    slot-at-requires
+    add-i
+    is-live-requires
+    returns
+    loop-less
+    loop-again
+    returns-2)

@@ -1,0 +1,112 @@
+// What a save takes: the lowest slot that holds no file, or what is refused before; and the lowest free map bits.
+ghost use mathlib.Core.Path.{_≡_};
+ghost use Rattle.buffers.specs.Bytes.{put};
+ghost use Rattle.refusals.specs.Answers.{replyOf};
+ghost use Rattle.directory.specs.Directory.{directory};
+ghost use Rattle.directory.specs.Find.{foundAt};
+ghost use Rattle.files.specs.Calls.{soughtOf};
+ghost use Rattle.plans.specs.Saving.{lowestSlot};
+ghost use Rattle.taking.specs.Taken.{askedReply, slotFor, lowest, full};
+use directory::Found;
+use files::Lookup;
+use refusals::Reason;
+use refusals::Verdict;
+
+// The kind of a file, and where it is loaded.
+pub struct Start {
+    pub kind: usize,
+    pub page: usize,
+    pub offset: usize,
+}
+
+// Rows 12, 13 and 14, which go by the arguments alone.
+fn asked_rows(start: Start, name: &[u8]) -> Verdict
+    ensures { λ r. ⌜ replyOf r ≡ askedReply start (now (name .entry)) ⌝ }
+{
+    if !changes::is_usable(name) {
+        return refusals::unsound(Reason::NameNotUsable, 0);
+    }
+    if !slots::is_carried(start.kind) {
+        return refusals::unsound(Reason::KindNotCarried, 0);
+    }
+    if 31 < start.page {
+        return refusals::unsound(Reason::StartOutOfRange, 0);
+    }
+    if start.offset < 32768 {
+        return refusals::unsound(Reason::StartOutOfRange, 0);
+    }
+    if 49151 < start.offset {
+        return refusals::unsound(Reason::StartOutOfRange, 0);
+    }
+    Verdict::Sound
+}
+
+// The lowest slot that holds no file.
+fn free_slot(image: &[u8]) -> Found
+    ensures { λ r. ⌜ foundAt r ≡ lowestSlot 0 (directory (now (image .entry))) ⌝ }
+{
+    let end = directory::slots_read(image);
+    let mut i: usize = 0;
+    while i < end {
+        let s = directory::slot_at(image, i);
+        let k = i;
+        i += 1;
+        if !slots::is_live(s) {
+            return Found::At(k);
+        }
+    }
+    Found::Nothing
+}
+
+// The slot that a save takes, counted from 0; or what is refused before: 12, 13, 14, 16, 18.
+pub fn slot_for(image: &[u8], start: Start, name: &[u8]) -> Lookup
+    ensures { λ r. ⌜ soughtOf r ≡ slotFor (now (image .entry)) start (now (name .entry)) ⌝ }
+{
+    match asked_rows(start, name) {
+        Verdict::Unsound(r) => Lookup::Barred(r),
+        Verdict::Sound => match directory::find(image, name) {
+            Found::At(i) => files::barred(Reason::NameTaken, i + 1),
+            Found::Nothing => match free_slot(image) {
+                Found::At(i) => Lookup::At(i),
+                Found::Nothing => files::barred(Reason::NoFreeSlot, 0),
+            },
+        },
+    }
+}
+
+// Whether all eight bits of a map from `b` on are set, and `b` is the first of a byte.
+fn is_full(map: &[u8], b: usize) -> bool
+    ensures { λ r. ⌜ r ≡ full (now (map .entry)) b ⌝ }
+{
+    if b % 8 != 0 {
+        return false;
+    }
+    buffers::byte_at(map, b / 8) == 255
+}
+
+// Puts the `n` lowest clear bits of a map to the front of a list, as many as it has room for. Of a byte that is full no bit
+// is looked at.
+pub fn pick_bits(map: &[u8], n: usize, list: &mut [u16])
+    ensures { λ _. ⌜ now (list .exit) ≡ put (now (list .entry)) 0 (lowest (now (map .entry)) n) ⌝ }
+{
+    let mut j: usize = 0;
+    let mut b: usize = 0;
+    while b < 1560 {
+        if n <= j {
+            return;
+        }
+        if list.len() <= j {
+            return;
+        }
+        let c = b;
+        if is_full(map, c) {
+            b += 8;
+        } else {
+            b += 1;
+            if !maps::has_bit(map, c) {
+                list[j] = c as u16;
+                j += 1;
+            }
+        }
+    }
+}
