@@ -2,7 +2,8 @@
 use borrow.Author.Needs.{needs}
 use native.Mathlib.Omega.{arith}
 use lib.ListN.{length-take}
-use Rattle.catalogue.proofs.Laws.{wrote-long, text-most, catalogue-short, catalogue-done}
+use Rattle.lines.proofs.Laws.{wrote-long}
+use Rattle.catalogue.proofs.Laws.{text-most, catalogue-short, catalogue-done}
 use Rattle.catalogue.proofs.catalogue.Statement.{statement}
 use Rattle.catalogue.proofs.catalogue.Tie as tie
 
@@ -15,10 +16,13 @@ slice-aggregate-put-text c = search needs
 put-text-requires : tie.Need-put-text-requires
 put-text-requires c κs = search needs
 
+no-requires : tie.Need-no-requires
+no-requires c κs = search needs
+
 returns : tie.Need-returns
 returns c =
-    let w = c .before .before in
-    catalogue-short _ _ (omega (arith, w .put-text .ensures .next, c .if1 .taken))
+    let w = c .before .before .before in
+    catalogue-short _ _ (omega (arith, w .put-text .ensures .next, c .before .if1 .taken, w .before .before .blank .ensures, text-most (w .before .before .before .before .before .args .input .now))) _ (c .no .ensures)
 
 array-share-prefix-page : tie.Need-array-share-prefix-page
 array-share-prefix-page c = let w = c .before .before .before in
@@ -49,6 +53,7 @@ catalogue-spec =
     blank-requires
     slice-aggregate-put-text
     put-text-requires
+    no-requires
     returns
     array-share-prefix-page
     slice-aggregate-copy-into

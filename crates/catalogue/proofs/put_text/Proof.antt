@@ -1,16 +1,14 @@
 -- `catalogue::put_text` meets its contract: each return has the tests that led there.
 use borrow.Author.Needs.{needs}
 use mathlib.Core.Path.{sym, ap, _∙_}
-use native.Mathlib.Omega.{arith}
 use Rattle.refusals.specs.Answers.{replyOf}
-use Rattle.directory.specs.Places.{slots}
-use Rattle.directory.specs.Directory.{directory}
-use Rattle.catalogue.proofs.Laws.{wrote-then, wrote-as, wrote-long, refusal-fits, text-short, text-refused, text-sound, lines-most, length-free, decimal-most}
+use Rattle.lines.proofs.Laws.{wrote-then, wrote-as}
+use Rattle.catalogue.proofs.Laws.{text-short, text-refused, text-sound}
 use Rattle.catalogue.proofs.put_text.Statement.{statement}
 use Rattle.catalogue.proofs.put_text.Tie as tie
 
 put-refusal-requires : tie.Need-put-refusal-requires
-put-refusal-requires c κs = refusal-fits _ _ (c .before .before .before .before .pre)
+put-refusal-requires c κs = search needs
 
 same-length : tie.Need-same-length
 same-length c = search needs
@@ -27,7 +25,7 @@ enum-known-verdict : tie.Need-enum-known-verdict
 enum-known-verdict c = search needs
 
 put-refusal-requires-2 : tie.Need-put-refusal-requires-2
-put-refusal-requires-2 c κs = refusal-fits _ _ (c .before .before .before .before .before .before .before .before .pre)
+put-refusal-requires-2 c κs = search needs
 
 enum-told : tie.Need-enum-told
 enum-told c = search needs
@@ -39,10 +37,7 @@ free-of-requires : tie.Need-free-of-requires
 free-of-requires c κs = search needs
 
 put-free-requires : tie.Need-put-free-requires
-put-free-requires c κs =
-    let l = c .before .before .before .before in
-    let s = l .before .before .before .before .before .before .before .before .before in
-    omega (arith, s .pre, l .put-lines .ensures .next, wrote-long (l .put-lines .ensures), lines-most (directory (s .args .input .now)) slots (omega arith), length-free (c .free-of .result), decimal-most (c .free-of .result))
+put-free-requires c κs = search needs
 
 same-length-2 : tie.Need-same-length-2
 same-length-2 c = search needs

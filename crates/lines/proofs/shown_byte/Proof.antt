@@ -1,8 +1,8 @@
--- `catalogue::shown_byte` meets its contract.
+-- `lines::shown_byte` meets its contract.
 use borrow.Author.Tests.{le-leb, lt-leb}
-use Rattle.catalogue.specs.Text.{shown}
-use Rattle.catalogue.proofs.shown_byte.Statement.{statement}
-use Rattle.catalogue.proofs.shown_byte.Tie as tie
+use Rattle.lines.specs.Lines.{shown}
+use Rattle.lines.proofs.shown_byte.Statement.{statement}
+use Rattle.lines.proofs.shown_byte.Tie as tie
 
 returns : tie.Need-returns
 unfolding shown

@@ -3,19 +3,19 @@ use borrow.Author.Needs.{needs}
 use mathlib.Core.Path.{sym, ap, _∙_}
 use mathlib.Core.List.{List, _++_}
 use native.Mathlib.Omega.{arith}
-use lib.ListN.{length}
-use Rattle.catalogue.specs.Text.{digits}
-use Rattle.catalogue.proofs.Laws.{wrote-none, wrote-then, wrote-as, digits-none, digits-one, digits-more, length-more}
+use Rattle.lines.specs.Lines.{digits}
+use Rattle.lines.proofs.Laws.{wrote-none, wrote-then, wrote-as, digits-none, digits-one, digits-more}
 use Prim.Native.Nat.{ℕ, _<_, _-_, _/_}
 use borrow.Fn.Kinds.{In}
 use borrow.Fn.PlainCycle.{Measures, is, falls, and}
-use Rattle.catalogue.proofs.put_digits.Reads as put-digits
-use Rattle.catalogue.proofs.put_digits.Kinds as put-digits-kinds
-use Rattle.catalogue.proofs.+put_digits.Lts-put_digits as put-digits-lts
-use Rattle.catalogue.proofs.digit.Reads as digit-reads
-use Rattle.catalogue.proofs.put_bytes.Reads as put-bytes-reads
-use Rattle.catalogue.proofs.+put_digits.{statement}
-use Rattle.catalogue.proofs.+put_digits.Tie.{close}
+use Rattle.lines.proofs.put_digits.Reads as put-digits
+use Rattle.lines.proofs.put_digits.Kinds as put-digits-kinds
+use Rattle.lines.proofs.+put_digits.Lts-put_digits as put-digits-lts
+use Rattle.buffers.proofs.lesser.Reads as lesser-reads
+use Rattle.lines.proofs.digit.Reads as digit-reads
+use Rattle.lines.proofs.put_bytes.Reads as put-bytes-reads
+use Rattle.lines.proofs.+put_digits.{statement}
+use Rattle.lines.proofs.+put_digits.Tie.{close}
 
 abbrev μ-put-digits : Measures 1 put-digits-kinds.ps ℕ
 μ-put-digits κs a = a .1 .1 .0
@@ -31,10 +31,13 @@ put-digits-below t =
 
 -- what the calls ask and give, that of itself below the measure t
 abbrev claims : ℕ → put-digits-lts.Claims
-claims t = (digit-reads.Asked, digit-reads.Learnt, put-bytes-reads.Asked, put-bytes-reads.Learnt, put-digits-below t, put-digits.Post)
+claims t = (lesser-reads.Asked, lesser-reads.Learnt, digit-reads.Asked, digit-reads.Learnt, put-bytes-reads.Asked, put-bytes-reads.Learnt, put-digits-below t, put-digits.Post)
+
+put-digits-lesser-requires : (t : ℕ) → put-digits-lts.Need-lesser-requires (claims t) (put-digits-at t) put-digits.Post
+put-digits-lesser-requires t c κs = search needs
 
 put-digits-returns : (t : ℕ) → put-digits-lts.Need-returns (claims t) (put-digits-at t) put-digits.Post
-put-digits-returns t c = wrote-none _ _ _ (digits-none _ _ (c .if1 .taken))
+put-digits-returns t c = wrote-none _ _ _ (digits-none _ _ (c .before .if1 .taken)) _ (c .lesser .ensures)
 
 put-digits-digit-requires : (t : ℕ) → put-digits-lts.Need-digit-requires (claims t) (put-digits-at t) put-digits.Post
 put-digits-digit-requires t c κs = search needs
@@ -43,11 +46,7 @@ put-digits-slice-aggregate-put-bytes : (t : ℕ) → put-digits-lts.Need-slice-a
 put-digits-slice-aggregate-put-bytes t c = search needs
 
 put-digits-put-bytes-requires : (t : ℕ) → put-digits-lts.Need-put-bytes-requires (claims t) (put-digits-at t) put-digits.Post
-put-digits-put-bytes-requires t c κs =
-    let g = c .before .before in
-    let y = g .before in
-    let e = y .before in
-    omega (arith, e .before .before .pre .1, ap length (g .digit .ensures), ap length (digits-one _ _ (e .if1 .left) (y .if2 .taken)))
+put-digits-put-bytes-requires t c κs = search needs
 
 put-digits-same-length : (t : ℕ) → put-digits-lts.Need-same-length (claims t) (put-digits-at t) put-digits.Post
 put-digits-same-length t c = search needs
@@ -64,10 +63,8 @@ put-digits-sub-put-digits t c = search needs
 
 put-digits-put-digits-requires : (t : ℕ) → put-digits-lts.Need-put-digits-requires (claims t) (put-digits-at t) put-digits.Post
 put-digits-put-digits-requires t c κs =
-    let y = c .before in
-    let e = y .before in
-    let b = e .before .before in
-    (omega (arith, b .pre .0, e .if1 .left), omega (arith, b .pre .1, length-more _ _ (e .if1 .left) (y .if2 .left)))
+    let e = c .before .before in
+    (omega (arith, e .before .before .pre .0, e .if1 .left), tt)
 
 put-digits-digit-requires-2 : (t : ℕ) → put-digits-lts.Need-digit-requires-2 (claims t) (put-digits-at t) put-digits.Post
 put-digits-digit-requires-2 t c κs = search needs
@@ -76,12 +73,7 @@ put-digits-slice-aggregate-put-bytes-2 : (t : ℕ) → put-digits-lts.Need-slice
 put-digits-slice-aggregate-put-bytes-2 t c = search needs
 
 put-digits-put-bytes-requires-2 : (t : ℕ) → put-digits-lts.Need-put-bytes-requires-2 (claims t) (put-digits-at t) put-digits.Post
-put-digits-put-bytes-requires-2 t c κs =
-    let g = c .before .before in
-    let w = g .before .before .before in
-    let y = w .before .before in
-    let e = y .before in
-    omega (arith, e .before .before .pre .1, ap length (g .digit2 .ensures), w .put-digits .ensures .next, length-more _ _ (e .if1 .left) (y .if2 .left))
+put-digits-put-bytes-requires-2 t c κs = search needs
 
 put-digits-same-length-2 : (t : ℕ) → put-digits-lts.Need-same-length-2 (claims t) (put-digits-at t) put-digits.Post
 put-digits-same-length-2 t c = search needs
@@ -99,6 +91,7 @@ pub +put-digits-spec : {M : Type 1} → statement M
 +put-digits-spec = close μ-put-digits λ t. put-digits-lts.spec (claims t)
     (put-digits-at t)
     put-digits.Post
+    (put-digits-lesser-requires t)
     (put-digits-returns t)
     (put-digits-digit-requires t)
     (put-digits-slice-aggregate-put-bytes t)

@@ -1,12 +1,12 @@
--- `catalogue::put_number` meets its contract.
+-- `lines::put_number` meets its contract.
 use borrow.Author.Needs.{needs}
-use Rattle.catalogue.specs.Text.{decimal}
-use Rattle.catalogue.proofs.put_number.Statement.{statement}
-use Rattle.catalogue.proofs.put_number.Tie as tie
+use Rattle.lines.specs.Lines.{decimal}
+use Rattle.lines.proofs.put_number.Statement.{statement}
+use Rattle.lines.proofs.put_number.Tie as tie
 
 put-digits-requires : tie.Need-put-digits-requires
 unfolding decimal
-put-digits-requires c κs = c .before .before .pre
+put-digits-requires c κs = search needs
 
 same-length : tie.Need-same-length
 same-length c = search needs

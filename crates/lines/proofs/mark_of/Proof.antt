@@ -1,8 +1,8 @@
--- `catalogue::mark_of` meets its contract.
+-- `lines::mark_of` meets its contract.
 use borrow.Author.Needs.{needs}
 use mathlib.Core.Path.{_∙_, sym}
-use Rattle.catalogue.proofs.mark_of.Statement.{statement}
-use Rattle.catalogue.proofs.mark_of.Tie as tie
+use Rattle.lines.proofs.mark_of.Statement.{statement}
+use Rattle.lines.proofs.mark_of.Tie as tie
 
 is-protected-requires : tie.Need-is-protected-requires
 is-protected-requires c κs = search needs

@@ -1,4 +1,4 @@
--- `catalogue::shown_name` meets its contract: after k turns the first k bytes are as shown.
+-- `lines::shown_name` meets its contract: after k turns the first k bytes are as shown.
 use borrow.Author.Needs.{needs}
 use Prim.Native.Nat.{_≤_, _-_}
 use mathlib.Core.Path.{_≡_, refl, ap, _∙_}
@@ -6,9 +6,9 @@ use native.Mathlib.Omega.{arith}
 use lib.ListN.{length, getD, take, length-set}
 use Rattle.buffers.specs.Bytes.{tab}
 use Rattle.buffers.proofs.Lists.{fill-more, fill-done}
-use Rattle.catalogue.specs.Text.{shown}
-use Rattle.catalogue.proofs.shown_name.Statement.{statement}
-use Rattle.catalogue.proofs.shown_name.Tie as tie
+use Rattle.lines.specs.Lines.{shown}
+use Rattle.lines.proofs.shown_name.Statement.{statement}
+use Rattle.lines.proofs.shown_name.Tie as tie
 
 abbrev Inv-loop : tie.InvT-loop
 Inv-loop s name visible₀ k₀ visible k = (k ≤ 10) × (length visible ≡ 10) × (take k visible ≡ tab k (λ j. shown (getD name j 0)))

@@ -1,15 +1,12 @@
--- `catalogue::put_slot` meets its contract: a line where both tests let it through.
+-- `lines::put_slot` meets its contract: a line where both tests let it through.
 use borrow.Author.Needs.{needs}
-use mathlib.Core.Path.{_≡_, sym, ap, _∙_}
+use mathlib.Core.Path.{_≡_, sym, _∙_}
 use borrow.Author.Tests.{not-true, not-false}
-use native.Mathlib.Omega.{arith}
-use lib.ListN.{length}
 use denote.Ref.{now}
-use Rattle.catalogue.specs.Text.{line}
-use Rattle.catalogue.specs.Written.{entry}
-use Rattle.catalogue.proofs.Laws.{wrote-none, wrote-as, entry-dead, entry-hidden, entry-line}
-use Rattle.catalogue.proofs.put_slot.Statement.{statement}
-use Rattle.catalogue.proofs.put_slot.Tie as tie
+use Rattle.lines.specs.Lines.{line, entry}
+use Rattle.lines.proofs.Laws.{wrote-none, wrote-as, entry-dead, entry-hidden, entry-line}
+use Rattle.lines.proofs.put_slot.Statement.{statement}
+use Rattle.lines.proofs.put_slot.Tie as tie
 
 -- past both tests the slot has a line
 line-here : (c : tie.Else2) → entry (c .before .before .before .before .before .before .args .number) (now (c .before .before .before .before .before .before .args .s)) ≡ line (c .before .before .before .before .before .before .args .number) (now (c .before .before .before .before .before .before .args .s))
@@ -21,22 +18,26 @@ line-here c =
 is-live-requires : tie.Need-is-live-requires
 is-live-requires c κs = search needs
 
+lesser-requires : tie.Need-lesser-requires
+lesser-requires c κs = search needs
+
 returns : tie.Need-returns
-returns c = wrote-none _ _ _ (entry-dead _ _ (sym (c .before .is-live .ensures) ∙ not-true _ (c .if1 .taken)))
+returns c = wrote-none _ _ _ (entry-dead _ _ (sym (c .before .before .is-live .ensures) ∙ not-true _ (c .before .if1 .taken))) _ (c .lesser .ensures)
 
 is-hidden-requires : tie.Need-is-hidden-requires
 is-hidden-requires c κs = search needs
 
+lesser-requires-2 : tie.Need-lesser-requires-2
+lesser-requires-2 c κs = search needs
+
 returns-2 : tie.Need-returns-2
 returns-2 c =
-    let h = c .before in
+    let h = c .before .before in
     let l = h .before in
-    wrote-none _ _ _ (entry-hidden _ _ (sym (l .before .is-live .ensures) ∙ not-false _ (l .if1 .left)) (sym (h .is-hidden .ensures) ∙ c .if2 .taken))
+    wrote-none _ _ _ (entry-hidden _ _ (sym (l .before .is-live .ensures) ∙ not-false _ (l .if1 .left)) (sym (h .is-hidden .ensures) ∙ c .before .if2 .taken)) _ (c .lesser2 .ensures)
 
 put-line-requires : tie.Need-put-line-requires
-put-line-requires c κs =
-    let e = line-here (c .before) in
-    omega (arith, c .before .before .before .before .before .before .before .pre, ap length e)
+put-line-requires c κs = search needs
 
 same-length : tie.Need-same-length
 same-length c = search needs
@@ -51,8 +52,10 @@ put-slot-spec =
     tie.close
     (tie.spec
     is-live-requires
+    lesser-requires
     returns
     is-hidden-requires
+    lesser-requires-2
     returns-2
     put-line-requires
     same-length

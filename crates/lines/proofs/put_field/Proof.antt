@@ -1,8 +1,8 @@
--- `catalogue::put_field` meets its contract.
+-- `lines::put_field` meets its contract.
 use borrow.Author.Needs.{needs}
-use Rattle.catalogue.proofs.Laws.{wrote-then}
-use Rattle.catalogue.proofs.put_field.Statement.{statement}
-use Rattle.catalogue.proofs.put_field.Tie as tie
+use Rattle.lines.proofs.Laws.{wrote-then}
+use Rattle.lines.proofs.put_field.Statement.{statement}
+use Rattle.lines.proofs.put_field.Tie as tie
 
 slice-aggregate-put-bytes : tie.Need-slice-aggregate-put-bytes
 slice-aggregate-put-bytes c = search needs
