@@ -99,18 +99,18 @@ fn nothing_comes_of_what_can_be_no_reader() {
     };
     for high in [0, 1 << 16, 1 << 31] {
         none(&image, high | 1_600, 0, 1);
-        none(&image, 40, high | 510, 1);
-        none(&image, 40, 0, high | 795_592);
+        none(&image, 80, high | 510, 1);
+        none(&image, 80, 0, high | 795_592);
     }
     for high in [1 << 16, 1 << 31] {
-        none(&image, high | 40, 0, 1);
-        none(&image, 40, high | 9, 1);
+        none(&image, high | 80, 0, 1);
+        none(&image, 80, high | 9, 1);
     }
     none(&image, u32::MAX, u32::MAX, u32::MAX);
     for length in [0, 512, IMAGE - 1] {
-        none(&image[..length], 40, 9, 1);
+        none(&image[..length], 80, 9, 1);
     }
-    none(&[&image[..], &[0]].concat(), 40, 9, 1);
+    none(&[&image[..], &[0]].concat(), 80, 9, 1);
 }
 
 /// Other numbers lead along the links: round in a ring, or to an end before all has come.

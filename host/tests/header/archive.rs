@@ -46,8 +46,8 @@ fn the_archive_keeps_no_state() {
     }
 }
 
-/// `stack.c` says of each call how many bytes of painted stack it wrote over. A save took less than 4,900 bytes and every
-/// other call less than 1,000 when this was written. The frames in the compiled code have fixed sizes and no call leads back
+/// `stack.c` says of each call how many bytes of painted stack it wrote over. A save took less than 5,500 bytes and every
+/// other call less than 1,500 when this was written. The frames in the compiled code have fixed sizes and no call leads back
 /// to itself, so that their sum, about the same, holds for every input.
 #[test]
 fn the_calls_need_little_stack() {
@@ -68,5 +68,5 @@ fn the_calls_need_little_stack() {
         assert!(bytes > 0 && bytes < most, "{line}");
         calls.insert(call);
     }
-    assert_eq!(calls.len(), 12);
+    assert_eq!(calls.len(), 14);
 }
