@@ -59,7 +59,7 @@ fn readers_are_read_by_others() {
         assert!(poured == body(length) && whole == poured && exact == poured);
         let short = reader.clone().read_exact(&mut vec![0; length + 1]).unwrap_err();
         assert_eq!(short.kind(), io::ErrorKind::UnexpectedEof);
-        let bytes: Result<Vec<u8>, _> = reader.clone().bytes().collect();
+        let bytes: Result<Vec<u8>, _> = io::BufReader::new(reader.clone()).bytes().collect();
         assert!(bytes.unwrap() == poured);
         assert_eq!(reader.left(), length, "a clone goes its own way");
     }
