@@ -10,7 +10,7 @@ use native.Mathlib.Omega.{arith}
 use borrow.Author.Tests.{ltb-true, ltb-false, lt-ltb, le-ltb, le-leb, lt-leb}
 use lib.Dec.{leb, ltb}
 use lib.ListN.{length, getD, take, drop, set, length-append, length-take, length-drop, length-set, List·getD-append, List·getD-eq-default, drop-of-length-le}
-use lib.Seq.{ext-getD, getD-at, getD-append-add, getD-take, getD-drop, take-suc-set, take-all, take-nil, getD-set-same, getD-set-other}
+use lib.Seq.{ext-getD, getD-at, getD-append-add, getD-take, getD-drop, take-add, take-suc-set, take-all, take-nil, getD-set-same, getD-set-other}
 use Rattle.buffers.specs.Bytes.{tab, part, put, word, wordOr}
 
 -- a number is below another or not
@@ -239,6 +239,19 @@ put-append d a x y =
     (below-or-not i (length x)))
     (λ k h. put-before (put d a x) (a + length x) y k (omega arith) ∙ put-before d a x k h)
     (λ k h l. put-after (put d a x) (a + length x) y k (omega (arith, length-append x y)) ∙ put-after d a x k (omega (arith, length-append x y)))
+
+-- the bytes from j to k put after those before j
+pub put-run : (d : List ℕ) (a : ℕ) (x : List ℕ) (j k : ℕ) → j ≤ length x → j ≤ k → put (put d a (take j x)) (a + j) (take (k - j) (drop j x)) ≡ put d a (take k x)
+put-run d a x j k h l =
+    let e : a + j ≡ a + length (take j x) = omega (arith, length-take j x) in
+    let f : k ≡ j + (k - j) = omega arith in
+    ap (λ (b : ℕ). put (put d a (take j x)) b (take (k - j) (drop j x))) e ∙ put-append d a (take j x) (take (k - j) (drop j x))
+    ∙ ap (put d a) (sym (ap (λ (b : ℕ). take b x) f ∙ take-add j (k - j) x))
+
+-- what is put at the front is read from there
+pub take-put : (d x e : List ℕ) → e ≡ put d 0 x → length x ≤ length d → take (length x) e ≡ x
+unfolding part
+take-put d x e p h = ap (take (length x)) p ∙ part-put d 0 x (omega arith)
 
 -- one element stored is put
 pub put-one : (d : List ℕ) (a v : ℕ) → set d a v ≡ put d a (v ∷ [])

@@ -74,7 +74,7 @@ pub fn part_at(s: &[u8], at: usize, n: usize) -> &[u8]
     &s[at..end]
 }
 
-// All of `from`, put at a place of `out` where it fits: one loop of plain stores, which the compiler makes a loop of wide ones.
+// All of `from`, put at a place of `out` where it fits.
 fn copy(out: &mut [u8], at: usize, from: &[u8])
     requires { ⌜ at + length (now from) ≤ length (now out) ⌝ }
     ensures { λ _. ⌜ now (out .exit) ≡ put (now (out .entry)) at (now (from .entry)) ⌝ }
@@ -83,6 +83,30 @@ fn copy(out: &mut [u8], at: usize, from: &[u8])
     while j < from.len() {
         out[at + j] = from[j];
         j += 1;
+    }
+}
+
+// The same of a run by way of an array, which overlaps neither slice: so the compiler sees two block copies, makes them
+// one, and the array goes.
+fn copy_run(out: &mut [u8], at: usize, from: &[u8])
+    requires { ⌜ (at + length (now from) ≤ length (now out)) × (length (now from) ≤ 512) ⌝ }
+    ensures { λ _. ⌜ now (out .exit) ≡ put (now (out .entry)) at (now (from .entry)) ⌝ }
+{
+    let mut held = [0u8; 512];
+    copy(&mut held, 0, from);
+    copy(out, at, &held[..from.len()]);
+}
+
+// The same of any length, run by run.
+fn copy_runs(out: &mut [u8], at: usize, from: &[u8])
+    requires { ⌜ at + length (now from) ≤ length (now out) ⌝ }
+    ensures { λ _. ⌜ now (out .exit) ≡ put (now (out .entry)) at (now (from .entry)) ⌝ }
+{
+    let mut done: usize = 0;
+    while done < from.len() {
+        let end = done + lesser(512, from.len() - done);
+        copy_run(out, at + done, &from[done..end]);
+        done = end;
     }
 }
 
@@ -95,8 +119,8 @@ pub fn copy_into(out: &mut [u8], at: usize, from: &[u8])
     }
     let room = out.len() - at;
     if from.len() <= room {
-        copy(out, at, from);
+        copy_runs(out, at, from);
     } else {
-        copy(out, at, &from[..room]);
+        copy_runs(out, at, &from[..room]);
     }
 }

@@ -14,14 +14,14 @@ returns c = let a = c .before .before .before .args in put-past (a .out .now) (a
 sub-room : tie.Need-sub-room
 sub-room c = search needs
 
-copy-requires : tie.Need-copy-requires
-copy-requires c κs = search needs
+copy-runs-requires : tie.Need-copy-runs-requires
+copy-runs-requires c κs = search needs
 
-slice-aggregate-copy : tie.Need-slice-aggregate-copy
-slice-aggregate-copy c = simp length-take (omega arith)
+slice-aggregate-copy-runs : tie.Need-slice-aggregate-copy-runs
+slice-aggregate-copy-runs c = simp length-take (omega arith)
 
-copy-requires-2 : tie.Need-copy-requires-2
-copy-requires-2 c κs = simp length-take (omega arith)
+copy-runs-requires-2 : tie.Need-copy-runs-requires-2
+copy-runs-requires-2 c κs = simp length-take (omega arith)
 
 same-length : tie.Need-same-length
 same-length c = search needs
@@ -36,7 +36,7 @@ returns-3 : tie.Need-returns-3
 returns-3 c =
     let d = c .before .before in
     let a = d .before .before .before .before .before .before .before .args in
-    d .copy2 .ensures ∙ put-cut (a .out .now) (a .at) (a .from .now) (length (a .out .now) - a .at) (omega arith) (omega arith)
+    d .copy-runs2 .ensures ∙ put-cut (a .out .now) (a .at) (a .from .now) (length (a .out .now) - a .at) (omega arith) (omega arith)
 
 pub copy-into-spec : {M : Type 1} → statement M
 copy-into-spec =
@@ -44,9 +44,9 @@ copy-into-spec =
     (tie.spec
     returns
     sub-room
-    copy-requires
-    slice-aggregate-copy
-    copy-requires-2
+    copy-runs-requires
+    slice-aggregate-copy-runs
+    copy-runs-requires-2
     same-length
     returns-2
     same-length-2
