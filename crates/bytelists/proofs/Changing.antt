@@ -1,5 +1,5 @@
 -- A change with a list of bytes is the change with a list of numbers: no change names more than 1,561 sectors, so that many numbers are always room enough.
-use Prim.Native.Nat.{ℕ, suc, _+_, _-_, _/_, _^_, _≤_, _<_, min}
+use Prim.Native.Nat.{ℕ, suc, _+_, _-_, _/_, _≤_, _<_, min}
 use mathlib.Core.Path.{_≡_, refl, sym, ap, _∙_, subst}
 use mathlib.Core.Bool.{Bool, true, false, cond, not, _&&_}
 use mathlib.Core.List.{List, [], _∷_, _++_}
@@ -15,12 +15,10 @@ use Rattle.buffers.proofs.Lists.{below-or-not, length-put, put-none, part-put}
 use Rattle.refusals.specs.Order.{refuse, Reply, _else_, row}
 use Rattle.refusals.specs.Answers.{Outcome, done, refused}
 use Rattle.slots.specs.Slot.{carried, protected}
-use Rattle.slots.specs.Rows.{dataCount}
 use Rattle.slots.specs.Name.{askable, padded}
 use Rattle.chains.specs.File.{File}
-use Rattle.directory.specs.Places.{slots}
 use Rattle.directory.specs.Directory.{held, Directory}
-use Rattle.directory.specs.Survey.{free, freeOf}
+use Rattle.directory.specs.Survey.{free, usedMap}
 use Rattle.directory.specs.Find.{find}
 use Rattle.directory.proofs.Search.{find-some}
 use Rattle.disk.specs.Look.{Look, look, slotsOf, extra}
@@ -34,6 +32,7 @@ use Rattle.plans.proofs.Free.{taken-long}
 use Rattle.plans.proofs.Refused.{save-long}
 use Rattle.plans.proofs.Sure.{save-tested}
 use Rattle.plans.proofs.Demand3.{run-room}
+use Rattle.saves.proofs.Planned.{free-le}
 use Rattle.packing.specs.Packed.{valueIn}
 use Rattle.bytelists.specs.Lists.{inBytes, changingBy, changing, Counted}
 use Rattle.bytelists.proofs.Table.{Small, small-else, small-row, check-small}
@@ -78,9 +77,9 @@ small-taken v n = by (find v n) refl
 small-protected : (i : ℕ) (f : File) → i < 80 → Small (isProtected i f)
 small-protected i f h = small-row 17 (suc i) (protected (f .bytes)) (omega arith) (omega arith)
 
-free-few : (l : Look) → free (extra l) (slotsOf l) ≤ 1560
-unfolding free freeOf dataCount extra
-free-few l = omega arith
+pub free-few : (n : ℕ) (v : Directory) → free n v ≤ 1560
+unfolding free
+free-few n v = free-le n (usedMap v)
 
 small-save : (n : ℕ) (v : Directory) (w : Wish) → Small (saveReply n v w)
 unfolding saveReply
@@ -116,7 +115,7 @@ mild-save l w = by (saveReply n v w) refl (small-save n v w)
 
     by : (q : Reply) → saveReply n v w ≡ q → Small q → Mild 1561 (orNo q (go (saveSteps l (slotTaken n v) w (taken n v w))))
     by (some r) e a = a
-    by none e a = omega (arith, save-long l (slotTaken n v) w (taken n v w), taken-long l w (save-tested n v w e .room), free-few l, save-tested n v w e .room)
+    by none e a = omega (arith, save-long l (slotTaken n v) w (taken n v w), taken-long l w (save-tested n v w e .room), free-few n v, save-tested n v w e .room)
 
 mild : (c : Change) (l : Look) → Mild (most c) (planOf c l)
 unfolding planOf numbers

@@ -9,7 +9,7 @@ use borrow.Author.Tests.{leb-true}
 use lib.Dec.{eqb, leb}
 use Rattle.buffers.proofs.Tests.{and-both}
 use Rattle.geometry.specs.Disk.{imageSize}
-use Rattle.refusals.specs.Order.{Refusal, refuse, Reply, _else_, Row, rows, row, sweep}
+use Rattle.refusals.specs.Order.{refuse, Reply, _else_, Row, rows, row, sweep}
 use Rattle.refusals.proofs.First.{sweep-first}
 use Rattle.chains.specs.File.{File}
 use Rattle.directory.specs.Places.{slots}
@@ -65,6 +65,3 @@ check-small l =
     subst Small (sym (check-passes l))
     (small-else (row 1 0 (not (eqb (l .long) imageSize))) (pass l (rows9 l) else pass l (rows11 l)) (small-row 1 0 (not (eqb (l .long) imageSize)) (omega arith) (omega arith))
     (small-else (pass l (rows9 l)) (pass l (rows11 l)) (small-pass l (rows9 l) (λ i f. refl)) (small-pass l (rows11 l) (λ i f. refl))))
-
-pub check-slot : (l : Look) (r : Refusal) → checkLook l ≡ some r → r .slot ≤ 80
-check-slot l r e = subst Small e (check-small l) .1

@@ -154,15 +154,6 @@ pub entry-dead : (number : ℕ) (s : List ℕ) → isLive s ≡ false → entry 
 unfolding entry
 entry-dead number s p = rw p
 
-pub entry-most : (number : ℕ) (s : List ℕ) → number < 100 → length (entry number s) ≤ 24
-unfolding entry
-entry-most number s h = by (isLive s) (hidden s)
-  where
-    by : (t u : Bool) → length (cond t (cond u [] (line number s)) []) ≤ 24
-    by true true = omega arith
-    by true false = line-most number s h
-    by false u = omega arith
-
 pub length-free : (n : ℕ) → length (freeLine n) ≡ length (decimal n) + 6
 unfolding freeLine
 length-free n = simp length-append (omega arith)

@@ -1,6 +1,6 @@
 -- An answer that fits is its four parts, and each can be read back from it.
-use Prim.Native.Nat.{ℕ, _+_, _*_, _/_, _%_, _^_, _≤_, _<_}
-use mathlib.Core.Path.{_≡_, refl, sym, ap, _∙_, subst}
+use Prim.Native.Nat.{ℕ, _+_, _*_, _/_, _%_, _^_, _<_}
+use mathlib.Core.Path.{_≡_, refl, sym, ap, _∙_}
 use native.Mathlib.Omega.{arith}
 use Rattle.refusals.specs.Answers.{Outcome, done, refused, outcomeOf, numberOf}
 use Rattle.refusals.specs.declared.Refused.{Refused}

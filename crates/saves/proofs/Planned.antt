@@ -2,7 +2,7 @@
 use Prim.Native.Nat.{ℕ, zero, suc, _+_, _≤_, _<_}
 use mathlib.Core.Path.{_≡_, refl, sym, ap, ap₂, _∙_}
 use mathlib.Core.Bool.{Bool, true, false, cond, not, _&&_, and-eq-true-iff}
-use mathlib.Core.List.{List, [], _∷_}
+use mathlib.Core.List.{List, _∷_}
 use mathlib.Core.Option.{Option, none, some}
 use native.Mathlib.Omega.{arith}
 use borrow.Author.Tests.{lt-ltb, le-ltb, leb-true}
@@ -28,7 +28,7 @@ use Rattle.files.specs.Steps.{Accepted}
 use Rattle.steps.specs.Steps.{Step, numbers}
 use Rattle.plans.specs.Change.{Wish, save, between, usable}
 use Rattle.plans.specs.Saving.{sectorsFor, passing, freeBit, taken, lowestSlot, slotTaken}
-use Rattle.plans.specs.Plan.{Plan, no, go, orNo, nameTaken, saveReply, planOf, plan, saveSteps, changed, change}
+use Rattle.plans.specs.Plan.{no, go, orNo, nameTaken, saveReply, planOf, plan, saveSteps, changed, change}
 use Rattle.plans.proofs.Free.{taken-run, taken-long, run-at, lowest-slot}
 use Rattle.plans.proofs.Refused.{save-long}
 use Rattle.plans.proofs.Sure.{save-tested}
@@ -99,7 +99,7 @@ free-is : (d : List ℕ) (u : UsedMap) → Accepted d u → (f : ℕ) → f ≡ 
 unfolding free
 free-is d u a f e = sym (e ∙ ap (freeOf 0) (a .used))
 
-free-le : (n : ℕ) (u : UsedMap) → freeOf n u ≤ 1560
+pub free-le : (n : ℕ) (u : UsedMap) → freeOf n u ≤ 1560
 unfolding freeOf dataCount
 free-le n u = omega arith
 

@@ -2,34 +2,32 @@
 use Prim.Native.Nat.{ℕ, _+_, _/_, _≤_}
 use mathlib.Core.Path.{_≡_, refl, sym, ap, _∙_, subst}
 use mathlib.Core.Bool.{Bool, true, false, cond, not, _&&_}
-use mathlib.Core.List.{List, [], _∷_}
+use mathlib.Core.List.{List}
 use mathlib.Core.Option.{Option, none, some}
 use native.Mathlib.Omega.{arith}
 use borrow.Author.Tests.{leb-true, eqb-true, not-false}
 use lib.Dec.{eqb, leb, ltb}
 use lib.ListN.{length}
 use Rattle.buffers.proofs.Tests.{and-both}
-use Rattle.geometry.specs.Disk.{imageSize, isSector, placeOf}
+use Rattle.geometry.specs.Disk.{isSector, placeOf}
 use Rattle.geometry.proofs.Laws.{sector-inside}
-use Rattle.refusals.specs.Order.{Refusal, refuse, Reply, _else_, Row, _when_, rows, row, sweep}
+use Rattle.refusals.specs.Order.{Refusal, refuse, Reply, _else_, row}
 use Rattle.refusals.specs.Answers.{Outcome, done, refused, unless, Out, filled}
-use Rattle.refusals.proofs.First.{else-none, rows-clear, sweep-first}
+use Rattle.refusals.proofs.First.{else-none}
 use Rattle.slots.specs.Slot.{kindOf, carried, facts, lengthOf, offsetOf}
 use Rattle.slots.specs.Name.{askable}
 use Rattle.slots.specs.Rows.{dataCount}
-use Rattle.chains.specs.File.{File, fileOf}
+use Rattle.chains.specs.File.{fileOf}
 use Rattle.chains.specs.Chain.{body}
 use Rattle.drives.specs.Raw.{isImage, isDrive, rawRefusal}
 use Rattle.drives.proofs.Laws.{accepted}
 use Rattle.directory.specs.Places.{slots}
-use Rattle.directory.specs.Directory.{held, directory, slotOr, liveAmong}
-use Rattle.directory.specs.Survey.{free, freeOf}
+use Rattle.directory.specs.Directory.{directory, slotOr, liveAmong}
+use Rattle.directory.specs.Survey.{free}
 use Rattle.directory.specs.Find.{find}
-use Rattle.disk.specs.Look.{Look, look, slotsOf, extra}
+use Rattle.disk.specs.Look.{look, slotsOf, extra}
 use Rattle.disk.specs.Check.{checkLook, checkDisk}
-use Rattle.disk.specs.Given.{rows9, rows11}
 use Rattle.disk.proofs.Look.{look-some}
-use Rattle.disk.proofs.Order.{passAt, pass, check-passes}
 use Rattle.disk.proofs.Rows.{carried-is}
 use Rattle.disk.proofs.Sound.{sound}
 use Rattle.files.specs.Calls.{entries, listing, Sought, at, barred, soughtBy, lookup, address, startOf, startAt, starting, readAt, reading}
@@ -40,11 +38,12 @@ use Rattle.files.proofs.Starting.{start-barred, start-found}
 use Rattle.readers.proofs.Joined.{length-few}
 use Rattle.plans.specs.Change.{Change}
 use Rattle.plans.specs.Plan.{Result, stopped, made, run}
+use Rattle.plans.proofs.Sure.{row-none}
 use Rattle.packing.specs.Packed.{packed, Within, Told}
 use Rattle.packing.proofs.Parts.{within-fits, told}
 use Rattle.bytelists.specs.Lists.{changing, changingBy}
 use Rattle.bytelists.proofs.Table.{Small, small-else, small-row, check-small}
-use Rattle.bytelists.proofs.Changing.{most, most-few, Settled, mild-run}
+use Rattle.bytelists.proofs.Changing.{free-few, most, most-few, Settled, mild-run}
 use Rattle.varnucht.specs.Calls.{checking, sectorPlace}
 use Rattle.directory.proofs.Live.{among-few}
 
@@ -61,9 +60,6 @@ filled-outcome : (q : Reply) (o : Outcome) (x buf : List ℕ) → filled q o x b
 filled-outcome none o x buf = refl
 filled-outcome (some r) o x buf = refl
 
-row-false : (n s : ℕ) (t : Bool) → row n s t ≡ none → t ≡ false
-row-false n s t e = rows-clear s ((n when t) ∷ []) e .0
-
 -- ---- the check
 
 pub checking-within : (d : List ℕ) → Within (checking d) 0 0
@@ -71,10 +67,6 @@ unfolding checkDisk
 checking-within d = within-unless (checkDisk d) 0 0 0 0 (check-small (look d)) (λ e. (omega arith, omega arith))
 
 -- ---- the listing: 80 slots, 1,560 sectors
-
-free-few : (d : List ℕ) → free 0 (directory d) ≤ 1560
-unfolding free freeOf dataCount
-free-few d = omega arith
 
 pub listing-within : (d buf : List ℕ) → Within (listing d buf .outcome) 80 1560
 unfolding checkDisk
@@ -87,7 +79,7 @@ listing-within d buf =
     subst (λ (o : Outcome). Within o 80 1560) (sym e)
     (within-unless q live (free 0 (directory d)) 80 1560
     (small-else (checkDisk d) (row 20 0 short) (check-small (look d)) (small-row 20 0 short (omega arith) (omega arith)))
-    (λ e. (among-few (directory d) slots, free-few d)))
+    (λ e. (among-few (directory d) slots, free-few 0 (directory d))))
 
 -- ---- a file by its name
 
@@ -126,7 +118,7 @@ module _ (d n : List ℕ) where
           (within-unless q len 0 795591 0
           (small-else (row 13 (i + 1) (not kind)) (row 20 0 short) (small-row 13 (i + 1) (not kind) (omega arith) (slot-few i e))
           (small-row 20 0 short (omega arith) (omega arith)))
-          (λ z. (length-few d n i (lookup-named d n i e) (not-false kind (row-false 13 (i + 1) (not kind) (else-none (row 13 (i + 1) (not kind)) (row 20 0 short) z .0))), omega arith)))
+          (λ z. (length-few d n i (lookup-named d n i e) (not-false kind (row-none 13 (i + 1) (not kind) (else-none (row 13 (i + 1) (not kind)) (row 20 0 short) z .0))), omega arith)))
 
       by : (x : Sought) → x ≡ lookup (look d) n → Within (reading d n buf .outcome) 795591 0
       by (barred r) e = subst (λ (o : Out). Within (o .outcome) 795591 0) (read-barred d n buf r e) (within-refused r 795591 0 (lookup-small r e))
@@ -144,7 +136,7 @@ module _ (d n : List ℕ) where
           let q = row 14 (i + 1) (not inside) in
           within-unless (p else q) (startOf s) 0 540671 0
           (small-else p q (small-row 13 (i + 1) (not (carried (kindOf s))) (omega arith) (slot-few i e)) (small-row 14 (i + 1) (not inside) (omega arith) (slot-few i e)))
-          (λ z. (address-few s (not-false inside (row-false 14 (i + 1) (not inside) (else-none p q z .1))), omega arith))
+          (λ z. (address-few s (not-false inside (row-none 14 (i + 1) (not inside) (else-none p q z .1))), omega arith))
 
       by : (x : Sought) → x ≡ lookup (look d) n → Within (starting d n) 540671 0
       by (barred r) e = subst (λ (o : Outcome). Within o 540671 0) (start-barred d n r e) (within-refused r 540671 0 (lookup-small r e))

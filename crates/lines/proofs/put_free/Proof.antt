@@ -1,8 +1,7 @@
 -- `lines::put_free` meets its contract: three parts, one after another.
 use borrow.Author.Needs.{needs}
 use Rattle.lines.specs.Lines.{freeLine}
-use native.Mathlib.Omega.{arith}
-use Rattle.lines.proofs.Laws.{wrote-then, wrote-long, length-free}
+use Rattle.lines.proofs.Laws.{wrote-then}
 use Rattle.lines.proofs.put_free.Statement.{statement}
 use Rattle.lines.proofs.put_free.Tie as tie
 

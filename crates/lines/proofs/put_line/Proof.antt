@@ -1,18 +1,12 @@
--- `lines::put_line` meets its contract: six parts, one after another, and there is room for each.
+-- `lines::put_line` meets its contract: six parts, one after another.
 use borrow.Author.Needs.{needs}
 use Prim.Native.Nat.{ℕ}
-use mathlib.Core.Path.{_≡_, ap, ap₂, _∙_}
+use mathlib.Core.Path.{ap₂, _∙_}
 use mathlib.Core.List.{[], _∷_, _++_}
-use native.Mathlib.Omega.{arith}
-use lib.ListN.{length}
-use Rattle.buffers.proofs.Lists.{length-tab}
 use Rattle.lines.specs.Lines.{decimal}
-use Rattle.lines.proofs.Laws.{wrote-then, wrote-as, wrote-long, length-line, line-parts}
+use Rattle.lines.proofs.Laws.{wrote-then, wrote-as, line-parts}
 use Rattle.lines.proofs.put_line.Statement.{statement}
 use Rattle.lines.proofs.put_line.Tie as tie
-
-long-name : (c : tie.After-shown-name) → length (c .shown-name .result) ≡ 10
-long-name c = ap length (c .shown-name .ensures) ∙ length-tab 10 _
 
 mark-of-requires : tie.Need-mark-of-requires
 mark-of-requires c κs = search needs

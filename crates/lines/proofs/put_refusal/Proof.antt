@@ -1,13 +1,10 @@
--- `lines::put_refusal` meets its contract: five parts, one after another, and there is room for each.
+-- `lines::put_refusal` meets its contract: five parts, one after another.
 use borrow.Author.Needs.{needs}
 use Prim.Native.Nat.{ℕ}
 use mathlib.Core.Path.{ap}
 use mathlib.Core.List.{[], _∷_, _++_}
-use native.Mathlib.Omega.{arith}
-use lib.ListN.{length}
-use Rattle.refusals.specs.Answers.{refusalOf}
 use Rattle.lines.specs.Lines.{decimal, refusalLine}
-use Rattle.lines.proofs.Laws.{wrote-then, wrote-as, wrote-long, length-refusal}
+use Rattle.lines.proofs.Laws.{wrote-then, wrote-as}
 use Rattle.lines.proofs.put_refusal.Statement.{statement}
 use Rattle.lines.proofs.put_refusal.Tie as tie
 
