@@ -1,9 +1,9 @@
-/* Varnucht: disk images of the SAM Coupé. Check a disk, list it, read a file's body, give its start address, find a raw
- * sector; save, erase, rename, hide, show, protect and release files. C99 and C++. Link libvarnucht.a.
+/* Varnucht: disk images of the SAM Coupé. Check a disk, list it, read a file's body, whole or piece by piece, give its start
+ * address, find a raw sector; save, erase, rename, hide, show, protect and release files. C99 and C++. Link libvarnucht.a.
  *
  * Contents: 1 what a call takes and answers, 2 sizes, 3 refusals, 4 the calls that read, 5 the calls that change, and how
  * to write what they changed, 6 reading a listing, 7 names and kinds, 8 what is proved and where it runs. A whole program
- * stands in examples/tunes.c.
+ * stands in examples/tunes.c, and one that reads piece by piece in examples/play.c.
  *
  *
  * 1. WHAT A CALL TAKES AND ANSWERS
@@ -29,15 +29,18 @@
  *     refusal   0: accepted. Else a number of section 3; then value and free are 0, and no byte of any buffer has changed.
  *     slot      the slot of the directory, 1 to 80, that a refusal was found at (section 3 says with which numbers), else 0
  *     value     what the call says below
- *     free      the free sectors of a disk, from varnucht_list alone; else 0
+ *     free      the free sectors of a disk, from varnucht_list; else 0
+ *
+ * Two calls put other numbers into two parts when they accept, varnucht_open and varnucht_next: into slot a sector, and into
+ * free a place in it. The functions beside them in section 4 see to that.
  *
  * An image is the whole disk in memory, 819,200 bytes. Its sectors have 512 bytes and are numbered 0 to 1,599; sector s is
  * the bytes from 512 * s. 40 of them are the directory: 80 slots of 256 bytes. A slot is live when it holds a file, and free
  * when its byte 0 is zero. It says the file's kind and name, how many sectors the file has (its count), which they are (its
  * map, a bit for each data sector) and which is the first. The other 1,560 are the data sectors. Each holds 510 bytes of a
  * file and the address of the file's next sector; that is its chain. A file of a carried kind (section 7) begins with a
- * header of 9 bytes, and its body follows. Every call but varnucht_sector checks the whole disk first: you need not call
- * varnucht_check before it.
+ * header of 9 bytes, and its body follows. Every call but varnucht_sector and varnucht_next checks the whole disk first: you
+ * need not call varnucht_check before it.
  */
 #ifndef VARNUCHT_H
 #define VARNUCHT_H
@@ -73,12 +76,14 @@ enum varnucht_size {
 /* 3. REFUSALS, in the words of the rules (document 01), in the order in which they are tested: 1 first; then 2 to 9 at every
  * live slot, the lowest slot first and at a slot the lowest number; then 10 and 11 likewise; then the lowest that applies of
  * 12 to 20. So 12 to 20 say that the disk itself is good. varnucht_sector tests 1 and then 21, and looks at no directory.
+ * varnucht_next refuses nothing.
  *
- * The slot comes with 2 to 11; with 13 and 14 of varnucht_read and varnucht_start, where it is the file's; with 16, where it
- * is that of the file which has the new name; and with 17. With all others, 13 and 14 of varnucht_save too, it is 0. */
+ * The slot comes with 2 to 11; with 13 and 14 of varnucht_read, varnucht_open and varnucht_start, where it is the file's;
+ * with 16, where it is that of the file which has the new name; and with 17. With all others, 13 and 14 of varnucht_save
+ * too, it is 0. */
 enum varnucht_reason {
     VARNUCHT_ACCEPTED = 0,
-    /* The disk is not good. Every call but varnucht_sector can give these; varnucht_sector can give 1. */
+    /* The disk is not good. Every call can give these but varnucht_sector, which can give 1, and varnucht_next. */
     VARNUCHT_NOT_AN_IMAGE = 1,          /* the image is not 819,200 bytes */
     VARNUCHT_KIND_UNKNOWN = 2,          /* the kind is not known (1 to 12 and 16 to 23 are) */
     VARNUCHT_NAME_MISSING = 3,          /* the first name byte is 0 */
@@ -94,7 +99,7 @@ enum varnucht_reason {
                                            slot's kind, remainder, pages */
     /* The request is not good, or cannot be met. Each call says which of these it can give. */
     VARNUCHT_NAME_NOT_USABLE = 12,      /* the name is not usable: section 7 */
-    VARNUCHT_KIND_NOT_CARRIED = 13,     /* the kind asked for (save) or found (read, start) is not 16 to 20 */
+    VARNUCHT_KIND_NOT_CARRIED = 13,     /* the kind asked for (save) or found (read, open, start) is not 16 to 20 */
     VARNUCHT_START_OUT_OF_RANGE = 14,   /* start page above 31, or offset outside 32,768 to 49,151 (save, start) */
     VARNUCHT_NAME_NOT_FOUND = 15,       /* no live slot has the name */
     VARNUCHT_NAME_TAKEN = 16,           /* a live slot has the new name */
@@ -138,8 +143,9 @@ static inline const char *varnucht_words(unsigned refusal) {
     }
 }
 
-/* 4. THE CALLS THAT READ. They change nothing but `out`. `image` is the disk; anything but 819,200 bytes is refused 1. A
- * name has 1 to 10 bytes (section 7). What a call does not fill of `out` stays as it was. */
+/* 4. THE CALLS THAT READ. They change nothing but `out`. `image` is the disk; anything but 819,200 bytes is refused 1, and
+ * only varnucht_next refuses nothing. A name has 1 to 10 bytes (section 7). What a call does not fill of `out` stays as it
+ * was. */
 
 /* Whether the disk is good. Its directory, sector maps and chains agree exactly when this accepts. Value: 0.
  * Refusals: 1 to 11. */
@@ -154,6 +160,71 @@ uint64_t varnucht_list(const uint8_t *image, size_t image_len, uint8_t *out, siz
  * (varnucht_entry_length tells), and VARNUCHT_BODY_BYTES always suffice. Refusals: 1 to 11, 12, 13, 15, 20. */
 uint64_t varnucht_read(const uint8_t *image, size_t image_len, const uint8_t *name, size_t name_len, uint8_t *out,
                        size_t out_len);
+
+/* A file piece by piece: varnucht_open finds it, and varnucht_next gives the next bytes of its body. A reader is three
+ * numbers that the app keeps between the calls. Two functions over them spare it taking these answers apart:
+ *
+ *     struct varnucht_reader tune;
+ *     uint64_t answer = varnucht_reader_open(&tune, image, image_len, name, name_len);
+ *     if (varnucht_refusal(answer) == VARNUCHT_ACCEPTED) {
+ *         while (tune.left > 0) {
+ *             size_t came = varnucht_reader_next(&tune, image, image_len, out, out_len);
+ *             play the `came` bytes at `out`;
+ *         }
+ *     }
+ *
+ * The pieces joined are the body that varnucht_read gives, whatever the lengths of the buffers: a piece has as many bytes as
+ * its buffer, and fewer only where the body ends. So with no room none come, and after the last byte none come.
+ *
+ * DO NOT CHANGE THE DISK WHILE A READER OF IT IS USED: nothing here can see that it was changed. After a change open the
+ * file again. A reader may be copied, to come back to its place, and is given up by not using it any more.
+ *
+ * Of a reader that was not made by these calls alone, or of another image than the one it was opened on, no more is promised
+ * than that the call answers and touches nothing but `out`. */
+
+/* Finds a file. Value: the length of its body in bytes, 0 to 795,591. Slot: the sector that the body begins in, 0 to 1,599.
+ * Free: the place of its first byte there, 9. Refusals: 1 to 11, 12, 13, 15, as varnucht_read has them. */
+uint64_t varnucht_open(const uint8_t *image, size_t image_len, const uint8_t *name, size_t name_len);
+
+/* The next bytes, to the front of `out`: as many as it holds or as are left.
+ *   sector, offset   where the next byte stands: slot and free of the answer before
+ *   left             how many are left: the value of varnucht_open less all that came since
+ *   out              any length, 0 allowed
+ * Value: how many came. Slot and free: sector and offset of the byte after them, which are 1,600 and 0 where none follows.
+ * The disk is not checked. Of an image of another length, and of numbers that can be no reader's (a sector above 1,599, an
+ * offset above 509, more than 795,591 left), nothing comes; of other numbers that no call gave, what stands there along the
+ * links, or less. Refusals: none. */
+uint64_t varnucht_next(const uint8_t *image, size_t image_len, uint32_t sector, uint32_t offset, uint32_t left, uint8_t *out,
+                       size_t out_len);
+
+/* A reader. `left` is what an app may look at: how many bytes of the body are still to come. */
+struct varnucht_reader {
+    uint32_t sector;
+    uint32_t offset;
+    uint32_t left;
+};
+
+/* Opens a file by its name. The answer is varnucht_open's; where it is refused `reader` stays as it was. */
+static inline uint64_t varnucht_reader_open(struct varnucht_reader *reader, const uint8_t *image, size_t image_len,
+                                            const uint8_t *name, size_t name_len) {
+    uint64_t answer = varnucht_open(image, image_len, name, name_len);
+    if (varnucht_refusal(answer) == VARNUCHT_ACCEPTED) {
+        reader->sector = varnucht_slot(answer);
+        reader->offset = varnucht_free(answer);
+        reader->left = varnucht_value(answer);
+    }
+    return answer;
+}
+
+/* The next bytes, to the front of `out`; how many came. */
+static inline size_t varnucht_reader_next(struct varnucht_reader *reader, const uint8_t *image, size_t image_len,
+                                          uint8_t *out, size_t out_len) {
+    uint64_t answer = varnucht_next(image, image_len, reader->sector, reader->offset, reader->left, out, out_len);
+    reader->sector = varnucht_slot(answer);
+    reader->offset = varnucht_free(answer);
+    reader->left -= varnucht_value(answer);
+    return varnucht_value(answer);
+}
 
 /* The address that a file is loaded to. Value: page * 16,384 + offset - 16,384, which is 16,384 to 540,671.
  * Refusals: 1 to 11, 12, 13, 14, 15. */

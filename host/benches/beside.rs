@@ -26,14 +26,18 @@ fn main() {
     let begin = Instant::now();
     let timer = clock::timer_cost();
     table::print_head(timer);
-    let mut count = 0;
-    for row in rows::all() {
-        table::print_row(&row, &clock::measure(&row, timer));
-        count += 1;
+    let rows = rows::all();
+    for row in &rows {
+        table::print_row(row, &clock::measure(row, timer));
+    }
+    println!();
+    for (row, most) in rows::pieces(&rows) {
+        table::print_pieces(row, most, &clock::together(row, timer));
     }
     println!();
     println!(
-        "{count} rows, each equal on both sides before it was timed. {:.1} seconds.",
+        "{} rows, each equal on both sides before it was timed. {:.1} seconds.",
+        rows.len(),
         begin.elapsed().as_secs_f64()
     );
 }

@@ -13,8 +13,11 @@ pub struct Answer(u64);
 pub struct Accepted {
     /// A length, an address, a place, or how many: each call says which. Below 2^24.
     pub value: u32,
-    /// The free sectors, from a listing; 0 from every other call.
+    /// The free sectors, from a listing; an offset, from the two calls that read piece by piece; 0 from every other call.
     pub free: u16,
+    /// A sector's number, from the two calls that read piece by piece; 0 from every other call. It has the bits where a
+    /// refusal has its slot.
+    pub sector: u16,
 }
 
 impl Answer {
@@ -45,6 +48,7 @@ impl Answer {
             None => Ok(Accepted {
                 value: (self.0 >> 24) as u32 & 0xff_ffff,
                 free: (self.0 >> 48) as u16,
+                sector: (self.0 >> 8) as u16,
             }),
             Some(refusal) => Err(Refused {
                 refusal,

@@ -1,4 +1,4 @@
-//! The twelve calls on byte slices: safe, and total on every input, but without types that rule anything out.
+//! The fourteen calls on byte slices: safe, and total on every input, but without types that rule anything out.
 //!
 //! Each function hands its slices to the C layer and gives back the [`Answer`]. Nothing is decided here. A refused call
 //! changes no byte of anything lent. In the changes, `list` takes the numbers of the sectors to write, two bytes to a number,
@@ -32,6 +32,23 @@ pub fn read(image: &[u8], name: &[u8], out: &mut [u8]) -> Answer {
             out.as_mut_ptr(),
             out.len(),
         )
+    })
+}
+
+/// Finds a file to read piece by piece. Value: the length of its body; slot and free: the sector of its first byte, and the
+/// offset there.
+pub fn open(image: &[u8], name: &[u8]) -> Answer {
+    // SAFETY: pointers and lengths are those of slices that are only read.
+    Answer::from_number(unsafe { raw::varnucht_open(image.as_ptr(), image.len(), name.as_ptr(), name.len()) })
+}
+
+/// The next bytes of a body, copied to the front of `out`: from this byte of this sector on, as many as `out` holds or as are
+/// left. Value: how many came; slot and free: the sector and the offset of the byte after them. It refuses nothing, whatever
+/// the numbers, and the disk is not checked.
+pub fn next(image: &[u8], sector: u32, offset: u32, left: u32, out: &mut [u8]) -> Answer {
+    // SAFETY: pointers and lengths are those of slices, and `out` is borrowed alone.
+    Answer::from_number(unsafe {
+        raw::varnucht_next(image.as_ptr(), image.len(), sector, offset, left, out.as_mut_ptr(), out.len())
     })
 }
 

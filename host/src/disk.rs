@@ -5,6 +5,7 @@ use crate::image::Image;
 use crate::listing::Listing;
 use crate::name::{Name, NewName};
 use crate::place::SectorNumber;
+use crate::reader::Reader;
 use crate::refusal::Refused;
 use crate::sectors::{LIST_LENGTH, Sectors};
 use std::error::Error;
@@ -82,6 +83,13 @@ impl Disk {
         let done = calls::read(self.image.as_bytes(), name.as_bytes(), &mut body).decode()?;
         body.truncate(done.value as usize);
         Ok(body)
+    }
+
+    /// A reader of a file's body, at its first byte. Refused as [`read`](Disk::read) is.
+    ///
+    /// The whole disk is looked at, once; a piece then costs no more than its own bytes.
+    pub fn reader(&self, name: &Name) -> Result<Reader<'_>, Refused> {
+        Reader::open(&self.image, name)
     }
 
     /// A file's start address. Refused 15 where there is no such file; with the slot 13 where its kind is not carried, and

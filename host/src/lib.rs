@@ -59,6 +59,27 @@
 //! # Ok::<(), Box<dyn std::error::Error>>(())
 //! ```
 //!
+//! # A file piece by piece
+//!
+//! A [`Reader`] gives a file's body a few bytes at a time, as any [`Read`](std::io::Read) does, so that a tune can be played
+//! before it has loaded. It borrows the disk, which cannot be changed until the reader is given up.
+//!
+//! ```
+//! use std::io::Read;
+//! # use varnucht::{CarriedKind, Disk, Image, Name, NewFile, NewName, Start};
+//! # let mut disk = Disk::open(Image::blank())?;
+//! # let file = NewFile::new(CarriedKind::Code, NewName::new("TUNES")?, Start::new(1, 32_768)?, b"la la la");
+//! # let _ = disk.save(&file)?;
+//!
+//! let mut tune = disk.reader(&Name::new("TUNES")?)?;
+//! let mut piece = [0; 3];
+//! while tune.left() > 0 {
+//!     let came = tune.read(&mut piece)?;
+//!     println!("play {:?}", &piece[..came]);
+//! }
+//! # Ok::<(), Box<dyn std::error::Error>>(())
+//! ```
+//!
 //! # A disk in a file
 //!
 //! A change answers with the [`Sectors`] that it altered, in the order in which they are to be written. Wherever that
@@ -93,7 +114,7 @@
 //! # Words
 //!
 //! "Document 01" and "the paper" are the rules that the library is proved against. A refusal prints their words. Below the
-//! types stand [`calls`], the twelve calls on byte slices, and [`raw`], the C layer itself.
+//! types stand [`calls`], the fourteen calls on byte slices, and [`raw`], the C layer itself.
 #![warn(missing_docs)]
 
 mod answer;
@@ -110,6 +131,7 @@ mod name;
 mod place;
 #[allow(missing_docs)]
 pub mod raw;
+mod reader;
 mod refusal;
 mod sectors;
 mod start;
@@ -125,6 +147,7 @@ pub use kind::{CarriedKind, Kind};
 pub use listing::Listing;
 pub use name::{NAME_LENGTH, Name, NewName, Unusable};
 pub use place::{DATA_SECTORS, Drive, SECTOR_LENGTH, SECTORS, Sector, SectorNumber, Track};
+pub use reader::Reader;
 pub use refusal::{Refusal, Refused, Slot};
 pub use sectors::{LONGEST_BODY, Sectors};
 pub use start::Start;

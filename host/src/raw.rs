@@ -12,6 +12,16 @@ unsafe extern "C" {
         out: *mut u8,
         out_len: usize,
     ) -> u64;
+    pub fn varnucht_open(image: *const u8, image_len: usize, name: *const u8, name_len: usize) -> u64;
+    pub fn varnucht_next(
+        image: *const u8,
+        image_len: usize,
+        sector: u32,
+        offset: u32,
+        left: u32,
+        out: *mut u8,
+        out_len: usize,
+    ) -> u64;
     pub fn varnucht_start(image: *const u8, image_len: usize, name: *const u8, name_len: usize) -> u64;
     pub fn varnucht_sector(
         one: *const u8,

@@ -1,6 +1,8 @@
 //! The safe interface, by subject. Here is what the subjects share.
 #[path = "api/changing.rs"]
 mod changing;
+#[path = "api/pieces.rs"]
+mod pieces;
 #[path = "api/reading.rs"]
 mod reading;
 #[path = "support/table.rs"]

@@ -17,7 +17,7 @@ use std::process::Command;
 use table::TABLE;
 
 /// The parts of the program that checks the header from inside.
-const CHECKS: [&str; 7] = [
+const CHECKS: [&str; 8] = [
     "main.c",
     "constants.c",
     "answers.c",
@@ -25,6 +25,7 @@ const CHECKS: [&str; 7] = [
     "entries.c",
     "empty.c",
     "sizes.c",
+    "pieces.c",
 ];
 
 fn header_text() -> String {
@@ -107,6 +108,10 @@ fn a_wrong_type_is_refused() {
         ),
         ("image_call(const uint8_t *, size_t)", "image_call(const uint8_t *, uint32_t)"),
         ("size_t, uint32_t, uint32_t, uint32_t);", "size_t, uint32_t, uint32_t);"),
+        (
+            "next_call(const uint8_t *, size_t, uint32_t, uint32_t, uint32_t,",
+            "next_call(const uint8_t *, size_t, uint32_t, uint32_t, size_t,",
+        ),
     ];
     for (right, other) in wrong {
         assert_eq!(text.matches(right).count(), 1, "{right}");
@@ -154,7 +159,7 @@ fn the_header_declares_what_raw_declares() {
         raw_text.matches("pub fn ").count(),
         "every function of raw.rs is read"
     );
-    assert_eq!(header.len(), 12);
+    assert_eq!(header.len(), 14);
     assert_eq!(header, raw);
     for call in &header {
         for (at, (name, kind)) in call

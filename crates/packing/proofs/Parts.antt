@@ -1,12 +1,12 @@
 -- An answer that fits is its four parts, and each can be read back from it.
 use Prim.Native.Nat.{ℕ, _+_, _*_, _/_, _%_, _^_, _<_}
-use mathlib.Core.Path.{_≡_, sym, ap, _∙_}
+use mathlib.Core.Path.{_≡_, refl, sym, ap, _∙_}
 use native.Mathlib.Omega.{arith}
 use Rattle.refusals.specs.Answers.{Outcome, done, refused, outcomeOf, numberOf}
 use Rattle.refusals.specs.declared.Refused.{Refused}
 use Rattle.refusals.specs.declared.Answer.{Answer}
 use Rattle.refusals.specs.declared.Answer.the-variants.{Done, No}
-use Rattle.packing.specs.Packed.{packed, clipped, refusalIn, slotIn, valueIn, freeIn, Within, Fits, Told}
+use Rattle.packing.specs.Packed.{packed, clipped, packedAt, clippedAt, refusalIn, slotIn, valueIn, freeIn, Within, Fits, FitsAt, Told, ToldAt}
 
 pub packed-is : (o : Outcome) → packed o ≡ refusalIn o + 256 * slotIn o + 2 ^ 24 * valueIn o + 2 ^ 48 * freeIn o
 packed-is (done v f) = omega arith
@@ -30,11 +30,24 @@ told o w =
 pub within-fits : (o : Outcome) (v f : ℕ) → v < 2 ^ 24 → f < 2 ^ 16 → Within o v f → Fits o
 within-fits o v f p q w = record { refusal = w .refusal; slot = w .slot; value = omega (arith, w .value); free = omega (arith, w .free) }
 
+pub told-at : (sector value offset : ℕ) → FitsAt sector value offset → ToldAt sector value offset (packedAt sector value offset)
+told-at sector value offset w =
+    let t = parts 0 sector value offset (packedAt sector value offset) (omega arith) (w .sector-small) (w .value-small) (omega arith) in
+    record { refusal = t .0; sector-is = t .1; value-is = t .2; offset-is = t .3 }
+
 -- nothing of what fits is too much
 pub clipped-is : (o : Outcome) → Fits o → clipped o ≡ packed o
 unfolding clipped
 clipped-is (done v f) w = omega arith
 clipped-is (refused r) w = omega arith
+
+pub clipped-at-is : (sector value offset : ℕ) → FitsAt sector value offset → clippedAt sector value offset ≡ packedAt sector value offset
+unfolding clippedAt
+clipped-at-is sector value offset w =
+    let a : sector % 2 ^ 16 ≡ sector = omega (arith, w .sector-small) in
+    let b : value % 2 ^ 24 ≡ value = omega (arith, w .value-small) in
+    let c : offset % 2 ^ 16 ≡ offset = omega (arith, w .offset-small) in
+    rw (a, b, c) refl
 
 -- ---- the code's answer, by its case
 

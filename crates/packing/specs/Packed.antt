@@ -1,5 +1,5 @@
 -- An outcome as one number, for the app's C layer.
-use Prim.Native.Nat.{ℕ, _+_, _-_, _*_, _/_, _%_, _^_, _≤_}
+use Prim.Native.Nat.{ℕ, _+_, _-_, _*_, _/_, _%_, _^_, _≤_, _<_}
 use mathlib.Core.Path.{_≡_}
 use Rattle.refusals.specs.Order.{Reply}
 use Rattle.refusals.specs.Answers.{Outcome, done, refused, unless}
@@ -13,6 +13,13 @@ packed (refused r) = r .number + 256 * r .slot
 unfoldable pub clipped : Outcome → ℕ
 clipped (done value free) = 2 ^ 24 * (value % 2 ^ 24) + 2 ^ 48 * (free % 2 ^ 16)
 clipped (refused r) = r .number + 256 * (r .slot % 2 ^ 16)
+
+-- an accepted answer with a place in a chain: its sector in the slot's part, its offset in that of the free sectors
+abbrev pub packedAt : ℕ → ℕ → ℕ → ℕ
+packedAt sector value offset = 256 * sector + 2 ^ 24 * value + 2 ^ 48 * offset
+
+unfoldable pub clippedAt : ℕ → ℕ → ℕ → ℕ
+clippedAt sector value offset = packedAt (sector % 2 ^ 16) (value % 2 ^ 24) (offset % 2 ^ 16)
 
 -- a check as an outcome
 abbrev pub checked : Reply → Outcome
@@ -47,9 +54,21 @@ pub record Within (o : Outcome) (v f : ℕ) : Type 0 where
 abbrev pub Fits : Outcome → Type 0
 Fits o = Within o (2 ^ 24 - 1) (2 ^ 16 - 1)
 
+-- the same of a place and a value
+pub record FitsAt (sector value offset : ℕ) : Type 0 where
+  pub sector-small : sector < 2 ^ 16
+  pub value-small : value < 2 ^ 24
+  pub offset-small : offset < 2 ^ 16
+
 -- an answer read in its parts
 pub record Told (o : Outcome) (answer : ℕ) : Type 0 where
   pub refusal : answer % 256 ≡ refusalIn o
   pub slot : answer / 256 % 2 ^ 16 ≡ slotIn o
   pub value : answer / 2 ^ 24 % 2 ^ 24 ≡ valueIn o
   pub free : answer / 2 ^ 48 ≡ freeIn o
+
+pub record ToldAt (sector value offset answer : ℕ) : Type 0 where
+  pub refusal : answer % 256 ≡ 0
+  pub sector-is : answer / 256 % 2 ^ 16 ≡ sector
+  pub value-is : answer / 2 ^ 24 % 2 ^ 24 ≡ value
+  pub offset-is : answer / 2 ^ 48 ≡ offset

@@ -1,7 +1,7 @@
 // An answer as one number, for the app's C layer: refusal + 256 × slot + 2^24 × value + 2^48 × free.
 ghost use mathlib.Core.Path.{_≡_};
 ghost use Rattle.refusals.specs.Answers.{replyOf, outcomeOf};
-ghost use Rattle.packing.specs.Packed.{clipped, checked};
+ghost use Rattle.packing.specs.Packed.{clipped, clippedAt, checked};
 use refusals::Answer;
 use refusals::Verdict;
 
@@ -18,6 +18,16 @@ pub fn pack(a: Answer) -> u64
             refusals::number_of(reason) as u64 + 256 * (r.slot % 65536) as u64
         }
     }
+}
+
+// A value, and a place in a chain: its sector in the slot's part, its offset in that of the free sectors. As above, a part that
+// has no room loses what is too much.
+pub fn pack_place(sector: usize, value: usize, offset: usize) -> u64
+    ensures { λ r. ⌜ r ≡ clippedAt sector value offset ⌝ }
+{
+    256 * (sector % 65536) as u64
+        + 16777216 * (value % 16777216) as u64
+        + 281474976710656 * (offset % 65536) as u64
 }
 
 // The verdict of a check; 0 of a sound disk.

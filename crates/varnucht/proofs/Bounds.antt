@@ -35,6 +35,7 @@ use Rattle.files.proofs.Listed.{listing-is}
 use Rattle.files.proofs.Named.{Named, lookup-named, named-slot}
 use Rattle.files.proofs.Reading.{read-barred, read-found}
 use Rattle.files.proofs.Starting.{start-barred, start-found}
+use Rattle.readers.proofs.Joined.{length-few}
 use Rattle.plans.specs.Change.{Change}
 use Rattle.plans.specs.Plan.{Result, stopped, made, run}
 use Rattle.plans.proofs.Sure.{row-none}
@@ -102,14 +103,6 @@ module _ (d n : List ℕ) where
   slot-few : (i : ℕ) → at i ≡ lookup (look d) n → i + 1 ≤ 80
   slot-few i e = omega (arith, named-slot d n i (lookup-named d n i e) .below)
 
-  -- 510 × 1,560 less the nine bytes of the header
-  length-few : (i : ℕ) → Named d n i → carried (kindOf (slotOr d i)) ≡ true → lengthOf (facts (slotOr d i)) ≤ 795591
-  unfolding checkDisk facts fileOf dataCount extra
-  length-few i w c =
-      let f = named-slot d n i w in
-      let g = sound (look d) (w .accepted) .good i (fileOf d (slotOr d i)) (f .below) (look-some d i (slotOr d i) (f .here)) in
-      omega (arith, g .fits (carried-is (kindOf (slotOr d i)) c), g .few-sectors)
-
   pub reading-within : (buf : List ℕ) → Within (reading d n buf .outcome) 795591 0
   unfolding readAt fileOf
   reading-within buf = by (lookup (look d) n) refl
@@ -125,7 +118,7 @@ module _ (d n : List ℕ) where
           (within-unless q len 0 795591 0
           (small-else (row 13 (i + 1) (not kind)) (row 20 0 short) (small-row 13 (i + 1) (not kind) (omega arith) (slot-few i e))
           (small-row 20 0 short (omega arith) (omega arith)))
-          (λ z. (length-few i (lookup-named d n i e) (not-false kind (row-none 13 (i + 1) (not kind) (else-none (row 13 (i + 1) (not kind)) (row 20 0 short) z .0))), omega arith)))
+          (λ z. (length-few d n i (lookup-named d n i e) (not-false kind (row-none 13 (i + 1) (not kind) (else-none (row 13 (i + 1) (not kind)) (row 20 0 short) z .0))), omega arith)))
 
       by : (x : Sought) → x ≡ lookup (look d) n → Within (reading d n buf .outcome) 795591 0
       by (barred r) e = subst (λ (o : Out). Within (o .outcome) 795591 0) (read-barred d n buf r e) (within-refused r 795591 0 (lookup-small r e))

@@ -1,14 +1,21 @@
 // The calls of the app's C layer: a byte slice is a pointer and then a length, and every answer is one number,
 // refusal + 256 × slot + 2^24 × value + 2^48 × free.
 ghost use mathlib.Core.Path.{_≡_};
+ghost use lib.ListN.{length};
 ghost use Rattle.packing.specs.Packed.{packed};
 ghost use Rattle.files.specs.Calls.{listing, reading, starting};
+ghost use Rattle.readers.specs.Pieces.{placeOf, pieceOf, bufferAfter};
+ghost use Rattle.readers.specs.Opening.{beginning};
 ghost use Rattle.plans.specs.Change.{save, erase, rename, mark, hide, show, protect, release};
 ghost use Rattle.changes.specs.Marks.{markOf};
 ghost use Rattle.saves.specs.Write.{wish};
 ghost use Rattle.varnucht.specs.Calls.{checking, sectorPlace, Returns};
+ghost use Rattle.varnucht.specs.Reading.{packedBegin, packedPiece};
 use changes::Marking;
 use geometry::Spot;
+use readers::Opened;
+use readers::Place;
+use refusals::Answer;
 
 // The check.
 #[no_mangle]
@@ -44,6 +51,37 @@ pub extern "C" fn varnucht_start(image: &[u8], name: &[u8]) -> u64
 {
     let started = files::start(image, name);
     packing::pack(started)
+}
+
+// Opens a file by name: the body's length, and where its first byte stands.
+#[no_mangle]
+pub extern "C" fn varnucht_open(image: &[u8], name: &[u8]) -> u64
+    ensures { λ r. ⌜ r ≡ packedBegin (beginning (now (image .entry)) (now (name .entry))) ⌝ }
+{
+    match readers::begin(image, name) {
+        Opened::No(r) => packing::pack(Answer::No(r)),
+        Opened::At(p) => packing::pack_place(p.sector, p.left, p.offset),
+    }
+}
+
+// The next bytes of an opened file, put to the front of `out`: how many came, and where the byte after them stands.
+#[no_mangle]
+pub extern "C" fn varnucht_next(
+    image: &[u8],
+    sector: u32,
+    offset: u32,
+    left: u32,
+    out: &mut [u8],
+) -> u64
+    ensures { λ r. ⌜ (r ≡ packedPiece (pieceOf (now (image .entry)) (placeOf sector offset left) (length (now (out .entry))))) × (now (out .exit) ≡ bufferAfter (now (image .entry)) (placeOf sector offset left) (now (out .entry))) ⌝ }
+{
+    let at = Place {
+        sector: sector as usize,
+        offset: offset as usize,
+        left: left as usize,
+    };
+    let p = readers::resume(image, at, out);
+    packing::pack_place(p.sector, p.came, p.offset)
 }
 
 // A raw sector: its place in the image of the drive asked for.

@@ -8,7 +8,7 @@ use std::time::{Duration, Instant};
 /// A round lasts at least this long, so that the clock's own steps do not count.
 const ROUND: Duration = Duration::from_micros(100);
 
-/// The time for a row, both sides together.
+/// The time for works that take turns, such as both sides of a row.
 const ROW: Duration = Duration::from_millis(1_200);
 
 const FEWEST_ROUNDS: usize = 15;
@@ -26,13 +26,15 @@ pub struct Measured {
     pub rounds: usize,
 }
 
-/// One lent image and one lent buffer, used by both sides in turn.
-struct Bench<'a> {
-    row: &'a Row,
+/// One lent image and one lent buffer, used by all that take turns.
+struct Bench {
     image: Vec<u8>,
     buffer: Vec<u8>,
     timer: Duration,
 }
+
+/// A row and the side that does its work.
+type Job<'a> = (&'a Row, &'a Side);
 
 /// What an empty timed region takes: the middle of many.
 pub fn timer_cost() -> Duration {
@@ -43,27 +45,38 @@ pub fn timer_cost() -> Duration {
 
 /// Compares both sides on a row, then times them in turn.
 pub fn measure(row: &Row, timer: Duration) -> Measured {
-    let (ours, theirs) = (ours(), theirs());
-    assert_equal(row, &ours, &theirs);
+    let sides = [ours(), theirs()];
+    assert_equal(row, &sides[0], &sides[1]);
+    let ([ours, theirs], rounds) = in_turn([(row, &sides[0]), (row, &sides[1])], timer);
+    Measured { ours, theirs, rounds }
+}
+
+/// The library's times of several works on one disk, which take turns.
+pub fn together<const N: usize>(rows: [&Row; N], timer: Duration) -> [Times; N] {
+    let side = ours();
+    in_turn(rows.map(|row| (row, &side)), timer).0
+}
+
+/// Times works on one disk, a round each in turn. Gives how many rounds too.
+fn in_turn<const N: usize>(jobs: [Job; N], timer: Duration) -> ([Times; N], usize) {
+    let disk = &jobs[0].0.disk.image;
+    let buffer = jobs.iter().map(|(row, _)| row.buffer_bytes()).max().unwrap_or(0);
     let mut bench = Bench {
-        row,
-        image: row.disk.image.to_vec(),
-        buffer: vec![0; row.buffer_bytes()],
+        image: disk.to_vec(),
+        buffer: vec![0; buffer],
         timer,
     };
-    let (our_calls, their_calls) = (bench.calls_in_round(&ours), bench.calls_in_round(&theirs));
-    let (mut our_rounds, mut their_rounds) = (vec![], vec![]);
+    let calls = jobs.map(|job| bench.calls_in_round(job));
+    let mut rounds = [(); N].map(|()| vec![]);
     let begin = Instant::now();
-    while our_rounds.len() < FEWEST_ROUNDS || (our_rounds.len() < MOST_ROUNDS && begin.elapsed() < ROW) {
-        our_rounds.push(bench.round(&ours, our_calls));
-        their_rounds.push(bench.round(&theirs, their_calls));
+    while rounds[0].len() < FEWEST_ROUNDS || (rounds[0].len() < MOST_ROUNDS && begin.elapsed() < ROW) {
+        for (at, job) in jobs.into_iter().enumerate() {
+            rounds[at].push(bench.round(job, calls[at]));
+        }
     }
-    assert!(bench.image[..] == row.disk.image[..], "the image was not put back");
-    Measured {
-        rounds: our_rounds.len(),
-        ours: times(our_rounds),
-        theirs: times(their_rounds),
-    }
+    assert!(bench.image[..] == disk[..], "the image was not put back");
+    let many = rounds[0].len();
+    (rounds.map(times), many)
 }
 
 /// Both sides do the work once, each on its own copy of the image and of a buffer with bytes in it.
@@ -86,50 +99,50 @@ fn assert_equal(row: &Row, ours: &Side, theirs: &Side) {
     );
 }
 
-impl Bench<'_> {
+impl Bench {
     /// The time of one call in microseconds, as the mean of a round.
-    fn round(&mut self, side: &Side, calls: u32) -> f64 {
-        let total = if self.row.changes() {
-            self.one_by_one(side, calls)
+    fn round(&mut self, job: Job, calls: u32) -> f64 {
+        let total = if job.0.changes() {
+            self.one_by_one(job, calls)
         } else {
-            self.together(side, calls)
+            self.all_at_once(job, calls)
         };
         total.as_secs_f64() * 1e6 / f64::from(calls)
     }
 
     /// Many calls between two looks at the clock.
-    fn together(&mut self, side: &Side, calls: u32) -> Duration {
+    fn all_at_once(&mut self, (row, side): Job, calls: u32) -> Duration {
         let begin = Instant::now();
         for _ in 0..calls {
-            black_box(self.row.run(side, black_box(&mut self.image), black_box(&mut self.buffer)));
+            black_box(row.run(side, black_box(&mut self.image), black_box(&mut self.buffer)));
         }
         begin.elapsed().saturating_sub(self.timer)
     }
 
     /// Every call is timed alone, less the cost of an empty timed region. The image is put back after it, untimed.
-    fn one_by_one(&mut self, side: &Side, calls: u32) -> Duration {
+    fn one_by_one(&mut self, (row, side): Job, calls: u32) -> Duration {
         let mut total = Duration::ZERO;
         for _ in 0..calls {
             let begin = Instant::now();
-            let answer = black_box(self.row.run(side, black_box(&mut self.image), black_box(&mut self.buffer)));
+            let answer = black_box(row.run(side, black_box(&mut self.image), black_box(&mut self.buffer)));
             total += begin.elapsed().saturating_sub(self.timer);
-            self.put_back(answer);
+            self.put_back(row, answer);
         }
         total
     }
 
     /// Restores the sectors that the change names.
-    fn put_back(&mut self, answer: u64) {
+    fn put_back(&mut self, row: &Row, answer: u64) {
         for pair in &self.buffer.as_chunks().0[..value(answer)] {
             let place = usize::from(u16::from_le_bytes(*pair)) * 512;
-            self.image[place..place + 512].copy_from_slice(&self.row.disk.image[place..place + 512]);
+            self.image[place..place + 512].copy_from_slice(&row.disk.image[place..place + 512]);
         }
     }
 
     /// How many calls fill a round: doubled until they do.
-    fn calls_in_round(&mut self, side: &Side) -> u32 {
+    fn calls_in_round(&mut self, job: Job) -> u32 {
         let mut calls = 1;
-        while self.round(side, calls) * f64::from(calls) < ROUND.as_secs_f64() * 1e6 {
+        while self.round(job, calls) * f64::from(calls) < ROUND.as_secs_f64() * 1e6 {
             calls *= 2;
         }
         calls

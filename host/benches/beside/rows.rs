@@ -1,7 +1,8 @@
 //! What is measured: a call, a disk, and the refusal that the call must give there (0: accepted).
 
 use crate::disks::{self, Disk, LIST_BYTES, LONGEST};
-use crate::sides::Side;
+use crate::sides::{Side, reader, value};
+use paper::Reader;
 
 /// A call with what it is asked for.
 pub enum Work {
@@ -9,6 +10,10 @@ pub enum Work {
     List,
     /// Reads the disk's last file.
     Read,
+    /// Opens the disk's last file.
+    Open,
+    /// Reads the file of this reader, which was opened before, in pieces of so many bytes, laid end to end.
+    Pieces(Reader, usize),
     /// Saves a new file with this body.
     Save(Vec<u8>),
     /// Erases the disk's last file.
@@ -36,9 +41,30 @@ pub fn all() -> Vec<Row> {
     rows.extend(disks.map(|disk| row(disk, Work::List, 0)));
     rows.extend(disks.map(|disk| row(disk, Work::Read, if disk.title == blank.title { 15 } else { 0 })));
     rows.push(row(&scattered, Work::Read, 0));
+    rows.extend(disks.map(|disk| row(disk, Work::Open, if disk.title == blank.title { 15 } else { 0 })));
+    for disk in [&one, &scattered] {
+        let opened = paper::open(&disk.image, &disk.last).expect("the file is there");
+        rows.extend([512, 4_096].map(|room| row(disk, Work::Pieces(opened, room), 0)));
+    }
     rows.extend(saves(&blank, &eighty, &seventy_eight, &one));
     rows.extend(disks.map(|disk| row(disk, Work::Erase, if disk.title == blank.title { 15 } else { 0 })));
     rows
+}
+
+/// The rows of pieces, each behind the check and the read of its disk, and how much more than the one read without the check
+/// its pieces may cost.
+pub fn pieces(rows: &[Row]) -> Vec<([&Row; 3], f64)> {
+    let same = |of: &Row, call: &str| {
+        let found = rows.iter().find(|row| row.disk.title == of.disk.title && row.call() == call);
+        found.expect("it is measured too")
+    };
+    let pieces = rows.iter().filter_map(|row| match row.work {
+        Work::Pieces(_, room) => Some((row, if room < 4_096 { 1.4 } else { 1.15 })),
+        _ => None,
+    });
+    pieces
+        .map(|(row, most)| ([same(row, "check"), same(row, "read"), row], most))
+        .collect()
 }
 
 /// Saves: on the blank disk, on disks that have no slot or no sector left, and on those disks less one file.
@@ -73,6 +99,8 @@ impl Row {
             Work::Check => "check".into(),
             Work::List => "list".into(),
             Work::Read => "read".into(),
+            Work::Open => "open".into(),
+            Work::Pieces(_, room) => format!("pieces {room}"),
             Work::Save(body) => format!("save {}", body.len()),
             Work::Erase => "erase".into(),
         }
@@ -86,9 +114,9 @@ impl Row {
     /// How long the lent output buffer is. The list of a change is two bytes for each sector named.
     pub fn buffer_bytes(&self) -> usize {
         match self.work {
-            Work::Check => 0,
+            Work::Check | Work::Open => 0,
             Work::List => 80 * 258,
-            Work::Read => LONGEST,
+            Work::Read | Work::Pieces(..) => LONGEST,
             Work::Save(_) | Work::Erase => LIST_BYTES,
         }
     }
@@ -99,8 +127,24 @@ impl Row {
             Work::Check => (side.check)(image),
             Work::List => (side.list)(image, buffer),
             Work::Read => (side.read)(image, &self.disk.last, buffer),
+            Work::Open => (side.open)(image, &self.disk.last),
+            Work::Pieces(opened, room) => read_on(side, image, *opened, *room, buffer),
             Work::Save(body) => (side.save)(image, &disks::wish(Row::NEW, body), buffer),
             Work::Erase => (side.erase)(image, &self.disk.last, buffer),
         }
     }
+}
+
+/// Reads on from here until the body ends. Answers how many bytes came.
+fn read_on(side: &Side, image: &[u8], mut here: Reader, room: usize, buffer: &mut [u8]) -> u64 {
+    let mut at = 0;
+    while here.left > 0 {
+        let end = buffer.len().min(at + room);
+        let answer = (side.next)(image, here, &mut buffer[at..end]);
+        let came = value(answer);
+        assert!(came > 0, "the body ends too early");
+        at += came;
+        here = reader(answer, here.left as usize - came);
+    }
+    (at as u64) << 24
 }

@@ -1,6 +1,6 @@
 //! The two sides behind one set of calls. Both answer the word of the C layer.
 
-use paper::{Refused, Wish};
+use paper::{Reader, Refused, Wish};
 use std::hint::black_box;
 use varnucht::calls;
 
@@ -10,6 +10,8 @@ pub struct Side {
     pub check: fn(&[u8]) -> u64,
     pub list: fn(&[u8], &mut [u8]) -> u64,
     pub read: fn(&[u8], &[u8], &mut [u8]) -> u64,
+    pub open: fn(&[u8], &[u8]) -> u64,
+    pub next: fn(&[u8], Reader, &mut [u8]) -> u64,
     pub save: fn(&mut [u8], &Wish, &mut [u8]) -> u64,
     pub erase: fn(&mut [u8], &[u8], &mut [u8]) -> u64,
 }
@@ -20,6 +22,8 @@ pub fn ours() -> Side {
         check: |image| calls::check(image).number(),
         list: |image, out| calls::list(image, out).number(),
         read: |image, name, out| calls::read(image, name, out).number(),
+        open: |image, name| calls::open(image, name).number(),
+        next: |image, at, out| calls::next(image, at.sector, at.offset, at.left, out).number(),
         save: our_save,
         erase: |image, name, list| calls::erase(image, name, list).number(),
     })
@@ -31,6 +35,14 @@ pub fn theirs() -> Side {
         check: |image| word(paper::check(image), |()| (0, 0)),
         list: |image, out| word(paper::list(image, out), |listed| (listed.files, listed.free)),
         read: |image, name, out| word(paper::read(image, name, out), |length| (length, 0)),
+        open: |image, name| match paper::open(image, name) {
+            Ok(reader) => placed(reader, reader.left as usize),
+            Err(refused) => word(Err::<(), _>(refused), |()| (0, 0)),
+        },
+        next: |image, mut reader, out| {
+            let came = paper::next(image, &mut reader, out);
+            placed(reader, came)
+        },
         save: |image, wish, list| word(paper::save(image, wish, list), |count| (count, 0)),
         erase: |image, name, list| word(paper::erase(image, name, list), |count| (count, 0)),
     })
@@ -44,6 +56,20 @@ fn word<T>(answer: Result<T, Refused>, values: impl FnOnce(T) -> (usize, usize))
             (value as u64) << 24 | (free as u64) << 48
         }
         Err(refused) => u64::from(refused.number) | u64::from(refused.slot) << 8,
+    }
+}
+
+/// The answer of a call that says where a reader stands.
+fn placed(reader: Reader, value: usize) -> u64 {
+    u64::from(reader.sector) << 8 | (value as u64) << 24 | u64::from(reader.offset) << 48
+}
+
+/// The reader that such an answer leaves, if so many bytes are left.
+pub fn reader(word: u64, left: usize) -> Reader {
+    Reader {
+        sector: (word >> 8 & 0xffff) as u32,
+        offset: (word >> 48) as u32,
+        left: left as u32,
     }
 }
 

@@ -1,20 +1,23 @@
 //! The printed table.
 
-use crate::clock::Measured;
+use crate::clock::{Measured, Times};
 use crate::rows::Row;
 use std::time::Duration;
 
 pub fn print_head(timer: Duration) {
     println!("The proved library (ours) beside document 01 in plain Rust (paper), both built for release, in one process.");
     println!("Microseconds for one call; ratio: ours / paper. The sides take turns; a round is at least 100 us of calls.");
-    println!("check, list, read and refused calls: many calls between two looks at the clock.");
+    println!("check, list, read, open, pieces and refused calls: many calls between two looks at the clock.");
+    println!("pieces: a whole body by next, so many bytes to a call, laid end to end; it was opened before, untimed.");
     println!(
         "save and erase that are accepted: every call timed alone, less {} ns, the cost of an empty timed",
         timer.as_nanos()
     );
     println!("region; the changed sectors are put back after each call, untimed.");
     println!("No buffer is cleared between calls, and both sides use the same image and buffer: the caches are warm.");
-    println!("read and erase take the last file. Files have kind 19 and names of ten bytes that differ in the first byte;");
+    println!(
+        "read, open and erase take the last file. Files have kind 19 and names of ten bytes that differ in the first byte;"
+    );
     println!(
         "with 'names alike' they differ in the tenth byte alone. 'less one', 'erased': the last file was erased before,"
     );
@@ -45,5 +48,16 @@ pub fn print_row(row: &Row, measured: &Measured) {
         ours.best / theirs.best,
         ours.median / theirs.median,
         measured.rounds
+    );
+}
+
+/// What the library's pieces cost beside one read without its check: a read of the same disk less a check of it.
+pub fn print_pieces([_, _, row]: [&Row; 3], most: f64, [check, read, pieces]: &[Times; 3]) {
+    println!(
+        "{} on {}: {:.2} times one read without its check, {:.2} in the median; at most {most} is wanted.",
+        row.call(),
+        row.disk.title,
+        pieces.best / (read.best - check.best),
+        pieces.median / (read.median - check.median),
     );
 }

@@ -90,7 +90,7 @@ pub fn found<'a>(image: &'a Image, name: &[u8]) -> Result<Slot<'a>, Refused> {
 }
 
 /// The same, with the demand that its kind is carried.
-fn carried<'a>(image: &'a Image, name: &[u8]) -> Result<Slot<'a>, Refused> {
+pub fn carried<'a>(image: &'a Image, name: &[u8]) -> Result<Slot<'a>, Refused> {
     let slot = found(image, name)?;
     if slot.is_carried() {
         Ok(slot)

@@ -1,4 +1,5 @@
-//! Document 01 in plain Rust, written from the paper alone. The tests and the benchmark compare the proved library with it.
+//! Document 01 in plain Rust, and M-100 of document 02, written from the papers alone. The tests and the benchmark compare
+//! the proved library with it.
 //!
 //! Every call takes any bytes and any numbers. A refused call changes no byte of anything lent.
 //!
@@ -8,6 +9,7 @@
 //! - `slot`: what the 256 bytes of a directory slot say
 //! - `check`: refusals 1 to 11
 //! - `calls`: check, list, read, start address, raw sector
+//! - `pieces`: a file's body a piece at a time
 //! - `save`: the change that takes slots and sectors
 //! - `changes`: the changes of one directory byte or name
 //! - `refusal`: the numbers of refusal
@@ -18,11 +20,13 @@ mod check;
 mod geometry;
 mod map;
 mod name;
+mod pieces;
 mod refusal;
 mod save;
 mod slot;
 
 pub use calls::{Listed, check, list, read, sector, start};
 pub use changes::{erase, hide, protect, release, rename, show};
+pub use pieces::{Reader, next, open};
 pub use refusal::Refused;
 pub use save::{Wish, save};

@@ -9,7 +9,7 @@ use varnucht::Image;
 /// Makes a file of 819,200 zero bytes, where there is none yet.
 pub fn run(given: &Given) -> Outcome {
     source::not_standard(given)?;
-    make(given.word(0), Image::blank().as_bytes(), false)?;
+    make(given.word(0), &Image::blank().as_bytes()[..], false)?;
     output::confirm(&format!("made {}: no file, 1560 sectors free", output::shown(given.word(0))));
     Ok(())
 }

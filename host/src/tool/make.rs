@@ -4,13 +4,13 @@ use super::output;
 use super::system::{self, Hold};
 use std::ffi::OsStr;
 use std::fs::{self, File, Metadata, Permissions};
-use std::io::{self, ErrorKind, Write};
+use std::io::{self, ErrorKind, Read};
 use std::os::unix::fs::{MetadataExt, OpenOptionsExt, PermissionsExt};
 use std::path::{Path, PathBuf};
 
-/// Makes a file with these bytes. They are written beside it first. An older file stays as it is, unless `force` lets the
-/// new one take its place.
-pub fn make(path: &OsStr, bytes: &[u8], force: bool) -> Outcome {
+/// Makes a file with these bytes, a piece at a time. They are written beside it first. An older file stays as it is, unless
+/// `force` lets the new one take its place.
+pub fn make(path: &OsStr, bytes: impl Read, force: bool) -> Outcome {
     replace(path, bytes, force).map_err(|error| match error.kind() {
         ErrorKind::AlreadyExists => Failure::io(path, io::Error::other("it is there already, and stays as it is")),
         ErrorKind::Interrupted => Failure::io(path, io::Error::other(format!("{error}: nothing is made or replaced"))),
@@ -19,12 +19,15 @@ pub fn make(path: &OsStr, bytes: &[u8], force: bool) -> Outcome {
 }
 
 /// Makes the file, by what is at its path.
-fn replace(path: &OsStr, bytes: &[u8], force: bool) -> io::Result<()> {
+fn replace(path: &OsStr, mut bytes: impl Read, force: bool) -> io::Result<()> {
     match fs::metadata(path) {
         Ok(_) if !force => Err(ErrorKind::AlreadyExists.into()),
         Ok(older) if older.is_dir() => Err(ErrorKind::IsADirectory.into()),
         // A device or a pipe holds nothing that could be lost, and must not be replaced.
-        Ok(older) if !older.is_file() => File::options().write(true).open(path)?.write_all(bytes),
+        Ok(older) if !older.is_file() => {
+            io::copy(&mut bytes, &mut File::options().write(true).open(path)?)?;
+            Ok(())
+        }
         // Where the path is a link, the file that it leads to is replaced and not the link.
         Ok(older) => {
             put(&fs::canonicalize(path)?, bytes, Some(&older))?;
@@ -52,7 +55,7 @@ fn say_split(path: &OsStr, links: u64) {
 
 /// Writes the bytes beside the path, and gives them their name when all are there. A signal meanwhile leaves the file whole
 /// or not there, and nothing beside it.
-fn put(path: &Path, bytes: &[u8], older: Option<&Metadata>) -> io::Result<()> {
+fn put(path: &Path, bytes: impl Read, older: Option<&Metadata>) -> io::Result<()> {
     let _hold = Hold::new();
     let (file, beside) = beside(path)?;
     let made = fill(file, bytes, older)
@@ -78,8 +81,8 @@ fn beside(path: &Path) -> io::Result<(File, PathBuf)> {
 
 /// Writes the bytes, and flushes them to the disk. The rights are then those of the older file, or the usual ones. Setuid,
 /// setgid and sticky are not kept: the new file's owner may be another.
-fn fill(mut file: File, bytes: &[u8], older: Option<&Metadata>) -> io::Result<()> {
-    file.write_all(bytes)?;
+fn fill(mut file: File, mut bytes: impl Read, older: Option<&Metadata>) -> io::Result<()> {
+    io::copy(&mut bytes, &mut file)?;
     let rights = older.map_or_else(system::usual_rights, |older| older.mode() & 0o777);
     file.set_permissions(Permissions::from_mode(rights))?;
     file.sync_all()

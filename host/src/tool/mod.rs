@@ -1,4 +1,4 @@
-//! The tool: one command for each call of the library, and `map`, `blank` and `help`.
+//! The tool: one command for each thing that the library does, and `map`, `blank` and `help`.
 //!
 //! `commands` is the table of commands; `words` reads the command line by it, and `help` prints it. Each command has a file of
 //! its own. What a command cannot do is a `Failure`, which knows its words and its exit status.

@@ -2,7 +2,7 @@
 use super::failure::{Failure, Outcome};
 use super::system;
 use std::ffi::OsStr;
-use std::io::{self, ErrorKind, Write};
+use std::io::{self, ErrorKind, Read, Write};
 
 /// A word of the command line as a message shows it: control characters, which could upset a terminal, as escapes.
 pub fn shown(word: &OsStr) -> String {
@@ -20,9 +20,14 @@ pub fn shown_file(path: &OsStr) -> String {
 
 /// Prints to standard output. That nobody reads it any more is no error to speak of.
 pub fn print(text: impl AsRef<[u8]>) -> Outcome {
+    pour(text.as_ref())
+}
+
+/// Prints all that a source gives, likewise, a piece at a time.
+pub fn pour(mut source: impl Read) -> Outcome {
     let out = system::standard(system::OUTPUT);
-    match out.and_then(|mut out| out.write_all(text.as_ref())) {
-        Ok(()) => Ok(()),
+    match out.and_then(|mut out| io::copy(&mut source, &mut *out)) {
+        Ok(_) => Ok(()),
         Err(error) if error.kind() == ErrorKind::BrokenPipe => Err(Failure::Closed),
         Err(error) => Err(Failure::Io("standard output".into(), error)),
     }

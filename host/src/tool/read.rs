@@ -8,7 +8,7 @@ use super::words::Given;
 use std::ffi::OsStr;
 use std::fs;
 
-/// Gives the body of the file named.
+/// Gives the body of the file named, a piece at a time: no copy of the whole is made in memory.
 pub fn run(given: &Given) -> Outcome {
     let name = AskedName::at(given, 1)?;
     let file = given.value("-o").filter(|file| *file != "-");
@@ -19,11 +19,11 @@ pub fn run(given: &Given) -> Outcome {
         return Err(given.usage("FILE is IMAGE itself, which would be lost"));
     }
     let disk = source::disk(given)?;
-    let body = name.name("it").and_then(|name| Ok(disk.read(&name)?));
+    let body = name.name("it").and_then(|name| Ok(disk.reader(&name)?));
     let body = body.map_err(|reason| Failure::refused(given.word(0), &name.to_string(), reason))?;
     match file {
-        Some(file) => make(file, &body, given.has("--force")),
-        None => output::print(body),
+        Some(file) => make(file, body, given.has("--force")),
+        None => output::pour(body),
     }
 }
 

@@ -12,8 +12,8 @@ fn answers_decode_whatever_they_are() {
         match Answer::from_number(number).decode() {
             Ok(done) => {
                 accepted += 1;
-                assert_eq!(u64::from(done.value) << 24 | u64::from(done.free) << 48, number >> 24 << 24);
-                assert_eq!(number & 0xff, 0);
+                let parts = u64::from(done.sector) << 8 | u64::from(done.value) << 24 | u64::from(done.free) << 48;
+                assert_eq!(parts, number);
             }
             Err(at) => {
                 refused += 1;

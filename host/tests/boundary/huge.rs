@@ -8,6 +8,7 @@ use crate::support::calls::{
 };
 use crate::support::compare::{self, Lend};
 use crate::support::disks::Disk;
+use crate::support::geometry::{bit_place, number};
 use crate::support::guarded::{Empty, Flush, Guarded};
 use crate::wide;
 use std::env;
@@ -61,7 +62,11 @@ fn accepted(call: Call, disk: &Disk, i: usize) -> Asked {
         Call::Check => asked,
         Call::List => asked.with(OUT, vec![0x5c; 258 * disk.files.len()]),
         Call::Read => asked.with(NAME, file.name).with(OUT, vec![0x5c; file.body.len()]),
-        Call::Start => asked.with(NAME, file.name),
+        Call::Open | Call::Start => asked.with(NAME, file.name),
+        Call::Next => Asked {
+            numbers: [number(bit_place(file.chain[0])), 9, file.body.len()].map(|number| number as u32),
+            ..asked.with(OUT, vec![0x5c; file.body.len()])
+        },
         Call::Sector => Asked {
             numbers: [2, 4, 1],
             ..asked.with(TWO, disk.image.clone())
@@ -82,7 +87,14 @@ fn accepted(call: Call, disk: &Disk, i: usize) -> Asked {
 fn ask(request: &Request, roles: &[usize], length: usize) {
     let mut lender = Guarded::new(Flush::End, Empty::Closed);
     let mut parts = [NOTHING; 8];
-    let refused = roles.iter().filter_map(|&role| refusal(role)).min();
+    let refused = roles
+        .iter()
+        .filter_map(|&role| refusal(role))
+        .min()
+        .map(|number| match request.call {
+            Call::Next => request.call.answer_to_no_image(),
+            _ => number,
+        });
     let there = |role: usize| match roles.contains(&role) && refusal(role).is_some() {
         true => &[],
         false => request.slices[role],

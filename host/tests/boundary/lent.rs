@@ -1,14 +1,15 @@
 //! Every call with every slice between closed pages, compared with `paper` as in the differential tests.
 
 use crate::support::asking::{self, Asked};
-use crate::support::calls::{self, BODY, CALLS, Call, NAME, OUT, Request};
-use crate::support::compare;
+use crate::support::calls::{self, BODY, CALLS, Call, NAME, NOTHING, OUT, Request, ask_c};
+use crate::support::compare::{self, Lend};
 use crate::support::damage;
 use crate::support::disks;
 use crate::support::facts::Facts;
 use crate::support::geometry::{BITS, IMAGE, fills};
 use crate::support::guarded::{Empty, Flush, Guarded};
 use crate::support::random::Random;
+use crate::support::readers;
 use crate::support::settings::{Round, Rounds};
 use crate::support::shapes::Shape;
 use crate::support::wishes;
@@ -34,7 +35,7 @@ fn ask(request: &Request) -> (u64, Option<Vec<u8>>) {
 
 /// How often each call was accepted and refused.
 #[derive(Default)]
-struct Counts([[usize; 2]; 12]);
+struct Counts([[usize; 2]; CALLS.len()]);
 
 impl Counts {
     fn every_call(&mut self, facts: &Facts, image: &[u8], random: &mut Random) {
@@ -64,10 +65,11 @@ fn whole_disks() {
         counts.every_call(&Facts::of(&disk.image), &disk.image, random);
     }
     counts.print("whole disks");
-    let reached = |[accepted, refused]: [usize; 2]| accepted > 0 && refused > 0;
-    // Check alone accepts every whole disk.
+    // Check accepts every whole disk, and the next piece refuses nothing.
+    let both = |call: Call| !matches!(call, Call::Check | Call::Next);
+    let reached = |(call, [accepted, refused]): (Call, [usize; 2])| accepted > 0 && (refused > 0) == both(call);
     assert!(
-        !rounds.enough() || counts.0[1..].iter().all(|&pair| reached(pair)),
+        !rounds.enough() || CALLS.into_iter().zip(counts.0).all(reached),
         "a call was only accepted or only refused"
     );
 }
@@ -104,10 +106,66 @@ fn short_images() {
         counts.every_call(&facts, &disk.image, random);
     }
     counts.print("short images");
+    let accepted = CALLS.into_iter().zip(counts.0).filter(|(_, [accepted, _])| *accepted > 0);
     assert!(
-        counts.0.iter().all(|&[accepted, _]| accepted == 0),
+        accepted.map(|(call, _)| call).eq([Call::Next]),
         "an image of a wrong length was accepted"
     );
+}
+
+/// Every file read piece by piece, each piece into pages of its own.
+#[test]
+fn pieces_of_files() {
+    let mut pieces = 0;
+    for seed in Rounds::new(17_000_000, 12).seeds() {
+        let _round = Round(seed);
+        let random = &mut Random::new(seed);
+        let disk = disks::draw(random);
+        for (file, &(flush, empty)) in disk.files.iter().zip(WAYS.iter().cycle()) {
+            let Ok(mut reader) = paper::open(&disk.image, &file.name) else {
+                continue;
+            };
+            let mut lender = Guarded::new(flush, empty);
+            let mut parts = [NOTHING; 8];
+            parts[calls::IMAGE] = lender.lend(calls::IMAGE, &disk.image, false);
+            for _ in 0..40 {
+                let room = readers::room(reader.left as usize, random);
+                let mut out = random.bytes(room);
+                parts[OUT] = lender.lend(OUT, &out, true);
+                // Safety: the image is only read, and the output buffer stands alone.
+                let answer = unsafe { ask_c(Call::Next, [reader.sector, reader.offset, reader.left], &parts) };
+                let came = paper::next(&disk.image, &mut reader, &mut out);
+                let place = u64::from(reader.sector) << 8 | u64::from(reader.offset) << 48;
+                assert_eq!(answer, place | (came as u64) << 24);
+                assert!(lender.bytes(OUT) == out && lender.around(OUT));
+                pieces += 1;
+            }
+        }
+    }
+    println!("{pieces} pieces");
+}
+
+/// Readers at the first and the last bytes of an image, and behind them.
+#[test]
+fn pieces_at_the_edges_of_an_image() {
+    let image = disks::draw(&mut Random::new(18_000_000)).image;
+    for numbers in [
+        [0, 0],
+        [0, 509],
+        [1_599, 0],
+        [1_599, 509],
+        [1_599, 510],
+        [1_599, 511],
+        [1_600, 0],
+    ] {
+        for left in [0, 1, 510, 511, 795_591] {
+            for room in [0, 1, 510, 511] {
+                let mut asked = Asked::new(Call::Next).with(OUT, vec![0x5c; room]);
+                asked.numbers = [numbers[0], numbers[1], left];
+                ask(&asked.on(&image));
+            }
+        }
+    }
 }
 
 /// A save that takes all the room, and its body read into a buffer of exactly its length.

@@ -96,7 +96,7 @@ fn images() {
     for call in calls::CALLS {
         assert_eq!(
             usual.ask(call, [19, 1, 40_000], IMAGE, image.part(geometry::IMAGE)),
-            1,
+            call.answer_to_no_image(),
             "{call:?}"
         );
     }
@@ -127,6 +127,12 @@ fn output_buffers() {
     let out = Wide::new(&[]);
     let read = usual.ask(Call::Read, [0; 3], OUT, out.part(1));
     assert_eq!((calls::refusal(read), value(read)), (0, file.body.len()));
+    assert!(out.front(file.body.len()) == file.body);
+    let out = Wide::new(&[]);
+    let open = usual.ask(Call::Open, [0; 3], OUT, NOTHING);
+    let numbers = [calls::slot(open), calls::free(open), value(open)].map(|number| number as u32);
+    let next = usual.ask(Call::Next, numbers, OUT, out.part(1));
+    assert_eq!((calls::refusal(next), value(next)), (0, file.body.len()));
     assert!(out.front(file.body.len()) == file.body);
     let out = Wide::new(&[]);
     let list = usual.ask(Call::List, [0; 3], OUT, out.part(1));

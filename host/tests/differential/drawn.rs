@@ -5,6 +5,7 @@ use crate::support::calls::{self, Call, NAME, OUT, Request};
 use crate::support::compare;
 use crate::support::disks::{self, Disk, File};
 use crate::support::fields;
+use crate::support::geometry::{bit_place, number};
 use crate::support::margins::Margins;
 use crate::support::random::Random;
 use crate::support::settings::{Round, Rounds};
@@ -19,6 +20,7 @@ fn drawn_disks_answer_what_was_drawn() {
         listed(&disk, &mut lender);
         for file in &disk.files {
             read(&disk, file, &mut lender);
+            opened(&disk, file, &mut lender);
             started(&disk, file, &mut lender);
         }
         files += disk.files.len();
@@ -58,6 +60,21 @@ fn read(disk: &Disk, file: &File, lender: &mut Margins) {
         left.out == [&file.body[..], &[0x5c; 9]].concat(),
         "the body is not what was drawn"
     );
+}
+
+/// The body's length, and where it begins.
+fn opened(disk: &Disk, file: &File, lender: &mut Margins) {
+    let answer = compare::ask(&Request::new(Call::Open, &disk.image).with(NAME, &file.name), lender).answer;
+    if !fields::is_carried(file.kind) {
+        return assert_eq!((calls::refusal(answer), calls::slot(answer)), (13, file.slot));
+    }
+    let given = (
+        calls::refusal(answer),
+        calls::value(answer),
+        calls::slot(answer),
+        calls::free(answer),
+    );
+    assert_eq!(given, (0, file.body.len(), number(bit_place(file.chain[0])), 9));
 }
 
 fn started(disk: &Disk, file: &File, lender: &mut Margins) {

@@ -5,6 +5,7 @@
 //! - `drawn`: the answers on a drawn disk are what was drawn, whatever `paper` says.
 //! - `edges`: each argument of each call and each field of a slot at, below and above its boundaries, one after the other.
 //! - `sectors`: every drive, track and sector of the raw sector call.
+//! - `pieces`: readers, however the asking is cut, and readers of any three numbers.
 //!
 //! `VARNUCHT_SEED` and `VARNUCHT_ROUNDS` draw other tests, or a single one again. `VARNUCHT_TABLE` names a file for the table
 //! of counts, which `--nocapture` shows too.
@@ -15,4 +16,5 @@ mod support;
 mod drawn;
 mod draws;
 mod edges;
+mod pieces;
 mod sectors;

@@ -76,6 +76,7 @@ pub fn of_header(text: &str) -> Vec<Call> {
     let plain = without_comments(text);
     let mut calls: Vec<Call> = between(&plain, "uint64_t varnucht_", ");")
         .into_iter()
+        .filter(|one| !one.contains('{'))
         .map(|one| taken_apart(one, c_argument))
         .collect();
     calls.sort();

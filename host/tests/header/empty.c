@@ -48,6 +48,11 @@ static uint64_t on_read(const int *how) {
     return varnucht_read(i.at, i.len, n.at, n.len, o.at, o.len);
 }
 
+static uint64_t on_open(const int *how) {
+    struct slice i = lent(image, sizeof image, how[0]), n = lent(name_bytes, 5, how[1]);
+    return varnucht_open(i.at, i.len, n.at, n.len);
+}
+
 static uint64_t on_start(const int *how) {
     struct slice i = lent(image, sizeof image, how[0]), n = lent(name_bytes, 5, how[1]);
     return varnucht_start(i.at, i.len, n.at, n.len);
@@ -81,7 +86,8 @@ static uint64_t on_show(const int *how) { return on_change(varnucht_show, how); 
 static uint64_t on_protect(const int *how) { return on_change(varnucht_protect, how); }
 static uint64_t on_release(const int *how) { return on_change(varnucht_release, how); }
 
-/* Each call with its slices, and the refusal that each gives when it alone is empty; 0: accepted. */
+/* Each call with its slices, and the refusal that each gives when it alone is empty; 0: accepted. The next piece refuses
+ * nothing: pieces.c has it. */
 static const struct {
     const char *name;
     call *run;
@@ -91,6 +97,7 @@ static const struct {
     {"check", on_check, 1, {1}},
     {"list", on_list, 2, {1, 20}},
     {"read", on_read, 3, {1, 12, 20}},
+    {"open", on_open, 2, {1, 12}},
     {"start", on_start, 2, {1, 12}},
     {"sector", on_sector, 2, {1, 1}},
     {"save", on_save, 6, {1, 12, 0, 0, 0, 20}},

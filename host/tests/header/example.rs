@@ -76,6 +76,10 @@ fn example(language: Language, folder: &Folder) -> PathBuf {
     build(language, &["-O2"], &[root().join("examples/tunes.c")], folder, "tunes")
 }
 
+fn player(language: Language, folder: &Folder) -> PathBuf {
+    build(language, &["-O2"], &[root().join("examples/play.c")], folder, "play")
+}
+
 /// The README's program in C is `examples/files.c`, to the letter, and lists the sample disk.
 #[test]
 fn the_readme_shows_a_program_that_runs() {
@@ -172,6 +176,32 @@ fn the_example_saves_and_reads() {
     }
 }
 
+/// A tune comes out whole, whatever its length, and refusals are said in words.
+#[test]
+fn the_player_reads_piece_by_piece() {
+    for language in BOTH {
+        let folder = Folder::new(&format!("play-{language:?}"));
+        let play = player(language, &folder);
+        let mut image = vec![0; IMAGE];
+        let lengths = [0, 1, 501, 502, 512, 1_011, 20_000, 700_000];
+        for (place, len) in lengths.into_iter().enumerate() {
+            image = saved(&image, &[b'A' + place as u8], &some_bytes(len)).0;
+        }
+        let disk = folder.write("disk", &image);
+        for (place, len) in lengths.into_iter().enumerate() {
+            let name = char::from(b'A' + place as u8).to_string();
+            assert!(done(run(&play, &[&disk, Path::new(&name)])) == some_bytes(len), "{len} bytes");
+        }
+        let words = "play: refused 15, slot 0: no live slot has the name\n";
+        assert_eq!(refused(run(&play, &[&disk, Path::new("TUNES")])), words);
+        let long = folder.write("long", vec![0; IMAGE + 1]);
+        let words = "play: refused 1, slot 0: the image is not 819,200 bytes\n";
+        assert_eq!(refused(run(&play, &[&long, Path::new("TUNES")])), words);
+        assert_eq!(run(&play, &[&disk]).status.code(), Some(2));
+        assert!(fs::read(&disk).expect("the disk") == image);
+    }
+}
+
 /// What the example cannot do it says in words, and leaves the disk alone.
 #[test]
 fn the_example_says_refusals_in_words() {
@@ -202,7 +232,7 @@ fn the_example_says_refusals_in_words() {
 fn a_full_device_is_no_success() {
     for language in BOTH {
         let folder = Folder::new(&format!("full-{language:?}"));
-        let tunes = example(language, &folder);
+        let (tunes, play) = (example(language, &folder), player(language, &folder));
         let source = root().join("examples/files.c");
         let files = build(language, &["-O2"], &[source], &folder, "files");
         let sample = root().join("samples/sample.mgt");
@@ -218,6 +248,7 @@ fn a_full_device_is_no_success() {
         assert_eq!(onto_full(&tunes, &[&sample]), (Some(1), true));
         assert_eq!(onto_full(&tunes, &[&sample, Path::new("TUNES")]), (Some(1), true));
         assert_eq!(onto_full(&tunes, &[&sample, Path::new("AUTO")]), (Some(1), true));
+        assert_eq!(onto_full(&play, &[&sample, Path::new("TUNES")]), (Some(2), true));
     }
 }
 

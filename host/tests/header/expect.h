@@ -16,5 +16,6 @@ void check_prototypes(void);
 void check_entries(void);
 void check_empty_slices(void);
 void check_size_limits(void);
+void check_pieces(void);
 
 #endif

@@ -42,6 +42,7 @@ int main(int argc, char **argv) {
     run("entries", check_entries);
     run("empty slices", check_empty_slices);
     run("sizes", check_size_limits);
+    run("pieces", check_pieces);
     printf("held %lu, failed %lu\n", held, failed);
     return failed != 0;
 }

@@ -5,6 +5,7 @@
 typedef uint64_t image_call(const uint8_t *, size_t);
 typedef uint64_t list_call(const uint8_t *, size_t, uint8_t *, size_t);
 typedef uint64_t read_call(const uint8_t *, size_t, const uint8_t *, size_t, uint8_t *, size_t);
+typedef uint64_t next_call(const uint8_t *, size_t, uint32_t, uint32_t, uint32_t, uint8_t *, size_t);
 typedef uint64_t start_call(const uint8_t *, size_t, const uint8_t *, size_t);
 typedef uint64_t sector_call(const uint8_t *, size_t, const uint8_t *, size_t, uint32_t, uint32_t, uint32_t);
 typedef uint64_t save_call(uint8_t *, size_t, uint32_t, const uint8_t *, size_t, uint32_t, uint32_t, const uint8_t *, size_t,
@@ -15,6 +16,8 @@ typedef uint64_t rename_call(uint8_t *, size_t, const uint8_t *, size_t, const u
 static image_call *const volatile check = varnucht_check;
 static list_call *const volatile list = varnucht_list;
 static read_call *const volatile reading = varnucht_read;
+static start_call *const volatile opening = varnucht_open;
+static next_call *const volatile next = varnucht_next;
 static start_call *const volatile start = varnucht_start;
 static sector_call *const volatile sector = varnucht_sector;
 static save_call *const volatile save = varnucht_save;
@@ -22,11 +25,13 @@ static rename_call *const volatile renaming = varnucht_rename;
 static change_call *const volatile changes[] = {varnucht_erase, varnucht_hide, varnucht_show, varnucht_protect,
                                                 varnucht_release};
 
-/* With nothing lent every call is there and answers 1, slot 0, and nothing else. */
+/* With nothing lent every call is there and answers 1, slot 0, and nothing else; but of the next piece that none comes. */
 void check_prototypes(void) {
     expect(check(NULL, 0) == 1, "check of nothing", 0);
     expect(list(NULL, 0, NULL, 0) == 1, "list of nothing", 0);
     expect(reading(NULL, 0, NULL, 0, NULL, 0) == 1, "read of nothing", 0);
+    expect(opening(NULL, 0, NULL, 0) == 1, "open of nothing", 0);
+    expect(next(NULL, 0, 0, 0, 0, NULL, 0) == 256 * 1600, "next of nothing", 0);
     expect(start(NULL, 0, NULL, 0) == 1, "start of nothing", 0);
     expect(sector(NULL, 0, NULL, 0, 0, 0, 0) == 1, "sector of nothing", 0);
     expect(save(NULL, 0, 0, NULL, 0, 0, 0, NULL, 0, NULL, 0, NULL, 0, NULL, 0) == 1, "save of nothing", 0);

@@ -28,6 +28,10 @@ static void nothing(void) {}
 static void check(void) { refusal = varnucht_refusal(varnucht_check(image, sizeof image)); }
 static void listing(void) { refusal = varnucht_refusal(varnucht_list(image, sizeof image, body, sizeof body)); }
 static void reading(void) { refusal = varnucht_refusal(varnucht_read(image, sizeof image, name, 2, body, sizeof body)); }
+static void opening(void) { refusal = varnucht_refusal(varnucht_open(image, sizeof image, name, 2)); }
+static void next(void) {
+    refusal = varnucht_refusal(varnucht_next(image, sizeof image, 80, 9, sizeof body, body, sizeof body));
+}
 static void start(void) { refusal = varnucht_refusal(varnucht_start(image, sizeof image, name, 2)); }
 static void sector(void) { refusal = varnucht_refusal(varnucht_sector(image, sizeof image, full, sizeof full, 1, 207, 10)); }
 static void saving(void) { refusal = varnucht_refusal(save(image, other, 5, 510 * 1560 - 9)); }
@@ -82,6 +86,8 @@ int main(void) {
         say("check", check, disks[i]);
         say("list", listing, disks[i]);
         say("read", reading, disks[i]);
+        say("open", opening, disks[i]);
+        say("next", next, disks[i]);
         say("start", start, disks[i]);
         say("sector", sector, disks[i]);
         say("erase", erase, disks[i]);

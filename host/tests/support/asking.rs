@@ -5,6 +5,7 @@ use super::facts::Facts;
 use super::geometry;
 use super::names;
 use super::random::Random;
+use super::readers;
 use super::wishes;
 
 /// A request with slices of its own; the image is added when it is asked.
@@ -47,7 +48,8 @@ pub fn draw(call: Call, facts: &Facts, random: &mut Random) -> Asked {
     match call {
         Call::Check => asked,
         Call::List => asked.with(OUT, buffer(258 * facts.live.len(), random)),
-        Call::Start => asked.with(NAME, asked_name(facts, random)),
+        Call::Open | Call::Start => asked.with(NAME, asked_name(facts, random)),
+        Call::Next => readers::draw(facts, random),
         Call::Read => {
             let name = asked_name(facts, random);
             let need = facts.find(&name).map_or(random.below(2_000), |live| live.length);

@@ -75,11 +75,15 @@ fn left<'a>(paper: &'a Answer, role: usize, old: &'a [u8]) -> &'a [u8] {
     }
 }
 
-/// Accepted: the slot is 0. Refused: value and free are 0.
+/// Accepted: the slot is 0, or the place of a reader's next byte stands there. Refused: value and free are 0.
 fn form(request: &Request, answer: u64) {
     let accepted = calls::refusal(answer) == 0;
     let good = if accepted {
-        calls::slot(answer) == 0
+        match request.call {
+            Call::Open => calls::slot(answer) < 1_600 && calls::free(answer) == 9,
+            Call::Next => calls::slot(answer) <= 1_600 && calls::free(answer) < 510,
+            _ => calls::slot(answer) == 0,
+        }
     } else {
         calls::value(answer) == 0 && calls::free(answer) == 0
     };
@@ -122,7 +126,7 @@ pub fn read_out(answer: u64) -> String {
 /// The request in words; of long slices the length alone.
 pub fn tell(request: &Request) -> String {
     let mut text = format!("{:?}", request.call);
-    if matches!(request.call, Call::Save | Call::Sector) {
+    if matches!(request.call, Call::Save | Call::Sector | Call::Next) {
         text += &format!(" numbers {:?}", request.numbers);
     }
     for &role in request.call.takes() {

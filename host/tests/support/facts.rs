@@ -2,7 +2,7 @@
 //! image gives what its bytes happen to say.
 
 use super::fields;
-use super::geometry::{BITS, SLOT, SLOTS, slot_place};
+use super::geometry::{BITS, SLOT, SLOTS, bit_place, number, slot_place};
 use super::names::{self, Name};
 
 pub struct Live {
@@ -12,6 +12,8 @@ pub struct Live {
     pub protected: bool,
     /// Of a carried kind; else 0.
     pub length: usize,
+    /// The numbers of the sectors in its map.
+    pub sectors: Vec<usize>,
 }
 
 pub struct Facts {
@@ -35,6 +37,7 @@ impl Facts {
             } else {
                 0
             },
+            sectors: fields::bits(bytes).into_iter().map(|bit| number(bit_place(bit))).collect(),
         });
         let erased = slots()
             .filter(|(_, bytes)| bytes[0] == 0)

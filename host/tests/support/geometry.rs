@@ -54,6 +54,9 @@ pub fn sectors_for(length: usize) -> usize {
     (9 + length).div_ceil(PAYLOAD)
 }
 
+/// The longest body that a disk holds.
+pub const LONGEST: usize = BITS * PAYLOAD - 9;
+
 /// A body's length that fills this many sectors to the last byte.
 pub fn fills(sectors: usize) -> usize {
     sectors * PAYLOAD - 9

@@ -8,7 +8,7 @@
 //! - `calls`: one request, asked of the C layer and of `paper`.
 //! - `compare`: the same request to both, with every buffer compared at return.
 //! - `margins`, `guarded`: two ways to lend the buffers to the C layer.
-//! - `facts`, `asking`, `wishes`: drawn requests that fit a disk.
+//! - `facts`, `asking`, `wishes`, `readers`: drawn requests that fit a disk.
 //! - `tally`: how often each call gave each refusal.
 
 // Every test program takes this whole folder and uses a part of it.
@@ -26,6 +26,7 @@ pub mod guarded;
 pub mod margins;
 pub mod names;
 pub mod random;
+pub mod readers;
 pub mod settings;
 pub mod shapes;
 pub mod tally;

@@ -4,14 +4,16 @@ use super::calls::{CALLS, Call, refusal};
 use std::fmt::Write;
 
 #[derive(Default)]
-pub struct Tally([[usize; 22]; 12]);
+pub struct Tally([[usize; 22]; CALLS.len()]);
 
-/// The numbers that a call can give, by document 01's table; 0 for an accepted request.
+/// The numbers that a call can give, by document 01's table and document 02; 0 for an accepted request.
 pub fn possible(call: Call) -> Vec<u8> {
     let own: &[u8] = match call {
         Call::Check => &[],
         Call::List => &[20],
         Call::Read => &[12, 13, 15, 20],
+        Call::Open => &[12, 13, 15],
+        Call::Next => return vec![0],
         Call::Start => &[12, 13, 14, 15],
         Call::Sector => return vec![0, 1, 21],
         Call::Save => &[12, 13, 14, 16, 18, 19, 20],

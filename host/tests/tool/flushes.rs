@@ -64,6 +64,35 @@ fn each_sector_is_flushed_before_the_next() {
     }
 }
 
+/// The lengths of the writes that stand at the front of the notes, each where the one before ended; and what follows them.
+fn written(noted: &str) -> (Vec<usize>, &str) {
+    let (mut lengths, mut rest) = (vec![], noted);
+    while let Some((write, after)) = rest.strip_prefix("write ").and_then(|rest| rest.split_once('\n')) {
+        let (length, place) = write.split_once(" at ").expect("a write has a place");
+        assert_eq!(place.parse(), Ok(lengths.iter().sum::<usize>()), "{noted}");
+        lengths.push(length.parse().expect("a number"));
+        rest = after;
+    }
+    (lengths, rest)
+}
+
+/// A body goes to the file a piece at a time, however long it is.
+#[test]
+fn a_body_is_written_piece_by_piece() {
+    let folder = Folder::new();
+    let watch = library(&folder, "watch.c");
+    folder.image(&disk(&[("LONG", 795_591)]));
+    let (run, noted) = watched(&folder, &watch, &["read", "disk.mgt", "LONG", "-o", "body"]);
+    run.done();
+    let (written, after) = written(&noted);
+    assert_eq!(after, "flush\nname body\nflush folder\n");
+    assert!(written.iter().all(|length| *length <= 16_384), "{noted}");
+    assert!(fs::read(folder.path("body")).unwrap() == body(795_591));
+    let (run, noted) = watched(&folder, &watch, &["read", "disk.mgt", "LONG"]);
+    assert_eq!((run.status, run.err.as_str(), noted.as_str()), (0, "", ""));
+    assert!(run.out == body(795_591));
+}
+
 /// A loss of power leaves such a file whole, or leaves what was there before.
 #[test]
 fn a_made_file_is_flushed_before_it_has_its_name() {
@@ -84,8 +113,9 @@ fn a_made_file_is_flushed_before_it_has_its_name() {
         let (run, noted) = watched(&folder, &watch, &line.split(' ').collect::<Vec<_>>());
         assert_eq!((run.status, run.err.as_str()), (0, ""), "{line}");
         let last = name.rsplit('/').next().unwrap();
-        let expected = format!("write {} at 0\nflush\nname {last}\nflush folder\n", bytes.len());
-        assert_eq!(noted, expected, "{line}");
+        let (written, after) = written(&noted);
+        assert_eq!(written.iter().sum::<usize>(), bytes.len(), "{line}");
+        assert_eq!(after, format!("flush\nname {last}\nflush folder\n"), "{line}");
         assert!(fs::read(folder.path(name)).unwrap() == bytes, "{line}");
     }
     let (run, noted) = watched(&folder, &watch, &["read", "disk.mgt", "TUNES", "-o", "older"]);

@@ -7,8 +7,9 @@ use crate::support::disks::Disk;
 use crate::support::fields;
 
 /// The calls that ask for a name that is there.
-const ASKING: [Call; 8] = [
+const ASKING: [Call; 9] = [
     Call::Read,
+    Call::Open,
     Call::Start,
     Call::Erase,
     Call::Rename,
@@ -39,7 +40,7 @@ fn named(name: &[u8; 10]) -> Disk {
 fn asking(call: Call, name: &[u8]) -> Asked {
     let asked = Asked::new(call).with(NAME, name);
     match call {
-        Call::Start => asked,
+        Call::Open | Call::Start => asked,
         Call::Read => asked.with(OUT, vec![0x5c; 6_000]),
         Call::Rename => asked.with(NEW, *b"other").with(OUT, vec![0x5c; 2]),
         _ => asked.with(OUT, vec![0x5c; 2]),

@@ -128,22 +128,21 @@ fn rows_of_a_rename() {
     expect(&asked.with(OUT, [0, 0]), &disk.image, 0);
 }
 
-/// Reading and start address: a kind that is not carried comes before the buffer and the offset; the buffer is the last.
+/// Reading, opening and start address: a kind that is not carried comes before the buffer and the offset; the buffer is the
+/// last, and opening has none.
 #[test]
-fn rows_of_read_and_start() {
+fn rows_of_read_open_and_start() {
     let mut disk = disk();
     let file = disk.files[1].clone();
-    let (read, start) = (
-        Asked::new(Call::Read).with(NAME, file.name),
-        Asked::new(Call::Start).with(NAME, file.name),
-    );
+    let [read, open, start] = [Call::Read, Call::Open, Call::Start].map(|call| Asked::new(call).with(NAME, file.name));
     disk.slot_mut(file.slot)[fields::OFFSET + 1] = 0;
     let marks = disk.slot(file.slot)[0] & 192;
     disk.slot_mut(file.slot)[0] = marks | 21;
-    for asked in [&read, &start] {
+    for asked in [&read, &open, &start] {
         assert_eq!(calls::slot(expect(asked, &disk.image, 13).answer), file.slot);
     }
     disk.slot_mut(file.slot)[0] = marks | file.kind;
     expect(&read, &disk.image, 20);
+    expect(&open, &disk.image, 0);
     assert_eq!(calls::slot(expect(&start, &disk.image, 14).answer), file.slot);
 }

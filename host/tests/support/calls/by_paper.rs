@@ -1,8 +1,8 @@
 //! A request to `paper`, on copies of what a call may change.
 
-use super::packed::pack;
+use super::packed::{Parts, pack};
 use super::{Call, IMAGE, OUT, Request};
-use paper::{Refused, Wish};
+use paper::{Reader, Refused, Wish};
 
 /// What `paper` answers, and what it leaves of the two slices that a call may change.
 pub struct Answer {
@@ -16,7 +16,7 @@ pub fn ask_paper(request: &Request) -> Answer {
     let mut out = request.slices[OUT].to_vec();
     if request.call.is_change() {
         let mut image = request.slices[IMAGE].to_vec();
-        let packed = pack(change(request, &mut image, &mut out).map(|sectors| (sectors, 0)));
+        let packed = pack(change(request, &mut image, &mut out).map(|sectors| [0, sectors, 0]));
         return Answer {
             packed,
             image: Some(image),
@@ -30,18 +30,30 @@ pub fn ask_paper(request: &Request) -> Answer {
     }
 }
 
-/// The calls that read: value and free sectors.
-fn look(request: &Request, out: &mut [u8]) -> Result<(usize, usize), Refused> {
+/// The calls that read.
+fn look(request: &Request, out: &mut [u8]) -> Result<Parts, Refused> {
     let [image, two, name, ..] = request.slices;
-    let [drive, track, sector] = request.numbers;
+    let [a, b, c] = request.numbers;
     match request.call {
-        Call::Check => paper::check(image).map(|()| (0, 0)),
-        Call::List => paper::list(image, out).map(|listed| (listed.files, listed.free)),
-        Call::Read => paper::read(image, name, out).map(|length| (length, 0)),
-        Call::Start => paper::start(image, name).map(|address| (address as usize, 0)),
-        Call::Sector => paper::sector(image, two, drive, track, sector).map(|place| (place, 0)),
+        Call::Check => paper::check(image).map(|()| [0, 0, 0]),
+        Call::List => paper::list(image, out).map(|listed| [0, listed.files, listed.free]),
+        Call::Read => paper::read(image, name, out).map(|length| [0, length, 0]),
+        Call::Open => paper::open(image, name).map(|reader| at(reader, reader.left as usize)),
+        Call::Next => {
+            let [sector, offset, left] = [a, b, c];
+            let mut reader = Reader { sector, offset, left };
+            let came = paper::next(image, &mut reader, out);
+            Ok(at(reader, came))
+        }
+        Call::Start => paper::start(image, name).map(|address| [0, address as usize, 0]),
+        Call::Sector => paper::sector(image, two, a, b, c).map(|place| [0, place, 0]),
         call => unreachable!("{call:?} is a change"),
     }
+}
+
+/// Where a reader stands, and a value.
+fn at(reader: Reader, value: usize) -> Parts {
+    [reader.sector as usize, value, reader.offset as usize]
 }
 
 /// The changes: how many sectors.

@@ -30,6 +30,8 @@ pub unsafe fn ask_c(call: Call, numbers: [u32; 3], parts: &[Part; 8]) -> u64 {
             Call::Check => raw::varnucht_check(i, il),
             Call::List => raw::varnucht_list(i, il, o, ol),
             Call::Read => raw::varnucht_read(i, il, n, nl, o, ol),
+            Call::Open => raw::varnucht_open(i, il, n, nl),
+            Call::Next => raw::varnucht_next(i, il, a, b, c, o, ol),
             Call::Start => raw::varnucht_start(i, il, n, nl),
             Call::Sector => raw::varnucht_sector(i, il, two.front, two.length, a, b, c),
             Call::Save => raw::varnucht_save(

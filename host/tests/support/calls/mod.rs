@@ -9,11 +9,16 @@ pub use by_paper::{Answer, ask_paper};
 pub use c_layer::{NOTHING, Part, ask_c};
 pub use packed::{free, refusal, slot, value};
 
+/// The next piece where nothing comes and no byte follows: the place behind all sectors.
+pub const NOTHING_COMES: u64 = 1_600 << 8;
+
 #[derive(Clone, Copy, Debug, PartialEq, Eq)]
 pub enum Call {
     Check,
     List,
     Read,
+    Open,
+    Next,
     Start,
     Sector,
     Save,
@@ -25,10 +30,12 @@ pub enum Call {
     Release,
 }
 
-pub const CALLS: [Call; 12] = [
+pub const CALLS: [Call; 14] = [
     Call::Check,
     Call::List,
     Call::Read,
+    Call::Open,
+    Call::Next,
     Call::Start,
     Call::Sector,
     Call::Save,
@@ -58,7 +65,7 @@ pub const NEW: usize = 3;
 pub const EXEC: usize = 4;
 pub const INFO: usize = 5;
 pub const BODY: usize = 6;
-/// The output buffer of list and read, the list of sector numbers of a change.
+/// The output buffer of list, read and next, the list of sector numbers of a change.
 pub const OUT: usize = 7;
 pub const ROLES: [&str; 8] = [
     "image",
@@ -76,13 +83,24 @@ impl Call {
         CHANGES.contains(&self)
     }
 
+    /// Whether this call tests no directory: what a damaged one holds makes no difference to it.
+    pub fn is_raw(self) -> bool {
+        matches!(self, Call::Sector | Call::Next)
+    }
+
+    /// What this call answers to an image of another length than a disk's.
+    pub fn answer_to_no_image(self) -> u64 {
+        if self == Call::Next { NOTHING_COMES } else { 1 }
+    }
+
     /// The slices that this call takes.
     pub fn takes(self) -> &'static [usize] {
         match self {
             Call::Check => &[IMAGE],
             Call::List => &[IMAGE, OUT],
             Call::Read => &[IMAGE, NAME, OUT],
-            Call::Start => &[IMAGE, NAME],
+            Call::Next => &[IMAGE, OUT],
+            Call::Open | Call::Start => &[IMAGE, NAME],
             Call::Sector => &[IMAGE, TWO],
             Call::Save => &[IMAGE, NAME, EXEC, INFO, BODY, OUT],
             Call::Rename => &[IMAGE, NAME, NEW, OUT],
@@ -100,7 +118,7 @@ impl Call {
 #[derive(Clone, Copy)]
 pub struct Request<'a> {
     pub call: Call,
-    /// Save: kind, start page, offset. Sector: drive, track, sector.
+    /// Save: kind, start page, offset. Sector: drive, track, sector. Next: sector, offset, left.
     pub numbers: [u32; 3],
     pub slices: [&'a [u8]; 8],
 }

@@ -2,9 +2,12 @@
 
 use paper::Refused;
 
-pub fn pack(answer: Result<(usize, usize), Refused>) -> u64 {
+/// Slot, value and free of an accepted answer.
+pub type Parts = [usize; 3];
+
+pub fn pack(answer: Result<Parts, Refused>) -> u64 {
     match answer {
-        Ok((value, free)) => (value as u64) << 24 | (free as u64) << 48,
+        Ok([slot, value, free]) => (slot as u64) << 8 | (value as u64) << 24 | (free as u64) << 48,
         Err(refused) => u64::from(refused.number) | u64::from(refused.slot) << 8,
     }
 }

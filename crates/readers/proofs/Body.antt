@@ -1,0 +1,137 @@
+-- Where the bytes of a readable file's body stand: from its first on, byte k of the body is k bytes further.
+use Prim.Native.Nat.{ℕ, zero, suc, _+_, _-_, _*_, _/_, _%_, _≤_, _<_, min}
+use mathlib.Core.Path.{_≡_, refl, sym, ap, ap₂, _∙_}
+use mathlib.Core.Bool.{true}
+use mathlib.Core.List.{List}
+use mathlib.Core.Logic.{⊎-elim}
+use native.Mathlib.Omega.{arith}
+use borrow.Author.Tests.{lt-ltb}
+use lib.ListN.{getD}
+use Rattle.buffers.specs.Bytes.{tab, part}
+use Rattle.buffers.proofs.Lists.{below-or-not, part-at, tab-cong}
+use Rattle.geometry.proofs.Laws.{number-small}
+use Rattle.maps.specs.Bits.{has}
+use Rattle.slots.specs.Slot.{mapOf, facts, lengthOf}
+use Rattle.chains.specs.File.{File, sectorsOf, fileOf}
+use Rattle.chains.specs.Chain.{nextOf, linked, bodyByte}
+use Rattle.chains.proofs.Laws.{sectors-own, map-small, link-at, linked-own}
+use Rattle.files.specs.Steps.{Readable}
+use Rattle.readers.specs.declared.Position.{Position}
+use Rattle.readers.specs.Positions.{numberOrEnd, leads, positionOf, isByte, byteAt, onward, further}
+use Rattle.readers.specs.declared.Place.{Place}
+use Rattle.readers.specs.Pieces.{placeOf, longest, standing, coming, cameOf, pieceBytes, placeAfter, placePast, total, Placed}
+use Rattle.readers.specs.Opening.{beginOf}
+use Rattle.readers.proofs.Positions.{number-or-end, ahead-in, ahead-past, further-add, all-come}
+use Rattle.readers.proofs.Standing.{standing-at, settled, after-none}
+use Rattle.readers.proofs.Cut.{past-all}
+
+-- the position of byte k of a file's body, by its own sectors alone
+unfoldable pub bodyPosition : File → ℕ → Position
+bodyPosition f k = positionOf (numberOrEnd (linked (f .sectors) (facts (f .bytes) .first) ((9 + k) / 510))) ((9 + k) % 510)
+
+module _ (d s : List ℕ) (r : Readable d s) where
+  abbrev bit : ℕ → ℕ
+  bit t = linked (sectorsOf d s) (facts s .first) t
+
+  abbrev start : Position
+  start = positionOf (numberOrEnd (facts s .first)) 9
+
+  abbrev len : ℕ
+  len = lengthOf (facts s)
+
+  own : (t : ℕ) → t < facts s .count → has (mapOf s) (bit t) ≡ true
+  unfolding facts
+  own t h = linked-own (facts s) (sectorsOf d s) (r .chain) t h
+
+  sector-is : (t : ℕ) → t < facts s .count → sectorsOf d s (bit t) ≡ part (numberOrEnd (bit t) * 512) 512 d
+  sector-is t h =
+      let m = own t h in
+      sectors-own d s (bit t) m ∙ ap (λ (n : ℕ). part (n * 512) 512 d) (sym (number-or-end (bit t) (map-small s (bit t) m)))
+
+  on-disk : (t : ℕ) → t < facts s .count → numberOrEnd (bit t) < 1600
+  on-disk t h = let l = map-small s (bit t) (own t h) in omega (arith, number-or-end (bit t) l, number-small (bit t) l)
+
+  -- the next sector, read off the image
+  leads-is : (t : ℕ) → t < facts s .count → leads d (numberOrEnd (bit t)) ≡ numberOrEnd (bit (suc t))
+  unfolding leads linked
+  leads-is t h =
+      ap numberOrEnd (link-at d (numberOrEnd (bit t) * 512) (getD d (numberOrEnd (bit t) * 512 + 510) 0) (getD d (numberOrEnd (bit t) * 512 + 511) 0) refl refl
+      ∙ ap nextOf (sym (sector-is t h)))
+
+  -- one byte further in the chain's sector t, or at the first byte of the next
+  step : (t o u v : ℕ) → t < facts s .count → o < 510 → 510 * t + suc o ≡ 510 * u + v → v < 510
+      → onward d (positionOf (numberOrEnd (bit t)) o) ≡ positionOf (numberOrEnd (bit u)) v
+  unfolding onward
+  step t o u v h l e m =
+      rw (lt-ltb (numberOrEnd (bit t)) 1600 (on-disk t h))
+      (⊎-elim
+      (λ (k : suc o < 510).
+      let a : t ≡ u = omega arith in
+      let b : suc o ≡ v = omega arith in
+      ahead-in d (numberOrEnd (bit t)) (suc o) k ∙ ap₂ (λ (t o : ℕ). positionOf (numberOrEnd (bit t)) o) a b)
+      (λ (k : 510 ≤ suc o).
+      let a : suc t ≡ u = omega arith in
+      let b : 0 ≡ v = omega arith in
+      ahead-past d (numberOrEnd (bit t)) (suc o) k ∙ ap (λ (n : ℕ). positionOf n 0) (leads-is t h)
+      ∙ ap₂ (λ (t o : ℕ). positionOf (numberOrEnd (bit t)) o) a b)
+      (below-or-not (suc o) 510))
+
+  pub body-position : (k : ℕ) → k ≤ len → further d start k ≡ bodyPosition (fileOf d s) k
+  unfolding further bodyPosition fileOf linked
+  body-position zero h = refl
+  body-position (suc k) h =
+      ap (onward d) (body-position k (omega arith))
+      ∙ step ((9 + k) / 510) ((9 + k) % 510) ((9 + suc k) / 510) ((9 + suc k) % 510) (omega (arith, r .fits)) (omega arith) (omega arith) (omega arith)
+
+  pub body-stands : (k : ℕ) → k < len → isByte (further d start k) ≡ true
+  unfolding bodyPosition fileOf
+  body-stands k h =
+      let t : (9 + k) / 510 < facts s .count = omega (arith, r .fits) in
+      ap isByte (body-position k (omega arith)) ∙ lt-ltb (numberOrEnd (bit ((9 + k) / 510))) 1600 (on-disk ((9 + k) / 510) t)
+
+  pub body-byte : (k : ℕ) → k < len → byteAt d (further d start k) ≡ bodyByte (fileOf d s) k
+  unfolding bodyByte bodyPosition fileOf
+  body-byte k h =
+      let t : (9 + k) / 510 < facts s .count = omega (arith, r .fits) in
+      ap (byteAt d) (body-position k (omega arith)) ∙ sym (part-at (numberOrEnd (bit ((9 + k) / 510)) * 512) 512 d ((9 + k) % 510) (omega arith))
+      ∙ ap (λ (l : List ℕ). getD l ((9 + k) % 510) 0) (sym (sector-is ((9 + k) / 510) t))
+
+  -- ---- a reader of it
+
+  module _ (few : len ≤ longest) where
+    pub begins : Placed d (beginOf s)
+    unfolding linked
+    begins = record { long = r .long; sector-small = on-disk 0 (omega (arith, r .fits)); offset-small = omega arith; left-small = few }
+
+    -- from c bytes on
+    stands : (c : ℕ) → standing d (placeAfter d (beginOf s) c) ≡ further d start c
+    stands c = settled d (beginOf s) c ∙ ap (λ (q : Position). further d q c) (standing-at d (beginOf s) begins)
+
+    pub piece-came : (c room : ℕ) → c ≤ len → cameOf d (placeAfter d (beginOf s) c) room ≡ min (len - c) room
+    unfolding cameOf placeAfter
+    piece-came c room h =
+        ap (λ (q : Position). coming d q (min (len - c) room)) (stands c)
+        ∙ all-come d (further d start c) (min (len - c) room)
+        (λ (j : ℕ) (l : j < min (len - c) room). ap isByte (sym (further-add d start c j)) ∙ body-stands (c + j) (omega arith))
+
+    pub piece-is : (c room : ℕ) → c ≤ len → pieceBytes d (placeAfter d (beginOf s) c) room ≡ tab (min (len - c) room) (λ j. bodyByte (fileOf d s) (c + j))
+    unfolding pieceBytes
+    piece-is c room h =
+        rw (piece-came c room h, stands c)
+        (tab-cong (min (len - c) room) (λ j. byteAt d (further d (further d start c) j)) (λ j. bodyByte (fileOf d s) (c + j))
+        (λ (j : ℕ) (l : j < min (len - c) room). ap (byteAt d) (sym (further-add d start c j)) ∙ body-byte (c + j) (omega arith)))
+
+    -- all that came before decides where it is: as many bytes as the buffers held, or all of them
+    pub past-is : (rooms : List ℕ) → placePast d (beginOf s) rooms ≡ placeAfter d (beginOf s) (min len (total rooms))
+    past-is rooms =
+        past-all d rooms (beginOf s) begins
+        ∙ ap (placeAfter d (beginOf s)) (ap (λ (p : Place). cameOf d p (total rooms)) (sym (after-none d (beginOf s) begins)) ∙ piece-came 0 (total rooms) (omega arith) ∙ less len)
+      where
+        less : (m : ℕ) → min (m - 0) (total rooms) ≡ min m (total rooms)
+        less m = omega arith
+
+    pub place-is : (c : ℕ) → c ≤ len → placeAfter d (beginOf s) c ≡ placeOf (bodyPosition (fileOf d s) c .sector) (bodyPosition (fileOf d s) c .offset) (len - c)
+    unfolding placeAfter
+    place-is c h =
+        ap (λ (q : Position). placeOf (q .sector) (q .offset) (len - c))
+        (ap (λ (q : Position). further d q c) (standing-at d (beginOf s) begins) ∙ body-position c h)

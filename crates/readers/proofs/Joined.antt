@@ -1,0 +1,158 @@
+-- The pieces of an opened file: however the asking is cut, joined they are the body that one read gives.
+use Prim.Native.Nat.{ℕ, suc, _+_, _-_, _≤_, _<_, min}
+use mathlib.Core.Path.{_≡_, refl, sym, ap, ap₂, _∙_}
+use mathlib.Core.Bool.{Bool, true, false, not}
+use mathlib.Core.List.{List, []}
+use mathlib.Core.Option.{some}
+use native.Mathlib.Omega.{arith}
+use lib.ListN.{length, take}
+use lib.Seq.{take-all}
+use Rattle.buffers.specs.Bytes.{tab, part}
+use Rattle.buffers.proofs.Lists.{length-tab, getD-tab, tab-of, tab-cong, length-part, part-at}
+use Rattle.refusals.specs.Order.{Reply, _else_, row}
+use Rattle.slots.specs.Slot.{kindOf, carried, facts, lengthOf}
+use Rattle.slots.specs.Rows.{dataCount}
+use Rattle.chains.specs.File.{File, fileOf}
+use Rattle.chains.specs.Chain.{bodyByte, body}
+use Rattle.directory.specs.Directory.{slotOr}
+use Rattle.disk.specs.Look.{Look, look}
+use Rattle.disk.specs.Check.{checkDisk}
+use Rattle.disk.proofs.Look.{look-some}
+use Rattle.disk.proofs.Rows.{carried-is}
+use Rattle.disk.proofs.Sound.{sound}
+use Rattle.files.specs.Calls.{Sought, at as found, barred, lookup, fileNamed, notCarried}
+use Rattle.files.specs.Steps.{Readable}
+use Rattle.files.proofs.Named.{lookup-named, Named, named-slot}
+use Rattle.files.proofs.Reading.{readable}
+use Rattle.readers.specs.declared.Place.{Place}
+use Rattle.readers.specs.Pieces.{placeOf, longest, cameOf, pieceBytes, placeAfter, joined, placePast, total}
+use Rattle.readers.specs.Opening.{beginOf, at, beginBy, beginLook, beginning}
+use Rattle.readers.proofs.Cut.{joined-one}
+use Rattle.readers.proofs.Opening.{open-reply, same-opening}
+use Rattle.readers.proofs.Body.{bodyPosition, piece-is, piece-came, past-is, place-is}
+
+-- ---- lists made by a rule
+
+part-tab : (a n m : ℕ) (f : ℕ → ℕ) → part a n (tab m f) ≡ tab (min (m - a) n) (λ j. f (a + j))
+part-tab a n m f =
+    tab-of (min (m - a) n) (λ j. f (a + j)) (part a n (tab m f)) (omega (arith, length-part a n (tab m f), length-tab m f))
+    (λ (k : ℕ) (l : k < min (m - a) n). part-at a n (tab m f) k (omega arith) ∙ getD-tab m f (a + k) (omega arith))
+
+-- ---- an opened file
+
+pub record FileOpened (d n : List ℕ) (p : Place) : Type 0 where
+  pub slot : ℕ
+  pub readable : Readable d (slotOr d slot)
+  pub few : lengthOf (facts (slotOr d slot)) ≤ longest
+  pub file : fileNamed (look d) n ≡ fileOf d (slotOr d slot)
+  pub place : p ≡ beginOf (slotOr d slot)
+
+-- 510 × 1,560 less the nine bytes of the header
+pub length-few : (d n : List ℕ) (i : ℕ) → Named d n i → carried (kindOf (slotOr d i)) ≡ true → lengthOf (facts (slotOr d i)) ≤ longest
+unfolding checkDisk facts fileOf dataCount
+length-few d n i w c =
+    let f = named-slot d n i w in
+    let g = sound (look d) (w .accepted) .good i (fileOf d (slotOr d i)) (f .below) (look-some d i (slotOr d i) (f .here)) in
+    omega (arith, g .fits (carried-is (kindOf (slotOr d i)) c), g .few-sectors)
+
+-- the place of a file's reader past the first t bytes of the body, or past all of them
+abbrev pastOf : File → ℕ → Place
+pastOf f t =
+    let c = min (lengthOf (facts (f .bytes))) t in
+    placeOf (bodyPosition f c .sector) (bodyPosition f c .offset) (lengthOf (facts (f .bytes)) - c)
+
+module _ (d n : List ℕ) (p : Place) where
+  pub opened : beginning d n ≡ at p → FileOpened d n p
+  unfolding beginLook fileOf
+  opened e = by (lookup (look d) n) refl
+    where
+      opens : (i : ℕ) → found i ≡ lookup (look d) n → (t : Bool) → carried (kindOf (slotOr d i)) ≡ t
+          → beginBy (row 13 (suc i) (not t)) (beginOf (slotOr d i)) ≡ at p → FileOpened d n p
+      opens i q false c w = let z : _≡_ {A = ℕ} 0 1 = cc in absurd (omega arith)
+      opens i q true c w =
+          let m = lookup-named d n i q in
+          let z : beginOf (slotOr d i) ≡ p = cc in
+          record { slot = i; readable = readable d n i m c; few = length-few d n i m c; file = named-slot d n i m .file; place = sym z }
+
+      by : (x : Sought) → x ≡ lookup (look d) n → FileOpened d n p
+      by (barred r) q =
+          let w : beginBy (some r) (beginOf (fileNamed (look d) n .bytes)) ≡ at p
+          = ap (λ (x : Reply). beginBy x (beginOf (fileNamed (look d) n .bytes))) (sym (open-reply d n (barred r) q)) ∙ e in
+          let z : _≡_ {A = ℕ} 0 1 = cc in absurd (omega arith)
+      by (found i) q =
+          let m = named-slot d n i (lookup-named d n i q) in
+          opens i q (carried (kindOf (slotOr d i))) refl
+          (sym (ap₂ (λ (x : Reply) (f : File). beginBy x (beginOf (f .bytes))) (open-reply d n (found i) q ∙ ap (notCarried (suc i)) (m .same)) (m .file)) ∙ e)
+
+  module _ (e : beginning d n ≡ at p) where
+    abbrev w : FileOpened d n p
+    w = opened e
+
+    abbrev s : List ℕ
+    s = slotOr d (w .slot)
+
+    abbrev len : ℕ
+    len = lengthOf (facts s)
+
+    body-is : body (fileNamed (look d) n) ≡ tab len (bodyByte (fileOf d s))
+    unfolding body fileOf
+    body-is = ap body (w .file)
+
+    body-long : length (body (fileNamed (look d) n)) ≡ len
+    body-long = ap length body-is ∙ length-tab len (bodyByte (fileOf d s))
+
+    -- where a reader is: as many bytes further as the buffers held, or at the body's end
+    after : (rooms : List ℕ) → placePast d p rooms ≡ placeAfter d (beginOf s) (min len (total rooms))
+    after rooms = ap (λ (q : Place). placePast d q rooms) (w .place) ∙ past-is d s (w .readable) (w .few) rooms
+
+    -- which its file decides, and what else lies on the disk does not
+    pub place-there : (rooms : List ℕ) → placePast d p rooms ≡ pastOf (fileNamed (look d) n) (total rooms)
+    unfolding fileOf
+    place-there rooms = after rooms ∙ place-is d s (w .readable) (w .few) (min len (total rooms)) (omega arith) ∙ ap (λ (f : File). pastOf f (total rooms)) (sym (w .file))
+
+    -- the piece that is due
+    pub each-piece : (rooms : List ℕ) (room : ℕ) → pieceBytes d (placePast d p rooms) room ≡ part (total rooms) room (body (fileNamed (look d) n))
+    each-piece rooms room =
+        ap (λ (q : Place). pieceBytes d q room) (after rooms)
+        ∙ piece-is d s (w .readable) (w .few) (min len (total rooms)) room (omega arith)
+        ∙ due len (total rooms)
+        ∙ sym (ap (part (total rooms) room) body-is ∙ part-tab (total rooms) room len (bodyByte (fileOf d s)))
+      where
+        due : (m t : ℕ) → tab (min (m - min m t) room) (λ j. bodyByte (fileOf d s) (min m t + j)) ≡ tab (min (m - t) room) (λ j. bodyByte (fileOf d s) (t + j))
+        due m t =
+            let q : min (m - min m t) room ≡ min (m - t) room = omega arith in
+            ap (λ (i : ℕ). tab i (λ j. bodyByte (fileOf d s) (min m t + j))) q
+            ∙ tab-cong (min (m - t) room) (λ j. bodyByte (fileOf d s) (min m t + j)) (λ j. bodyByte (fileOf d s) (t + j))
+            (λ (j : ℕ) (l : j < min (m - t) room). let z : min m t + j ≡ t + j = omega arith in ap (bodyByte (fileOf d s)) z)
+
+    pub each-came : (rooms : List ℕ) (room : ℕ) → cameOf d (placePast d p rooms) room ≡ min (length (body (fileNamed (look d) n)) - total rooms) room
+    each-came rooms room =
+        ap (λ (q : Place). cameOf d q room) (after rooms) ∙ piece-came d s (w .readable) (w .few) (min len (total rooms)) room (omega arith)
+        ∙ less len (length (body (fileNamed (look d) n))) (total rooms) body-long
+      where
+        less : (m b t : ℕ) → b ≡ m → min (m - min m t) room ≡ min (b - t) room
+        less m b t e = omega arith
+
+    pub each-left : (rooms : List ℕ) → placePast d p rooms .left ≡ length (body (fileNamed (look d) n)) - total rooms
+    unfolding placeAfter
+    each-left rooms = ap (λ (q : Place). q .left) (after rooms) ∙ less len (length (body (fileNamed (look d) n))) (total rooms) body-long
+      where
+        less : (m b t : ℕ) → b ≡ m → m - min m t ≡ b - t
+        less m b t e = omega arith
+
+    -- "The pieces joined are the body that one read gives, however the asking is cut.": as far as the buffers hold
+    pub joined-first : (rooms : List ℕ) → joined d p rooms ≡ take (total rooms) (body (fileNamed (look d) n))
+    unfolding placePast total part
+    joined-first rooms = joined-one d rooms p ∙ each-piece [] (total rooms)
+
+    pub joined-whole : (rooms : List ℕ) → length (body (fileNamed (look d) n)) ≤ total rooms → joined d p rooms ≡ body (fileNamed (look d) n)
+    joined-whole rooms h = joined-first rooms ∙ take-all (total rooms) (body (fileNamed (look d) n)) h
+
+-- two disks with one look: every piece of an opened file is the same of both, and where the reader then is
+pub same-pieces : (d e : List ℕ) → look d ≡ look e → (n : List ℕ) (p : Place) → beginning d n ≡ at p → (rooms : List ℕ) (room : ℕ)
+    → (placePast d p rooms ≡ placePast e p rooms) × (pieceBytes d (placePast d p rooms) room ≡ pieceBytes e (placePast e p rooms) room)
+same-pieces d e q n p b rooms room =
+    let c : beginning e n ≡ at p = sym (same-opening d e q n) ∙ b in (
+      place-there d n p b rooms ∙ ap (λ (l : Look). pastOf (fileNamed l n) (total rooms)) q ∙ sym (place-there e n p c rooms),
+      each-piece d n p b rooms room ∙ ap (λ (l : Look). part (total rooms) room (body (fileNamed l n))) q ∙ sym (each-piece e n p c rooms room),
+    )

@@ -1,0 +1,10 @@
+pub mod Positions
+pub mod Standing
+pub mod Runs
+pub mod Cut
+pub mod Opening
+pub mod Body
+pub mod Joined
+pub mod OneRead
+pub mod Asked
+pub mod Readers

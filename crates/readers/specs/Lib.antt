@@ -1,0 +1,5 @@
+pub mod Positions
+pub mod Pieces
+pub mod Opening
+pub mod Readers
+pub mod Played
