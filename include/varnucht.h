@@ -183,7 +183,7 @@ uint64_t varnucht_read(const uint8_t *image, size_t image_len, const uint8_t *na
  * than that the call answers and touches nothing but `out`. */
 
 /* Finds a file. Value: the length of its body in bytes, 0 to 795,591. Slot: the sector that the body begins in, 0 to 1,599.
- * Free: the place of its first byte there, 9. Refusals: 1 to 11, 12, 13, 15, as varnucht_read has them. */
+ * Free: the place of its first byte there, 9. Refusals: 1 to 11, 12, 13, 15, as varnucht_read has them. Stack: 1,304 bytes. */
 uint64_t varnucht_open(const uint8_t *image, size_t image_len, const uint8_t *name, size_t name_len);
 
 /* The next bytes, to the front of `out`: as many as it holds or as are left.
@@ -193,7 +193,7 @@ uint64_t varnucht_open(const uint8_t *image, size_t image_len, const uint8_t *na
  * Value: how many came. Slot and free: sector and offset of the byte after them, which are 1,600 and 0 where none follows.
  * The disk is not checked. Of an image of another length, and of numbers that can be no reader's (a sector above 1,599, an
  * offset above 509, more than 795,591 left), nothing comes; of other numbers that no call gave, what stands there along the
- * links, or less. Refusals: none. */
+ * links, or less. Refusals: none. Stack: 104 bytes. */
 uint64_t varnucht_next(const uint8_t *image, size_t image_len, uint32_t sector, uint32_t offset, uint32_t left, uint8_t *out,
                        size_t out_len);
 
