@@ -1,6 +1,7 @@
-// Points of document 01: check, listing, reading, start addresses and the raw sector.
+// Points of document 01: check, listing, reading, start addresses and the raw sector; of document 02: reading in pieces.
 mod disks; // the disks that are tried
 mod damages; // disks that the check refuses, or only just accepts
+mod pieces; // a file opened, and its body piece by piece
 
 // A read into a buffer of dots.
 pub fn read_dots(what: &[u8], image: &[u8], name: &[u8]) {
@@ -181,6 +182,7 @@ fn main() {
     damages::orders(&mut image);
     names(&image);
     rooms(&image);
+    pieces::played(&image);
     starts(&mut image);
     lengths(&image);
     disks::set(&mut other, 40960, 200);
