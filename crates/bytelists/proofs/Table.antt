@@ -10,6 +10,7 @@ use lib.Dec.{eqb, leb}
 use Rattle.buffers.proofs.Tests.{and-both}
 use Rattle.geometry.specs.Disk.{imageSize}
 use Rattle.refusals.specs.Order.{refuse, Reply, _else_, Row, rows, row, sweep}
+use Rattle.refusals.specs.Answers.{lastNumber}
 use Rattle.refusals.proofs.First.{sweep-first}
 use Rattle.chains.specs.File.{File}
 use Rattle.directory.specs.Places.{slots}
@@ -22,7 +23,7 @@ use Rattle.disk.proofs.Order.{passAt, pass, check-passes}
 -- a refusal of the table at a slot of the directory, or none
 abbrev pub Small : Reply → Type 0
 Small none = Unit {0}
-Small (some r) = (r .number ≤ 21) × (r .slot ≤ 80)
+Small (some r) = (r .number ≤ lastNumber) × (r .slot ≤ 80)
 
 pub small-else : (p q : Reply) → Small p → Small q → Small (p else q)
 small-else none q a b = b
@@ -30,19 +31,19 @@ small-else (some r) q a b = a
 
 abbrev few : List Row → Bool
 few [] = true
-few (r ∷ rs) = leb (r .number) 21 && few rs
+few (r ∷ rs) = leb (r .number) lastNumber && few rs
 
 small-rows : (s : ℕ) (rs : List Row) → s ≤ 80 → few rs ≡ true → Small (rows s rs)
 small-rows s [] h e = tt
 small-rows s (r ∷ rs) h e =
-    let c = and-both (leb (r .number) 21) (few rs) e in
-    by (r .holds) (leb-true (r .number) 21 (c .0)) (small-rows s rs h (c .1))
+    let c = and-both (leb (r .number) lastNumber) (few rs) e in
+    by (r .holds) (leb-true (r .number) lastNumber (c .0)) (small-rows s rs h (c .1))
   where
-    by : (t : Bool) → r .number ≤ 21 → Small (rows s rs) → Small (cond t (some (refuse (r .number) s)) (rows s rs))
+    by : (t : Bool) → r .number ≤ lastNumber → Small (rows s rs) → Small (cond t (some (refuse (r .number) s)) (rows s rs))
     by true a b = (a, h)
     by false a b = b
 
-pub small-row : (n s : ℕ) (t : Bool) → n ≤ 21 → s ≤ 80 → Small (row n s t)
+pub small-row : (n s : ℕ) (t : Bool) → n ≤ lastNumber → s ≤ 80 → Small (row n s t)
 small-row n s true p q = (p, q)
 small-row n s false p q = tt
 

@@ -2,7 +2,7 @@
 use Prim.Native.Nat.{ℕ, _+_, _-_, _*_, _/_, _%_, _^_, _≤_, _<_}
 use mathlib.Core.Path.{_≡_}
 use Rattle.refusals.specs.Order.{Reply}
-use Rattle.refusals.specs.Answers.{Outcome, done, refused, unless}
+use Rattle.refusals.specs.Answers.{lastNumber, Outcome, done, refused, unless}
 
 -- answer = refusal + 256 × slot + 2^24 × value + 2^48 × free; refusal 0: accepted, and then slot is 0; refused: value and free are 0
 abbrev pub packed : Outcome → ℕ
@@ -45,7 +45,7 @@ freeIn (refused r) = 0
 
 -- refusals of the table at slots of the directory, values up to v, free sectors up to f
 pub record Within (o : Outcome) (v f : ℕ) : Type 0 where
-  pub refusal : refusalIn o ≤ 21
+  pub refusal : refusalIn o ≤ lastNumber
   pub slot : slotIn o ≤ 80
   pub value : valueIn o ≤ v
   pub free : freeIn o ≤ f

@@ -57,6 +57,10 @@ numberOf BufferTooShort = 20
 -- no such drive, track or sector
 numberOf NoSuchSector = 21
 
+-- the last number of the table: document 01 ends at 21, document 02 at 32
+abbrev pub lastNumber : ℕ
+lastNumber = 32
+
 abbrev pub refusalOf : Refused → Refusal
 refusalOf r = refuse (numberOf (r .reason)) (r .slot)
 

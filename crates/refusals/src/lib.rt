@@ -3,7 +3,7 @@ ghost use mathlib.Core.Path.{_≡_};
 ghost use Prim.Native.Nat.{_≤_};
 ghost use mathlib.Core.Option.{some};
 ghost use Rattle.refusals.specs.Order.{refuse};
-ghost use Rattle.refusals.specs.Answers.{numberOf, replyOf, outcomeOf, refused};
+ghost use Rattle.refusals.specs.Answers.{numberOf, lastNumber, replyOf, outcomeOf, refused};
 
 // The rows of the table, in its order: the first is number 1.
 pub enum Reason {
@@ -50,7 +50,7 @@ pub enum Answer {
 
 // The number of a reason in the table.
 pub fn number_of(reason: Reason) -> usize
-    ensures { λ r. ⌜ (r ≡ numberOf reason) × (r ≤ 21) ⌝ }
+    ensures { λ r. ⌜ (r ≡ numberOf reason) × (r ≤ lastNumber) ⌝ }
 {
     match reason {
         Reason::NotAnImage => 1,

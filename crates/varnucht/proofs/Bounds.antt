@@ -12,7 +12,7 @@ use Rattle.buffers.proofs.Tests.{and-both}
 use Rattle.geometry.specs.Disk.{isSector, placeOf}
 use Rattle.geometry.proofs.Laws.{sector-inside}
 use Rattle.refusals.specs.Order.{Refusal, refuse, Reply, _else_, row}
-use Rattle.refusals.specs.Answers.{Outcome, done, refused, unless, Out, filled}
+use Rattle.refusals.specs.Answers.{lastNumber, Outcome, done, refused, unless, Out, filled}
 use Rattle.refusals.proofs.First.{else-none}
 use Rattle.slots.specs.Slot.{kindOf, carried, facts, lengthOf, offsetOf}
 use Rattle.slots.specs.Name.{askable}
@@ -145,11 +145,11 @@ module _ (d n : List ℕ) where
 -- ---- a raw sector: the last begins 512 bytes before the image's end
 
 module _ (one two : List ℕ) (d t s : ℕ) where
-  raw-few : rawRefusal one two d t s ≤ 21
+  raw-few : rawRefusal one two d t s ≤ lastNumber
   unfolding rawRefusal
   raw-few = by (isImage one && isImage two) (isDrive d && isSector t s)
     where
-      by : (a b : Bool) → cond (not a) 1 (cond (not b) 21 0) ≤ 21
+      by : (a b : Bool) → cond (not a) 1 (cond (not b) 21 0) ≤ lastNumber
       by false b = omega arith
       by true false = omega arith
       by true true = omega arith

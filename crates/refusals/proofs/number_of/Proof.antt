@@ -4,11 +4,11 @@ use Prim.Native.Nat.{ℕ, _≤_}
 use mathlib.Core.Path.{_≡_, refl, sym, ap, _∙_}
 use native.Mathlib.Omega.{arith}
 use Rattle.refusals.specs.declared.Reason.{Reason}
-use Rattle.refusals.specs.Answers.{numberOf}
+use Rattle.refusals.specs.Answers.{numberOf, lastNumber}
 use Rattle.refusals.proofs.number_of.Statement.{statement}
 use Rattle.refusals.proofs.number_of.Tie as tie
 
-told : {r v : Reason} {n : ℕ} → r ≡ v → numberOf v ≡ n → n ≤ 21 → (n ≡ numberOf r) × (n ≤ 21)
+told : {r v : Reason} {n : ℕ} → r ≡ v → numberOf v ≡ n → n ≤ lastNumber → (n ≡ numberOf r) × (n ≤ lastNumber)
 told e p l = (sym p ∙ ap numberOf (sym e), l)
 
 enum-told : tie.Need-enum-told
