@@ -100,15 +100,15 @@ sound l e = record {
   names = λ i j f g k h q p. differ (nameOf (g .bytes)) (nameOf (f .bytes)) (earlier-none l i (λ t. sameName (nameOf t) (nameOf (f .bytes))) (parts i f h q .1 .1 .0) j g k p);
 }
   where
-    a : Accepted l
-    a = accepted l e
+    a : Accepted false l
+    a = accepted false l e
 
     parts : (i : ℕ) (f : File) → i < slots → l .files i ≡ some f → Clear (own (extra l) (facts (f .bytes))) × Clear (cross (slotsOf l) i (f .bytes))
     parts i f h q = clear-parts (own (extra l) (facts (f .bytes))) (cross (slotsOf l) i (f .bytes)) (a .survey i f h q)
 
 pub sound-only : (l : Look) → Sound l → checkLook l ≡ none
 sound-only l w =
-    accepted-only l
+    accepted-only false l
     (record {
       long = w .long;
       survey = λ i f h q.
