@@ -1,7 +1,7 @@
 -- A check's reply by the tests that lead to it, with the used map that goes with it.
 use Prim.Native.Nat.{ℕ}
 use mathlib.Core.Path.{_≡_, sym, ap, _∙_}
-use mathlib.Core.Bool.{Bool, false}
+use mathlib.Core.Bool.{Bool}
 use mathlib.Core.List.{List}
 use mathlib.Core.Option.{none, some}
 use borrow.Author.Tests.{eq-eqb, ne-eqb}
@@ -81,4 +81,4 @@ module _ (release : Bool) (d : List ℕ) where
 -- an accepted image has its size
 pub accepted-size : (d : List ℕ) → checkDisk d ≡ none → length d ≡ imageSize
 unfolding checkDisk
-accepted-size d e = sym (look-long d) ∙ accepted false (look d) e .long
+accepted-size d e = sym (look-long d) ∙ accepted (look d) e .long

@@ -122,14 +122,14 @@ pub record Accepted (release : Bool) (l : Look) : Type 0 where
 
 module _ (release : Bool) (l : Look) where
   -- no row holds
-  pub accepted : checkBy release l ≡ none → Accepted release l
-  accepted e =
+  pub accepted-by : checkBy release l ≡ none → Accepted release l
+  accepted-by e =
       let a = else-none (row 1 0 (not (eqb (l .long) imageSize))) (pass l (rowsBy release l) else pass l (rows11 l)) (sym (check-passes release l) ∙ e) in
       let b = else-none (pass l (rowsBy release l)) (pass l (rows11 l)) (a .1) in
       record { long = length-none l (a .0); survey = pass-clear l (rowsBy release l) (b .0); chains = pass-clear l (rows11 l) (b .1) }
 
-  pub accepted-only : Accepted release l → checkBy release l ≡ none
-  accepted-only w =
+  pub accepted-by-only : Accepted release l → checkBy release l ≡ none
+  accepted-by-only w =
       check-passes release l
       ∙ rw (eq-eqb (l .long) imageSize (w .long), clear-pass l (rowsBy release l) (w .survey), clear-pass l (rows11 l) (w .chains))
 
@@ -150,6 +150,12 @@ module _ (release : Bool) (l : Look) where
       check-passes release l ∙ rw (eq-eqb (l .long) imageSize n, clear-pass l (rowsBy release l) c, first-pass l (rows11 l) r w)
 
 -- of the check
+pub accepted : (l : Look) → checkLook l ≡ none → Accepted false l
+accepted l = accepted-by false l
+
+pub accepted-only : (l : Look) → Accepted false l → checkLook l ≡ none
+accepted-only l = accepted-by-only false l
+
 pub given : (l : Look) (r : Refusal) → checkLook l ≡ some r → Given l r
 given l = given-by false l
 

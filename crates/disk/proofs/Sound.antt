@@ -101,14 +101,14 @@ sound l e = record {
 }
   where
     a : Accepted false l
-    a = accepted false l e
+    a = accepted l e
 
     parts : (i : ℕ) (f : File) → i < slots → l .files i ≡ some f → Clear (own (extra l) (facts (f .bytes))) × Clear (cross (slotsOf l) i (f .bytes))
     parts i f h q = clear-parts (own (extra l) (facts (f .bytes))) (cross (slotsOf l) i (f .bytes)) (a .survey i f h q)
 
 pub sound-only : (l : Look) → Sound l → checkLook l ≡ none
 sound-only l w =
-    accepted-only false l
+    accepted-only l
     (record {
       long = w .long;
       survey = λ i f h q.
