@@ -10,7 +10,7 @@ use borrow.Author.Tests.{eqb-true, eqb-false, eq-eqb, ne-eqb}
 use lib.Dec.{eqb}
 use Rattle.refusals.specs.Order.{Refusal, refuse, Reply, _else_, row, rows, sweep, Row, Clear, FirstAt, Lowest}
 use Rattle.refusals.proofs.First.{else-none, else-some, rows-clear, clear-rows, rows-first, first-rows, sweep-none, none-sweep, sweep-cong, sweep-first, first-sweep}
-use Rattle.refusals.proofs.Lowest.{nonzero, lowest-first, first-nonzero}
+use Rattle.refusals.proofs.Lowest.{lacks, lowest-first, first-lacks}
 use Rattle.geometry.specs.Disk.{imageSize}
 use Rattle.slots.specs.Slot.{facts}
 use Rattle.chains.specs.File.{File}
@@ -176,14 +176,14 @@ chain-lowest l r w = lowest-first (rows11 l (w .at) (w .file)) (r .number) (late
 pub positive-by : (release : Bool) (l : Look) (r : Refusal) → checkBy release l ≡ some r → r .number ≢ 0
 positive-by release l r e = by (given-by release l r e)
   where
-    some-number : (release : Bool) (i : ℕ) (f : File) → nonzero (rowsBy release l i f) ≡ true
+    some-number : (release : Bool) (i : ℕ) (f : File) → lacks 0 (rowsBy release l i f) ≡ true
     some-number true i f = refl
     some-number false i f = refl
 
     by : GivenBy release l r → r .number ≢ 0
     by (by-length n q) = λ z. omega (arith, ap (λ (x : Refusal). x .number) q)
-    by (by-slot n w) = first-nonzero (rowsBy release l (w .at) (w .file)) (r .number) (some-number release (w .at) (w .file)) (w .number)
-    by (by-chain n c w) = first-nonzero (rows11 l (w .at) (w .file)) (r .number) refl (w .number)
+    by (by-slot n w) = first-lacks 0 (rowsBy release l (w .at) (w .file)) (r .number) (some-number release (w .at) (w .file)) (w .number)
+    by (by-chain n c w) = first-lacks 0 (rows11 l (w .at) (w .file)) (r .number) refl (w .number)
 
 pub check-positive : (d : List ℕ) (r : Refusal) → checkDisk d ≡ some r → r .number ≢ 0
 unfolding checkDisk
