@@ -106,14 +106,7 @@ fn named_before(dir: &[u8], i: usize, name: &[u8], keys: &[u64]) -> bool
 
 // Rows 2 to 9 at the live slot `i`, whose bytes are `s`, and 22 after 7 where `release` asks for it; `used` is the used map
 // of the slots before it, and `keys` are the keys of their names.
-fn live_rows(
-    dir: &[u8],
-    i: usize,
-    s: &[u8],
-    used: &[u8],
-    keys: &[u64],
-    release: bool,
-) -> Verdict
+fn live_rows(dir: &[u8], i: usize, s: &[u8], used: &[u8], keys: &[u64], release: bool) -> Verdict
     requires { ⌜ Reached (now dir) i (now s) (now used) (now keys) ⌝ }
     ensures { λ r. ⌜ replyOf r ≡ surveyAt release 0 (directory (now (dir .entry))) i ⌝ }
 {
