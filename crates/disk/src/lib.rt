@@ -76,6 +76,6 @@ pub fn check(image: &[u8]) -> Verdict
 pub fn check_release(image: &[u8]) -> Verdict
     ensures { λ r. ⌜ replyOf r ≡ checkRelease (now (image .entry)) ⌝ }
 {
-    let found = examine_by(image, true);
-    found.verdict
+    let released = examine_by(image, true);
+    released.verdict
 }

@@ -31,6 +31,7 @@ fn sectors_a(image: &mut [u8]) {
     let header = [0, 0, 0, 0, 128, 0, 0, 0, 29];
     let link = [4, 2];
     buffers::copy_into(image, 40960, &header);
+    buffers::copy_into(image, 40969, b"HEAD");
     buffers::copy_into(image, 41470, &link);
 }
 
@@ -102,9 +103,10 @@ fn in_one_sector(image: &mut [u8]) {
 
 // "Other calls accept such disks still."
 fn other_calls(image: &[u8]) {
-    let mut buf = [b'.'; 600];
-    points::listed(b"waste behind a file", image, &mut buf);
-    points::read(b"waste behind a file", image, b"FILE A", &mut buf);
+    let mut list = [0u8; 258];
+    let mut body = [b'.'; 512];
+    points::listed(b"waste behind a file", image, &mut list);
+    points::read(b"waste behind a file", image, b"FILE A", &mut body);
     points::started(b"waste behind a file", image, b"FILE A");
 }
 
@@ -154,7 +156,7 @@ fn one_file(image: &mut [u8]) {
 }
 
 fn one_file_with_waste(image: &mut [u8]) {
-    both(b"one file with waste", image);
+    of_length(b"one file with waste", image, 245, 1);
     other_calls(image);
     kinds(image);
     marks(image);

@@ -31,8 +31,8 @@ pub extern "C" fn varnucht_check(image: &[u8]) -> u64
 pub extern "C" fn varnucht_check_release(image: &[u8]) -> u64
     ensures { λ r. ⌜ r ≡ packed (releasing (now (image .entry))) ⌝ }
 {
-    let verdict = disk::check_release(image);
-    packing::pack_verdict(verdict)
+    let released = disk::check_release(image);
+    packing::pack_verdict(released)
 }
 
 // The listing, put to the front of `out`: how many, and the free sectors.

@@ -1,7 +1,9 @@
 -- `directory::survey_slots` meets its contract: the reply is that of the slots from `i` on, and the used map that of those before.
 use Prim.Native.Nat.{_-_, _≤_}
 use mathlib.Core.Path.{_≡_, refl, sym, ap, _∙_}
+use mathlib.Core.Option.{none}
 use native.Mathlib.Omega.{arith}
+use denote.Ref.{now}
 use Rattle.refusals.specs.Order.{sweepFrom}
 use Rattle.refusals.specs.Answers.{replyOf}
 use Rattle.refusals.proofs.First.{sweep-skip}
@@ -21,6 +23,11 @@ Inv-loop dir release end used₀ keys₀ files₀ i₀ used keys files i =
 
 abbrev μ-loop : tie.MeasureT-loop
 μ-loop dir release end used₀ keys₀ files₀ i₀ used keys files i = end - i
+
+-- a slot at which no row holds
+passed : (t : tie.After-enum-told Inv-loop μ-loop) → let l = t .before .before .before .before .before .before .before .before .before .before .before in
+    surveyAt (l .before .before .before .before .args .release) 0 (directory (now (l .before .before .before .before .args .dir))) (l .loop .i) ≡ none
+passed t = sym (ap replyOf (sym (t .enum-told .given .1)) ∙ t .before .before .live-rows .ensures)
 
 slots-read-requires : tie.Need-slots-read-requires Inv-loop μ-loop
 slots-read-requires c κs = search needs
@@ -93,7 +100,7 @@ joined-requires c κs =
     let t = c .before .before .before .before in
     let y = t .before .before .before .before .before .before .before in
     let a = y .before .before .before .before .loop in
-    apart _ (a .i) _ (a .inv .1) _ (met-live _ _ (y .before .before .slot-at .ensures) (y .before .is-live .ensures) (omega arith) (y .if1 .taken)) (c .before .map-of .ensures) (c .count-of .ensures .0) _ (sym (ap replyOf (sym (t .enum-told .given .1)) ∙ t .before .before .live-rows .ensures))
+    apart _ (a .i) _ (a .inv .1) _ (met-live _ _ (y .before .before .slot-at .ensures) (y .before .is-live .ensures) (omega arith) (y .if1 .taken)) (c .before .map-of .ensures) (c .count-of .ensures .0) _ (passed t)
 
 loop-less : tie.Need-loop-less Inv-loop μ-loop
 loop-less c = search needs
@@ -106,7 +113,7 @@ loop-again c =
     let e = met-live _ _ (y .before .before .slot-at .ensures) (y .before .is-live .ensures) (omega arith) (y .if1 .taken) in (
       omega arith,
       used-more _ (a .i) _ (a .inv .1) _ e (c .before .before .map-of .ensures) _ (c .joined .ensures),
-      a .inv .2 ∙ sweep-skip slots (a .i) _ (omega arith) (sym (ap replyOf (sym (t .enum-told .given .1)) ∙ t .before .before .live-rows .ensures)),
+      a .inv .2 ∙ sweep-skip slots (a .i) _ (omega arith) (passed t),
       noted-live _ _ _ _ (a .inv .3) (omega arith) _ e (c .before .before .before .before .name-of .ensures) (c .before .before .before .key-of .ensures),
     )
 
