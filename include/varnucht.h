@@ -158,7 +158,7 @@ uint64_t varnucht_check(const uint8_t *image, size_t image_len);
 
 /* Whether the disk is good and fit to go out: no file of a carried kind has waste sectors behind it, which is where old texts
  * hide. A file has them where its count is above the least that its length needs. Every other call accepts such a disk.
- * Value: 0. Refusals: 1 to 11, 22. */
+ * Value: 0. Refusals: 1 to 11, 22. Stack: 1,224 bytes. */
 uint64_t varnucht_check_release(const uint8_t *image, size_t image_len);
 
 /* Every file, hidden ones too, by rising slot, at 258 bytes each from the front of `out`; section 6 says how to read them.
