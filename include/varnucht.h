@@ -75,12 +75,12 @@ enum varnucht_size {
 
 /* 3. REFUSALS, in the words of the rules (document 01), in the order in which they are tested: 1 first; then 2 to 9 at every
  * live slot, the lowest slot first and at a slot the lowest number; then 10 and 11 likewise; then the lowest that applies of
- * 12 to 20. So 12 to 20 say that the disk itself is good. varnucht_sector tests 1 and then 21, and looks at no directory.
- * varnucht_next refuses nothing.
+ * 12 to 20. So 12 to 20 say that the disk itself is good. varnucht_check_release alone tests 22 too, directly after 7 at a
+ * slot. varnucht_sector tests 1 and then 21, and looks at no directory. varnucht_next refuses nothing.
  *
- * The slot comes with 2 to 11; with 13 and 14 of varnucht_read, varnucht_open and varnucht_start, where it is the file's;
- * with 16, where it is that of the file which has the new name; and with 17. With all others, 13 and 14 of varnucht_save
- * too, it is 0. */
+ * The slot comes with 2 to 11 and 22; with 13 and 14 of varnucht_read, varnucht_open and varnucht_start, where it is the
+ * file's; with 16, where it is that of the file which has the new name; and with 17. With all others, 13 and 14 of
+ * varnucht_save too, it is 0. */
 enum varnucht_reason {
     VARNUCHT_ACCEPTED = 0,
     /* The disk is not good. Every call can give these but varnucht_sector, which can give 1, and varnucht_next. */
@@ -107,7 +107,10 @@ enum varnucht_reason {
     VARNUCHT_NO_FREE_SLOT = 18,         /* no slot has byte 0 zero: 80 files are there (save) */
     VARNUCHT_TOO_FEW_SECTORS = 19,      /* fewer free sectors than the save takes */
     VARNUCHT_BUFFER_TOO_SHORT = 20,     /* a lent output buffer is too short; tested last, and the buffer is unchanged */
-    VARNUCHT_NO_SUCH_SECTOR = 21        /* no such drive, track or sector (varnucht_sector alone) */
+    VARNUCHT_NO_SUCH_SECTOR = 21,       /* no such drive, track or sector (varnucht_sector alone) */
+    /* The disk is not fit to go out. */
+    VARNUCHT_WASTE_SECTORS = 22         /* carried kind, and the count is above the least that its length needs: the least n
+                                           with 510 * n at least 9 + length (varnucht_check_release alone) */
 };
 
 /* A refusal in the words of the rules, for a message; UTF-8. A string that lasts, never NULL, for any number. */
@@ -139,6 +142,8 @@ static inline const char *varnucht_words(unsigned refusal) {
     case VARNUCHT_TOO_FEW_SECTORS: return "fewer free sectors than the save takes";
     case VARNUCHT_BUFFER_TOO_SHORT: return "a lent output buffer is too short";
     case VARNUCHT_NO_SUCH_SECTOR: return "no such drive, track or sector";
+    case VARNUCHT_WASTE_SECTORS:
+        return "carried kind, and the count is above the least that its length needs (waste sectors behind the file)";
     default: return "not a number of refusal";
     }
 }
@@ -150,6 +155,11 @@ static inline const char *varnucht_words(unsigned refusal) {
 /* Whether the disk is good. Its directory, sector maps and chains agree exactly when this accepts. Value: 0.
  * Refusals: 1 to 11. */
 uint64_t varnucht_check(const uint8_t *image, size_t image_len);
+
+/* Whether the disk is good and fit to go out: no file of a carried kind has waste sectors behind it, where old texts hide. A
+ * file has them where its count is above the least that its length needs. Every other call accepts such a disk still.
+ * Value: 0. Refusals: 1 to 11, 22. Stack: 1,224 bytes. */
+uint64_t varnucht_check_release(const uint8_t *image, size_t image_len);
 
 /* Every file, hidden ones too, by rising slot, at 258 bytes each from the front of `out`; section 6 says how to read them.
  * Value: how many files, 0 to 80. Free: the free sectors, 0 to 1,560. `out`: 258 bytes for each file, and

@@ -73,6 +73,35 @@ impl Disk {
         &self.listing
     }
 
+    /// Whether no file of a carried kind has more sectors than its length needs ([`Entry::least_sectors`]), which is where
+    /// old texts hide: refused 22 with the lowest such slot. No other call is.
+    ///
+    /// ```
+    /// use varnucht::{CarriedKind, Disk, Image, NewFile, NewName, Start};
+    ///
+    /// let mut disk = Disk::open(Image::blank())?;
+    /// let file = NewFile::new(CarriedKind::Code, NewName::new("TEXT")?, Start::new(1, 32_768)?, &[65; 1_000]);
+    /// let _ = disk.save(&file)?;
+    /// disk.check_release()?; // a save takes no more sectors than it needs
+    ///
+    /// // The same file with a length of 100 in its slot and in its header: its second sector is waste.
+    /// let mut image = disk.into_image();
+    /// for place in [240, 40_961] {
+    ///     image.as_bytes_mut()[place..place + 2].copy_from_slice(&[100, 0]);
+    /// }
+    /// let disk = Disk::open(image)?;
+    /// let refused = disk.check_release().unwrap_err();
+    /// assert_eq!((refused.refusal.number(), refused.slot.map(|slot| slot.number())), (22, Some(1)));
+    /// let entry = &disk.listing().entries()[0];
+    /// assert_eq!((entry.sector_count(), entry.least_sectors()), (2, Some(1)));
+    /// # Ok::<(), varnucht::Refused>(())
+    /// ```
+    ///
+    /// [`Entry::least_sectors`]: crate::Entry::least_sectors
+    pub fn check_release(&self) -> Result<(), Refused> {
+        self.image.check_release()
+    }
+
     /// A file's body. Refused 15 where there is no such file, 13 with the slot where its kind is not carried.
     ///
     /// The whole disk is looked at, and the body is copied into a new vector of its length.

@@ -76,6 +76,14 @@ impl Entry {
         Some(u32::from(self.bytes[239]) * 16_384 + u32::from(remainder))
     }
 
+    /// The least number of sectors that the body and its nine header bytes need, at 510 bytes to a sector; none for a kind
+    /// that is not carried. Where [`Entry::sector_count`] is above it the rest are waste sectors.
+    pub fn least_sectors(&self) -> Option<u16> {
+        let sectors = (9 + self.length()?).div_ceil(510);
+        // On an accepted disk they are no more than the count.
+        u16::try_from(sectors).ok()
+    }
+
     /// Where the file starts in memory; none for a kind that is not carried, and where the offset is out of its range.
     pub fn start(&self) -> Option<Start> {
         self.kind().carried()?;

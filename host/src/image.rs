@@ -58,6 +58,13 @@ impl Image {
         calls::check(self.as_bytes()).decode().map(|_| ())
     }
 
+    /// Whether the image is an accepted disk without waste sectors, before it goes out: refused as [`check`](Image::check)
+    /// is, and 22 with the slot where a file of a carried kind has more sectors than its length needs. Every other call
+    /// accepts such a disk.
+    pub fn check_release(&self) -> Result<(), Refused> {
+        calls::check_release(self.as_bytes()).decode().map(|_| ())
+    }
+
     /// One raw sector, not copied. No directory is checked, so any image will do.
     ///
     /// Its types rule out every refusal; the answer is the library's all the same.

@@ -80,6 +80,11 @@
 //! # Ok::<(), Box<dyn std::error::Error>>(())
 //! ```
 //!
+//! # Before a compilation goes out
+//!
+//! A file may have more sectors than its length needs, and old texts hide in them. Every call accepts such a disk but
+//! [`Disk::check_release`] and [`Image::check_release`], which refuse it (22) with the slot.
+//!
 //! # A disk in a file
 //!
 //! A change answers with the [`Sectors`] that it altered, in the order in which they are to be written. Wherever that
@@ -114,7 +119,7 @@
 //! # Words
 //!
 //! "Document 01" and "the paper" are the rules that the library is proved against. A refusal prints their words. Below the
-//! types stand [`calls`], the fourteen calls on byte slices, and [`raw`], the C layer itself.
+//! types stand [`calls`], the fifteen calls on byte slices, and [`raw`], the C layer itself.
 #![warn(missing_docs)]
 
 mod answer;

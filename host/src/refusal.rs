@@ -1,9 +1,9 @@
-//! Refusals: document 01's numbers and its words for them.
+//! Refusals: the numbers of documents 01 and 02, and their words for them.
 use std::error::Error;
 use std::fmt;
 use std::num::NonZeroU16;
 
-/// Why a call was refused: a row of document 01's table.
+/// Why a call was refused: a row of document 01's table, or one that document 02 adds to it.
 #[derive(Clone, Copy, Debug, PartialEq, Eq, Hash)]
 #[non_exhaustive]
 pub enum Refusal {
@@ -49,12 +49,14 @@ pub enum Refusal {
     ShortBuffer,
     /// 21: no such drive, track or sector.
     NoSuchSector,
+    /// 22: carried kind, and the file has more sectors than its length needs. The check before a release alone gives it.
+    WasteSectors,
     /// A number that this table does not have. No call of today's library gives one.
     Unlisted(u8),
 }
 
-/// The table of document 01, row by row: row 1 is the first.
-const TABLE: [(Refusal, &str); 21] = [
+/// The table of document 01 with the rows that document 02 adds, row by row: row 1 is the first.
+const TABLE: [(Refusal, &str); 22] = [
     (Refusal::ImageLength, "the image is not 819,200 bytes"),
     (Refusal::UnknownKind, "the kind is not known"),
     (Refusal::NoFirstNameByte, "the first name byte is 0"),
@@ -89,6 +91,10 @@ const TABLE: [(Refusal, &str); 21] = [
     (Refusal::NoRoom, "fewer free sectors than the save takes"),
     (Refusal::ShortBuffer, "a lent output buffer is too short"),
     (Refusal::NoSuchSector, "no such drive, track or sector"),
+    (
+        Refusal::WasteSectors,
+        "carried kind, and the count is above the least that its length needs (waste sectors behind the file)",
+    ),
 ];
 
 impl Refusal {
@@ -98,7 +104,7 @@ impl Refusal {
         Some(TABLE.get(row).map_or(Refusal::Unlisted(number), |(refusal, _)| *refusal))
     }
 
-    /// Document 01's number of this refusal.
+    /// The number of this refusal.
     ///
     /// ```
     /// assert_eq!(varnucht::Refusal::NotFound.number(), 15);
@@ -114,7 +120,7 @@ impl Refusal {
         }
     }
 
-    /// Document 01's words: when this refusal is given.
+    /// The papers' words: when this refusal is given.
     ///
     /// ```
     /// assert_eq!(varnucht::Refusal::NotFound.words(), "no live slot has the name");

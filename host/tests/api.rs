@@ -69,6 +69,15 @@ fn damaged(changes: &[(usize, u8)]) -> Image {
     image
 }
 
+/// The pair with a body of so many bytes in slot 2, which has two sectors: by its slot and by its header.
+fn shortened(length: u16) -> Disk {
+    let [low, high] = length.to_le_bytes();
+    let mut image = damaged(&[(240, low), (241, high)]);
+    // ONE has bits 0 and 1, so TWO begins at track 4, sector 3.
+    image.as_bytes_mut()[82 * 512 + 1..][..2].copy_from_slice(&[low, high]);
+    Disk::open(image).expect("it is sound")
+}
+
 /// The number, the slot and the words of a refusal.
 fn parts(refused: Refused) -> (u8, u16, String) {
     (

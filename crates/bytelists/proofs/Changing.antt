@@ -14,7 +14,7 @@ use Rattle.buffers.specs.Bytes.{part, put}
 use Rattle.buffers.proofs.Lists.{below-or-not, length-put, put-none, part-put}
 use Rattle.refusals.specs.Order.{refuse, Reply, _else_, row}
 use Rattle.refusals.specs.Answers.{Outcome, done, refused}
-use Rattle.slots.specs.Slot.{carried, protected}
+use Rattle.slots.specs.Slot.{carried, protected, sectorsFor}
 use Rattle.slots.specs.Name.{askable, padded}
 use Rattle.chains.specs.File.{File}
 use Rattle.directory.specs.Directory.{held, Directory}
@@ -26,7 +26,7 @@ use Rattle.disk.specs.Check.{checkDisk}
 use Rattle.files.specs.Calls.{fileAt}
 use Rattle.steps.specs.Steps.{enact, numbers}
 use Rattle.plans.specs.Change.{Wish, Change, save, erase, rename, mark, marked, between, usable}
-use Rattle.plans.specs.Saving.{sectorsFor, taken, lowestSlot, slotTaken}
+use Rattle.plans.specs.Saving.{taken, lowestSlot, slotTaken}
 use Rattle.plans.specs.Plan.{touch, saveSteps, Plan, no, go, orNo, byName, nameTaken, isProtected, saveReply, planOf, plan, Result, stopped, made, settle, checked, run, Changed, changed, changedBy, change}
 use Rattle.plans.proofs.Free.{taken-long}
 use Rattle.plans.proofs.Refused.{save-long}

@@ -2,16 +2,20 @@
 use Prim.Native.Nat.{ℕ, _+_, _*_, _/_, _%_, _≤_}
 use mathlib.Core.Path.{_≡_, refl, sym, ap, ap₂, _∙_, subst}
 use mathlib.Core.List.{List, [], _∷_, _++_}
+use mathlib.Core.Option.{none}
 use native.Mathlib.Omega.{arith}
 use lib.ListN.{length, take, drop, take-append-drop}
 use Rattle.buffers.specs.Bytes.{part, put}
 use Rattle.buffers.proofs.Lists.{part-put}
 use Rattle.refusals.specs.Order.{Refusal}
 use Rattle.refusals.specs.Answers.{done, refused}
+use Rattle.disk.specs.Check.{checkRelease}
+use Rattle.steps.specs.Sectors.{cut}
 use Rattle.plans.specs.Change.{Change}
 use Rattle.plans.specs.Plan.{Result, stopped, made, run, finds}
 use Rattle.plans.specs.Safe.{Safe}
 use Rattle.plans.proofs.Demand3.{crash, run-room}
+use Rattle.plans.proofs.Released.{cut-released}
 use Rattle.bytelists.specs.Lists.{inBytes, numbersIn, changingBy, changing}
 use Rattle.bytelists.proofs.Pairs.{length-pairs}
 
@@ -30,19 +34,31 @@ put-back b ss h =
     ap (λ (y : List ℕ). take (length ss) (numbersIn y)) e ∙ pairs-back ss (drop (length x) (put b 0 x))
 
 module _ (c : Change) (d b : List ℕ) where
-  -- whatever change, disk and list: where the call answers how many, the first so many numbers of the list at return are its
-  -- sectors, and the image at return is the new disk
-  pub crash-bytes : (n f : ℕ) → changing c d b .outcome ≡ done n f → Safe (finds c) d (changing c d b .image) (take n (numbersIn (changing c d b .list)))
+  -- what holds of the new disk and the sectors named, holds where the call answers how many of the image at return and the first
+  -- so many numbers of the list at return
+  call-of : (P : List ℕ → List ℕ → Type 0) → ((new ss : List ℕ) → run c d (length b / 2) ≡ made new ss → P new ss) → (n f : ℕ) → changing c d b .outcome ≡ done n f
+      → P (changing c d b .image) (take n (numbersIn (changing c d b .list)))
   unfolding changing
-  crash-bytes n f e = by (run c d (length b / 2)) refl e
+  call-of P h n f e = by (run c d (length b / 2)) refl e
     where
-      by : (x : Result) → run c d (length b / 2) ≡ x → changingBy x d b .outcome ≡ done n f → Safe (finds c) d (changingBy x d b .image) (take n (numbersIn (changingBy x d b .list)))
+      by : (x : Result) → run c d (length b / 2) ≡ x → changingBy x d b .outcome ≡ done n f → P (changingBy x d b .image) (take n (numbersIn (changingBy x d b .list)))
       by (stopped r) q w = let z : _≡_ {A = ℕ} 0 1 = cc in absurd (omega arith)
       by (made new ss) q w =
           let m : length ss ≡ n = cc in
           let r = run-room c d (length b / 2) new ss q in
           let t : take n (numbersIn (put b 0 (inBytes ss))) ≡ ss = ap (λ (k : ℕ). take k (numbersIn (put b 0 (inBytes ss)))) (sym m) ∙ put-back b ss (omega (arith, r .fits)) in
-          subst (Safe (finds c) d new) (sym t) (crash c d (length b / 2) new ss (r .accepted) q)
+          subst (P new) (sym t) (h new ss q)
+
+  -- whatever change, disk and list: where the call answers how many, the first so many numbers of the list at return are its
+  -- sectors, and the image at return is the new disk
+  pub crash-bytes : (n f : ℕ) → changing c d b .outcome ≡ done n f → Safe (finds c) d (changing c d b .image) (take n (numbersIn (changing c d b .list)))
+  crash-bytes = call-of (Safe (finds c) d) (λ new ss q. crash c d (length b / 2) new ss (run-room c d (length b / 2) new ss q .accepted) q)
+
+  -- and where the release check accepted the disk, it accepts every cut of the change
+  pub released-bytes : checkRelease d ≡ none → (n f : ℕ) → changing c d b .outcome ≡ done n f
+      → (k : ℕ) → k ≤ length (take n (numbersIn (changing c d b .list))) → checkRelease (cut d (changing c d b .image) (take n (numbersIn (changing c d b .list))) k) ≡ none
+  released-bytes ok =
+      call-of (λ (new ss : List ℕ). (k : ℕ) → k ≤ length ss → checkRelease (cut d new ss k) ≡ none) (λ new ss q. cut-released d ok (length b / 2) new ss c q)
 
   -- a refused call changes neither
   pub refused-bytes : (r : Refusal) → changing c d b .outcome ≡ refused r → (changing c d b .image ≡ d) × (changing c d b .list ≡ b)

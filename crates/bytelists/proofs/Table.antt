@@ -1,4 +1,4 @@
--- Refusals of the table at slots of the directory: the check gives no other.
+-- Refusals of the table at slots of the directory: the checks give no other.
 use Prim.Native.Nat.{ℕ, suc, _≤_, _<_}
 use mathlib.Core.Path.{_≡_, refl, sym, subst}
 use mathlib.Core.Bool.{Bool, true, false, cond, not, _&&_}
@@ -16,8 +16,8 @@ use Rattle.chains.specs.File.{File}
 use Rattle.directory.specs.Places.{slots}
 use Rattle.directory.specs.Directory.{held}
 use Rattle.disk.specs.Look.{Look}
-use Rattle.disk.specs.Check.{checkLook}
-use Rattle.disk.specs.Given.{rows9, rows11}
+use Rattle.disk.specs.Check.{checkBy, checkLook}
+use Rattle.disk.specs.Given.{rowsBy, rows11}
 use Rattle.disk.proofs.Order.{passAt, pass, check-passes}
 
 -- a refusal of the table at a slot of the directory, or none
@@ -61,8 +61,15 @@ small-pass l rs h = small-sweep slots (passAt l rs) (λ i k. by i k (l .files i)
     by i k none = tt
     by i k (some f) = small-rows (suc i) (rs i f) (omega arith) (h i f)
 
+pub small-by : (release : Bool) (l : Look) → Small (checkBy release l)
+small-by release l =
+    subst Small (sym (check-passes release l))
+    (small-else (row 1 0 (not (eqb (l .long) imageSize))) (pass l (rowsBy release l) else pass l (rows11 l)) (small-row 1 0 (not (eqb (l .long) imageSize)) (omega arith) (omega arith))
+    (small-else (pass l (rowsBy release l)) (pass l (rows11 l)) (small-pass l (rowsBy release l) (by release)) (small-pass l (rows11 l) (λ i f. refl))))
+  where
+    by : (release : Bool) (i : ℕ) (f : File) → few (rowsBy release l i f) ≡ true
+    by true i f = refl
+    by false i f = refl
+
 pub check-small : (l : Look) → Small (checkLook l)
-check-small l =
-    subst Small (sym (check-passes l))
-    (small-else (row 1 0 (not (eqb (l .long) imageSize))) (pass l (rows9 l) else pass l (rows11 l)) (small-row 1 0 (not (eqb (l .long) imageSize)) (omega arith) (omega arith))
-    (small-else (pass l (rows9 l)) (pass l (rows11 l)) (small-pass l (rows9 l) (λ i f. refl)) (small-pass l (rows11 l) (λ i f. refl))))
+check-small l = small-by false l

@@ -39,7 +39,7 @@ fn put_text(page: &mut [u8], input: &[u8]) -> usize
             },
         );
     }
-    let seen = directory::survey_slots(input);
+    let seen = directory::survey_slots(input, false);
     let verdict = seen.verdict;
     match verdict {
         Verdict::Unsound(refused) => lines::put_refusal(page, refused),

@@ -13,18 +13,18 @@ use lib.ListN.{length, getD}
 use Rattle.buffers.proofs.Counts.{any-none, none-any}
 use Rattle.buffers.specs.Bytes.{any}
 use Rattle.maps.specs.Bits.{has, bitsOf, share, clear, join}
-use Rattle.refusals.specs.Order.{refuse, _else_, Row, rows, sweepFrom, rises}
+use Rattle.refusals.specs.Order.{refuse, Reply, _else_, Row, rows, sweepFrom, rises}
 use Rattle.refusals.specs.Answers.{refusalOf, replyOf}
 use Rattle.refusals.specs.declared.Refused.{Refused}
 use Rattle.refusals.specs.declared.Verdict.{Verdict}
 use Rattle.refusals.specs.declared.Verdict.the-variants.{Sound, Unsound}
-use Rattle.refusals.proofs.First.{rows-clear, clear-rows, sweep-start, sweep-stop, sweep-none, none-sweep, none-sweepFrom}
-use Rattle.slots.specs.Slot.{kindOf, countOf, firstOf, nameOf, mapOf, facts, known, carried, lengthOf}
+use Rattle.refusals.proofs.First.{else-none, rows-clear, clear-rows, sweep-start, sweep-stop, sweep-none, none-sweep, none-sweepFrom}
+use Rattle.slots.specs.Slot.{Facts, kindOf, countOf, firstOf, nameOf, mapOf, facts, known, carried, lengthOf}
 use Rattle.slots.specs.Name.{sameName}
-use Rattle.slots.specs.Rows.{own, ownReply, dataCount}
+use Rattle.slots.specs.Rows.{own, ownReply, wasteful, strict, dataCount}
 use Rattle.directory.specs.Places.{slots}
 use Rattle.directory.specs.Directory.{held, Directory, slotsRead, directory, liveAmong}
-use Rattle.directory.specs.Survey.{earlier, cross, surveyAt, survey, union, counted, usedMap, refusedWith}
+use Rattle.directory.specs.Survey.{earlier, cross, rowsAt, surveyAt, surveyBy, survey, union, counted, usedMap, refusedWith}
 use Rattle.directory.specs.Steps.{Apart, Keyed, Reached, Surveyed}
 use Rattle.directory.specs.declared.Survey.{Survey}
 use Rattle.directory.specs.declared.UsedMap.{UsedMap}
@@ -65,44 +65,71 @@ rows-append s (r ∷ a) b = by (r .holds) (rows-append s a b)
     by false e = e
 
 -- "at a slot the lowest number": the rows stand in the order of their numbers
-pub survey-rises : (n : ℕ) (v : Directory) (i : ℕ) (s : List ℕ) → rises (own n (facts s) ++ cross v i s) ≡ true
+pub survey-rises : (n : ℕ) (v : Directory) (i : ℕ) (s : List ℕ) → rises (rowsAt false n v i s) ≡ true
 survey-rises n v i s = refl
 
-pub survey-dead : (n : ℕ) (v : Directory) (i : ℕ) → v i ≡ none → surveyAt n v i ≡ none
+pub survey-dead : (release : Bool) (n : ℕ) (v : Directory) (i : ℕ) → v i ≡ none → surveyAt release n v i ≡ none
 unfolding surveyAt
-survey-dead n v i e = rw e
+survey-dead release n v i e = rw e
 
-pub survey-live : (n : ℕ) (v : Directory) (i : ℕ) (s : List ℕ) → v i ≡ some s → surveyAt n v i ≡ (ownReply n (suc i) s else rows (suc i) (cross v i s))
+pub survey-live : (release : Bool) (n : ℕ) (v : Directory) (i : ℕ) (s : List ℕ) → v i ≡ some s
+    → surveyAt release n v i ≡ (ownReply n (suc i) s else rows (suc i) (strict release (facts s)) else rows (suc i) (cross v i s))
 unfolding surveyAt ownReply
-survey-live n v i s e = rw e (rows-append (suc i) (own n (facts s)) (cross v i s))
+survey-live release n v i s e =
+    rw e (rows-append (suc i) (own n (facts s)) (strict release (facts s) ++ cross v i s))
+    ∙ ap (λ (q : Reply). ownReply n (suc i) s else q) (rows-append (suc i) (strict release (facts s)) (cross v i s))
+
+-- row 22 by whether it is asked for
+strict-row : (release : Bool) (x : Facts) (s : ℕ) (q : Reply) → (rows s (strict release x) else q) ≡ cond (release && wasteful x) (some (refuse 22 s)) q
+strict-row false x s q = refl
+strict-row true x s q = by (wasteful x)
+  where
+    by : (t : Bool) → (cond t (some (refuse 22 s)) none else q) ≡ cond t (some (refuse 22 s)) q
+    by true = refl
+    by false = refl
 
 -- as the code meets a live slot: the verdict r on its own rows, the used map u so far
-module _ (v : Directory) (i : ℕ) (s u : List ℕ) (here : v i ≡ some s) (used : u ≡ union v i) (r : Verdict) (own-is : replyOf r ≡ ownReply 0 (i + 1) s) where
-  at-slot : surveyAt 0 v i
-      ≡ (replyOf r else cond (share u (mapOf s)) (some (refuse 8 (i + 1))) (cond (earlier v i (λ t. sameName (nameOf t) (nameOf s))) (some (refuse 9 (i + 1))) none))
-  at-slot = survey-live 0 v i s here ∙ rw (own-is, add-one, used, share-union v i (mapOf s))
+module _ (release : Bool) (v : Directory) (i : ℕ) (s u : List ℕ) (here : v i ≡ some s) (used : u ≡ union v i) (r : Verdict) (own-is : replyOf r ≡ ownReply 0 (i + 1) s) where
+  at-slot : surveyAt release 0 v i
+      ≡ (replyOf r else cond (release && wasteful (facts s)) (some (refuse 22 (i + 1)))
+      (cond (share u (mapOf s)) (some (refuse 8 (i + 1))) (cond (earlier v i (λ t. sameName (nameOf t) (nameOf s))) (some (refuse 9 (i + 1))) none)))
+  at-slot =
+      survey-live release 0 v i s here
+      ∙ ap (λ (q : Reply). ownReply 0 (suc i) s else q) (strict-row release (facts s) (suc i) (rows (suc i) (cross v i s)))
+      ∙ rw (own-is, add-one, used, share-union v i (mapOf s))
 
-  pub slot-own : (f : Refused) → r ≡ Unsound f → replyOf (Unsound f) ≡ surveyAt 0 v i
+  pub slot-own : (f : Refused) → r ≡ Unsound f → replyOf (Unsound f) ≡ surveyAt release 0 v i
   slot-own f e = sym (at-slot ∙ rw e)
 
-  -- its own rows hold nowhere; q says whether its map m shares a bit with the used map
-  module _ (e : r ≡ Sound) {m : List ℕ} (em : m ≡ mapOf s) {q : Bool} (eq : q ≡ share u m) where
+  -- its own rows hold nowhere
+  pub slot-waste : r ≡ Sound → (release && wasteful (facts s)) ≡ true → some (refuse 22 (i + 1)) ≡ surveyAt release 0 v i
+  slot-waste e z = sym (at-slot ∙ rw (e, z))
+
+  -- nor does row 22; q says whether its map m shares a bit with the used map
+  module _ (e : r ≡ Sound) (z : (release && wasteful (facts s)) ≡ false) {m : List ℕ} (em : m ≡ mapOf s) {q : Bool} (eq : q ≡ share u m) where
     shares : {t : Bool} → q ≡ t → share u (mapOf s) ≡ t
     shares w = ap (share u) (sym em) ∙ sym eq ∙ w
 
-    pub slot-shared : q ≡ true → some (refuse 8 (i + 1)) ≡ surveyAt 0 v i
-    slot-shared w = sym (at-slot ∙ rw (e, shares w))
+    pub slot-shared : q ≡ true → some (refuse 8 (i + 1)) ≡ surveyAt release 0 v i
+    slot-shared w = sym (at-slot ∙ rw (e, z, shares w))
 
     -- p says whether a slot before it has its name n
     module _ (w : q ≡ false) {n : List ℕ} (en : n ≡ nameOf s) {p : Bool} (ep : p ≡ earlier v i (λ t. sameName (nameOf t) n)) where
       twice : {t : Bool} → p ≡ t → earlier v i (λ t. sameName (nameOf t) (nameOf s)) ≡ t
       twice x = ap (λ (l : List ℕ). earlier v i (λ t. sameName (nameOf t) l)) (sym en) ∙ sym ep ∙ x
 
-      pub slot-twice : p ≡ true → some (refuse 9 (i + 1)) ≡ surveyAt 0 v i
-      slot-twice x = sym (at-slot ∙ rw (e, shares w, twice x))
+      pub slot-twice : p ≡ true → some (refuse 9 (i + 1)) ≡ surveyAt release 0 v i
+      slot-twice x = sym (at-slot ∙ rw (e, z, shares w, twice x))
 
-      pub slot-clear : p ≡ false → none ≡ surveyAt 0 v i
-      slot-clear x = sym (at-slot ∙ rw (e, shares w, twice x))
+      pub slot-clear : p ≡ false → none ≡ surveyAt release 0 v i
+      slot-clear x = sym (at-slot ∙ rw (e, z, shares w, twice x))
+
+-- a slot that either pass leaves is one that the first leaves
+pub plain-at : (release : Bool) (n : ℕ) (v : Directory) (i : ℕ) (s : List ℕ) → v i ≡ some s → surveyAt release n v i ≡ none → surveyAt false n v i ≡ none
+plain-at release n v i s e h =
+    let a = else-none (ownReply n (suc i) s) (rows (suc i) (strict release (facts s)) else rows (suc i) (cross v i s)) (sym (survey-live release n v i s e) ∙ h) in
+    let b = else-none (rows (suc i) (strict release (facts s))) (rows (suc i) (cross v i s)) (a .1) in
+    survey-live false n v i s e ∙ rw (a .0, b .1)
 
 -- ---- a live slot at which no row holds
 
@@ -117,10 +144,10 @@ pub record Passed (n : ℕ) (v : Directory) (i : ℕ) (s : List ℕ) : Type 0 wh
   pub unshared : earlier v i (λ t. share (mapOf t) (mapOf s)) ≡ false
   pub single : earlier v i (λ t. sameName (nameOf t) (nameOf s)) ≡ false
 
-pub passed-at : (n : ℕ) (v : Directory) (i : ℕ) (s : List ℕ) → v i ≡ some s → surveyAt n v i ≡ none → Passed n v i s
+pub passed-at : (n : ℕ) (v : Directory) (i : ℕ) (s : List ℕ) → v i ≡ some s → surveyAt false n v i ≡ none → Passed n v i s
 unfolding surveyAt facts
 passed-at n v i s e h =
-    let c = rows-clear (suc i) (own n (facts s) ++ cross v i s) (rw e at h) in
+    let c = rows-clear (suc i) (rowsAt false n v i s) (rw e at h) in
     let r = and-eq-true-iff (leb 1 (countOf s)) (leb (countOf s) (dataCount n)) .0 (not-false _ (c .1 .1 .0)) in
     record {
       kind = not-false (known (kindOf s)) (c .0);
@@ -134,31 +161,31 @@ passed-at n v i s e h =
       single = c .1 .1 .1 .1 .1 .1 .1 .0;
     }
 
-pub at-passed : (n : ℕ) (v : Directory) (i : ℕ) (s : List ℕ) → v i ≡ some s → Passed n v i s → surveyAt n v i ≡ none
+pub at-passed : (n : ℕ) (v : Directory) (i : ℕ) (s : List ℕ) → v i ≡ some s → Passed n v i s → surveyAt false n v i ≡ none
 unfolding surveyAt facts
 at-passed n v i s e h =
     rw e
-    (clear-rows (suc i) (own n (facts s) ++ cross v i s)
+    (clear-rows (suc i) (rowsAt false n v i s)
     (rw (h .kind), (h .named, (rw (le-leb 1 (countOf s) (h .least), le-leb (countOf s) (dataCount n) (h .most)), (rw (eq-eqb (bitsOf (mapOf s)) (countOf s) (h .bits)), (rw (h .first), (h .fits, (h .unshared, (h .single, tt)))))))))
 
 -- every live slot of a directory that is not refused
 pub survey-passed : (n : ℕ) (v : Directory) → survey n v ≡ none → (i : ℕ) (s : List ℕ) → i < slots → v i ≡ some s → Passed n v i s
-unfolding survey
-survey-passed n v e i s h p = passed-at n v i s p (sweep-none slots (surveyAt n v) e i h)
+unfolding surveyBy
+survey-passed n v e i s h p = passed-at n v i s p (sweep-none slots (surveyAt false n v) e i h)
 
 pub passed-survey : (n : ℕ) (v : Directory) → ((i : ℕ) (s : List ℕ) → i < slots → v i ≡ some s → Passed n v i s) → survey n v ≡ none
-unfolding survey
-passed-survey n v h = none-sweep slots (surveyAt n v) (λ i l. by i l (v i) refl)
+unfolding surveyBy
+passed-survey n v h = none-sweep slots (surveyAt false n v) (λ i l. by i l (v i) refl)
   where
-    by : (i : ℕ) → i < slots → (o : Option (List ℕ)) → v i ≡ o → surveyAt n v i ≡ none
-    by i l none p = survey-dead n v i p
+    by : (i : ℕ) → i < slots → (o : Option (List ℕ)) → v i ≡ o → surveyAt false n v i ≡ none
+    by i l none p = survey-dead false n v i p
     by i l (some s) p = at-passed n v i s p (h i s l p)
 
 -- ---- the pass, turn by turn: the used map so far, and the reply of the slots from i on
 
-pub survey-start : (n : ℕ) (v : Directory) → survey n v ≡ sweepFrom (slots - 0) 0 (surveyAt n v)
-unfolding survey
-survey-start n v = sweep-start slots (surveyAt n v)
+pub survey-start : (release : Bool) (n : ℕ) (v : Directory) → surveyBy release n v ≡ sweepFrom (slots - 0) 0 (surveyAt release n v)
+unfolding surveyBy
+survey-start release n v = sweep-start slots (surveyAt release n v)
 
 pub used-start : (v : Directory) (u : UsedMap) → u ≡ counted clear → u ≡ counted (union v 0)
 unfolding union
@@ -173,10 +200,10 @@ module _ (d : List ℕ) (i : ℕ) (u : UsedMap) (used : u ≡ counted (union (di
 
   -- past its rows: m is its map, k its count
   module _ {m : List ℕ} (em : m ≡ mapOf s) where
-    pub apart : {k : ℕ} → k ≡ countOf s → surveyAt 0 (directory d) i ≡ none → Apart u m k
-    apart ek e =
+    pub apart : {k : ℕ} → k ≡ countOf s → (release : Bool) → surveyAt release 0 (directory d) i ≡ none → Apart u m k
+    apart ek release e =
         let c = counted-bytes (union (directory d) i) u used in
-        let h = passed-at 0 (directory d) i s here e in
+        let h = passed-at 0 (directory d) i s here (plain-at release 0 (directory d) i s here e) in
         record {
           long = ap length c ∙ length-union (directory d) i;
           count = counted-count (union (directory d) i) u used ∙ ap bitsOf (sym c);
@@ -190,20 +217,22 @@ module _ (d : List ℕ) (i : ℕ) (u : UsedMap) (used : u ≡ counted (union (di
         ∙ ap counted (sym (union-live (directory d) i s here))
 
 -- what the pass gives: at a slot that is refused, and at the end
-module _ (d : List ℕ) (r : Survey) (i : ℕ) (left : survey 0 (directory d) ≡ sweepFrom (slots - i) i (surveyAt 0 (directory d))) where
-  pub pass-stops : (f : Refused) → i < slotsRead d → replyOf (Unsound f) ≡ surveyAt 0 (directory d) i → r ≡ refusedWith (Unsound f) → Surveyed d r
+module _ (release : Bool) (d : List ℕ) (r : Survey) (i : ℕ) (left : surveyBy release 0 (directory d) ≡ sweepFrom (slots - i) i (surveyAt release 0 (directory d))) where
+  pub pass-stops : (f : Refused) → i < slotsRead d → replyOf (Unsound f) ≡ surveyAt release 0 (directory d) i → r ≡ refusedWith (Unsound f)
+      → Surveyed (surveyBy release 0 (directory d)) d r
   unfolding refusedWith
   pass-stops f h e p =
-      let z : survey 0 (directory d) ≡ some (refusalOf f) = left ∙ sweep-stop slots i (surveyAt 0 (directory d)) (refusalOf f) (omega (arith, read-most d)) (sym e) in
+      let z : surveyBy release 0 (directory d) ≡ some (refusalOf f) = left ∙ sweep-stop slots i (surveyAt release 0 (directory d)) (refusalOf f) (omega (arith, read-most d)) (sym e) in
       record { reply = rw (p, z); used = rw (p, z); files = rw (p, z) }
 
   -- past the slots that are read no row holds
-  pub pass-ends : slotsRead d ≤ i → i ≤ slots → r .verdict ≡ Sound → r .used ≡ counted (union (directory d) i) → r .files ≡ liveAmong (directory d) i → Surveyed d r
+  pub pass-ends : slotsRead d ≤ i → i ≤ slots → r .verdict ≡ Sound → r .used ≡ counted (union (directory d) i) → r .files ≡ liveAmong (directory d) i
+      → Surveyed (surveyBy release 0 (directory d)) d r
   unfolding usedMap
   pass-ends h l p w f =
       let n : i + (slots - i) ≡ slots = omega arith in
       let dead : (j : ℕ) → i ≤ j → directory d j ≡ none = λ j k. directory-unread d j (omega arith) in
-      let z : survey 0 (directory d) ≡ none = left ∙ none-sweepFrom (slots - i) i (surveyAt 0 (directory d)) (λ j k m. survey-dead 0 (directory d) j (dead j k)) in
+      let z : surveyBy release 0 (directory d) ≡ none = left ∙ none-sweepFrom (slots - i) i (surveyAt release 0 (directory d)) (λ j k m. survey-dead release 0 (directory d) j (dead j k)) in
       record {
         reply = rw (p, z);
         used = rw z (w ∙ ap counted (sym (ap (union (directory d)) (sym n) ∙ union-rest (directory d) i (slots - i) dead)));
@@ -211,11 +240,11 @@ module _ (d : List ℕ) (r : Survey) (i : ℕ) (left : survey 0 (directory d) �
       }
 
 -- what its caller learns by the verdict
-pub surveyed-sound : (d : List ℕ) (r : Survey) → Surveyed d r → r .verdict ≡ Sound
-    → (survey 0 (directory d) ≡ none) × (r .used ≡ usedMap (directory d)) × (r .files ≡ liveAmong (directory d) slots)
-surveyed-sound d r h e =
-    let z : survey 0 (directory d) ≡ none = sym (h .reply) ∙ ap replyOf e in
+pub surveyed-sound : (q : Reply) (d : List ℕ) (r : Survey) → Surveyed q d r → r .verdict ≡ Sound
+    → (q ≡ none) × (r .used ≡ usedMap (directory d)) × (r .files ≡ liveAmong (directory d) slots)
+surveyed-sound q d r h e =
+    let z : q ≡ none = sym (h .reply) ∙ ap replyOf e in
     (z, h .used ∙ rw z, h .files ∙ rw z)
 
-pub surveyed-unsound : (d : List ℕ) (r : Survey) (f : Refused) → Surveyed d r → r .verdict ≡ Unsound f → survey 0 (directory d) ≡ some (refusalOf f)
-surveyed-unsound d r f h e = sym (h .reply) ∙ ap replyOf e
+pub surveyed-unsound : (q : Reply) (d : List ℕ) (r : Survey) (f : Refused) → Surveyed q d r → r .verdict ≡ Unsound f → q ≡ some (refusalOf f)
+surveyed-unsound q d r f h e = sym (h .reply) ∙ ap replyOf e

@@ -6,11 +6,12 @@ use mathlib.Core.List.{List}
 use mathlib.Core.Option.{some}
 use lib.ListN.{length, getD}
 use Rattle.maps.specs.Bits.{bitsOf, share}
+use Rattle.refusals.specs.Order.{Reply}
 use Rattle.refusals.specs.Answers.{replyOf}
 use Rattle.slots.specs.Slot.{nameOf}
 use Rattle.slots.specs.Name.{keyOf}
 use Rattle.directory.specs.Directory.{slotsRead, directory}
-use Rattle.directory.specs.Survey.{survey, union, usedOr, filesOr}
+use Rattle.directory.specs.Survey.{union, usedOr, filesOr}
 use Rattle.directory.specs.declared.Survey.{Survey}
 use Rattle.directory.specs.declared.UsedMap.{UsedMap}
 
@@ -33,8 +34,9 @@ pub record Apart (u : UsedMap) (m : List ℕ) (own : ℕ) : Type 0 where
   pub own-count : own ≡ bitsOf m
   pub apart : share (u .bytes) m ≡ false
 
--- the reply to rows 2 to 9, and the used map and the number of files of a directory that is not refused
-pub record Surveyed (d : List ℕ) (r : Survey) : Type 0 where
-  pub reply : replyOf (r .verdict) ≡ survey 0 (directory d)
-  pub used : r .used ≡ usedOr (survey 0 (directory d)) (directory d)
-  pub files : r .files ≡ filesOr (survey 0 (directory d)) (directory d)
+-- a pass's or a check's reply q, and the used map and the number of files of a disk that it does not refuse (a clear map and
+-- 0 of another)
+pub record Surveyed (q : Reply) (d : List ℕ) (r : Survey) : Type 0 where
+  pub reply : replyOf (r .verdict) ≡ q
+  pub used : r .used ≡ usedOr q (directory d)
+  pub files : r .files ≡ filesOr q (directory d)

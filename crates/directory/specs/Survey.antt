@@ -1,4 +1,5 @@
--- The pass over rows 2 to 9, a function of the directory alone, and the used map.
+-- The pass over rows 2 to 9, a function of the directory alone, and the used map. One pass serves both checks: `release` says
+-- whether it is that of the release check, which has row 22 beside.
 use Prim.Native.Nat.{ℕ, zero, suc, _-_}
 use mathlib.Core.Bool.{Bool, false}
 use mathlib.Core.List.{List, [], _∷_, _++_}
@@ -8,7 +9,7 @@ use Rattle.maps.specs.Bits.{bitsOf, share, clear, join}
 use Rattle.refusals.specs.Order.{Row, _when_, Reply, rows, sweep}
 use Rattle.slots.specs.Slot.{nameOf, mapOf, facts}
 use Rattle.slots.specs.Name.{sameName}
-use Rattle.slots.specs.Rows.{own, dataCount}
+use Rattle.slots.specs.Rows.{own, strict, dataCount}
 use Rattle.directory.specs.Places.{slots}
 use Rattle.directory.specs.Directory.{held, Directory, liveAmong}
 use Rattle.refusals.specs.declared.Verdict.{Verdict}
@@ -28,13 +29,20 @@ cross v i s =
     ∷ (9 when earlier v i (λ t. sameName (nameOf t) (nameOf s)))
     ∷ []
 
--- rows 2 to 9 at slot i, with n directory tracks beyond the four: "at a slot the lowest number"
-unfoldable pub surveyAt : ℕ → Directory → ℕ → Reply
-surveyAt n v i = held none (λ s. rows (suc i) (own n (facts s) ++ cross v i s)) (v i)
+-- rows 2 to 9 of the live slot i, with n directory tracks beyond the four, and 22 "directly after 7"
+abbrev pub rowsAt : Bool → ℕ → Directory → ℕ → List ℕ → List Row
+rowsAt release n v i s = own n (facts s) ++ (strict release (facts s) ++ cross v i s)
+
+-- the first of them that holds; in the first check, where their numbers rise, "at a slot the lowest number"
+unfoldable pub surveyAt : Bool → ℕ → Directory → ℕ → Reply
+surveyAt release n v i = held none (λ s. rows (suc i) (rowsAt release n v i s)) (v i)
 
 -- "then all slots for 2 to 9, lowest slot first"
-unfoldable pub survey : ℕ → Directory → Reply
-survey n v = sweep slots (surveyAt n v)
+unfoldable pub surveyBy : Bool → ℕ → Directory → Reply
+surveyBy release n v = sweep slots (surveyAt release n v)
+
+abbrev pub survey : ℕ → Directory → Reply
+survey n v = surveyBy false n v
 
 -- "The used map is the bitwise or of all live maps": of those among the first k slots,
 -- starting from "a map with all 195 bytes clear"

@@ -9,7 +9,7 @@ ghost use Rattle.slots.specs.Slot.{nameOf};
 ghost use Rattle.slots.specs.Name.{sameName};
 ghost use Rattle.directory.specs.Places.{slotPlace, dirSector};
 ghost use Rattle.directory.specs.Directory.{held, slotsRead, directory, slotOr};
-ghost use Rattle.directory.specs.Survey.{earlier, surveyAt, counted, freeOf, refusedWith};
+ghost use Rattle.directory.specs.Survey.{earlier, surveyAt, surveyBy, counted, freeOf, refusedWith};
 ghost use Rattle.directory.specs.Find.{find, foundAt};
 ghost use Rattle.directory.specs.Steps.{Apart, Keyed, Reached, Surveyed};
 use refusals::Reason;
@@ -104,16 +104,19 @@ fn named_before(dir: &[u8], i: usize, name: &[u8], keys: &[u64]) -> bool
     false
 }
 
-// Rows 2 to 9 at the live slot `i`, whose bytes are `s`; `used` is the used map of the slots before it, and `keys` are the
-// keys of their names.
-fn live_rows(dir: &[u8], i: usize, s: &[u8], used: &[u8], keys: &[u64]) -> Verdict
+// Rows 2 to 9 at the live slot `i`, whose bytes are `s`, and 22 after 7 where `release` asks for it; `used` is the used map
+// of the slots before it, and `keys` are the keys of their names.
+fn live_rows(dir: &[u8], i: usize, s: &[u8], used: &[u8], keys: &[u64], release: bool) -> Verdict
     requires { ⌜ Reached (now dir) i (now s) (now used) (now keys) ⌝ }
-    ensures { λ r. ⌜ replyOf r ≡ surveyAt 0 (directory (now (dir .entry))) i ⌝ }
+    ensures { λ r. ⌜ replyOf r ≡ surveyAt release 0 (directory (now (dir .entry))) i ⌝ }
 {
     let slot = i + 1;
     match slots::own_rows(s, slot) {
         Verdict::Unsound(f) => Verdict::Unsound(f),
         Verdict::Sound => {
+            if release && slots::is_wasteful(s) {
+                return refusals::unsound(Reason::WasteSectors, slot);
+            }
             if maps::shares(used, slots::map_of(s)) {
                 return refusals::unsound(Reason::SectorShared, slot);
             }
@@ -158,9 +161,9 @@ fn joined(used: UsedMap, map: &[u8], own: usize) -> UsedMap
     UsedMap { bytes, count }
 }
 
-// Rows 2 to 9 at all slots, the used map, and how many slots are live.
-pub fn survey_slots(dir: &[u8]) -> Survey
-    ensures { λ r. ⌜ Surveyed (now (dir .entry)) r ⌝ }
+// Rows 2 to 9 at all slots, with 22 where `release` asks for it, the used map, and how many slots are live.
+pub fn survey_slots(dir: &[u8], release: bool) -> Survey
+    ensures { λ r. ⌜ Surveyed (surveyBy release 0 (directory (now (dir .entry)))) (now (dir .entry)) r ⌝ }
 {
     let end = slots_read(dir);
     let mut used = unused();
@@ -172,7 +175,7 @@ pub fn survey_slots(dir: &[u8]) -> Survey
         let k = i;
         i += 1;
         if slots::is_live(s) {
-            match live_rows(dir, k, s, &used.bytes, &keys) {
+            match live_rows(dir, k, s, &used.bytes, &keys, release) {
                 Verdict::Unsound(f) => {
                     return refused(Verdict::Unsound(f));
                 }

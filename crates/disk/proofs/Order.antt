@@ -1,8 +1,8 @@
--- The check gives a refusal exactly when its row holds and none before it in the order does.
+-- Each check gives a refusal exactly when its row holds and none before it in the order does.
 use Prim.Native.Nat.{ℕ, suc}
 use mathlib.Core.Path.{_≡_, refl, sym, ap, _∙_}
 use mathlib.Core.Bool.{Bool, true, false, not}
-use mathlib.Core.List.{List, _++_}
+use mathlib.Core.List.{List}
 use mathlib.Core.Logic.{_⊎_, _≢_, ⊎-elim}
 use mathlib.Core.Option.{Option, none, some, Option·some-ne-none}
 use native.Mathlib.Omega.{arith}
@@ -10,20 +10,19 @@ use borrow.Author.Tests.{eqb-true, eqb-false, eq-eqb, ne-eqb}
 use lib.Dec.{eqb}
 use Rattle.refusals.specs.Order.{Refusal, refuse, Reply, _else_, row, rows, sweep, Row, Clear, FirstAt, Lowest}
 use Rattle.refusals.proofs.First.{else-none, else-some, rows-clear, clear-rows, rows-first, first-rows, sweep-none, none-sweep, sweep-cong, sweep-first, first-sweep}
-use Rattle.refusals.proofs.Lowest.{lowest-first, first-positive}
+use Rattle.refusals.proofs.Lowest.{lacks, lowest-first, first-lacks}
 use Rattle.geometry.specs.Disk.{imageSize}
 use Rattle.slots.specs.Slot.{facts}
-use Rattle.slots.specs.Rows.{own}
 use Rattle.chains.specs.File.{File}
 use Rattle.chains.specs.Chain.{laterReply}
 use Rattle.chains.proofs.Turns.{later-rises}
 use Rattle.directory.specs.Places.{slots}
 use Rattle.directory.specs.Directory.{held}
-use Rattle.directory.specs.Survey.{survey, surveyAt, cross}
+use Rattle.directory.specs.Survey.{rowsAt, surveyAt, surveyBy}
 use Rattle.directory.proofs.Pass.{survey-rises}
 use Rattle.disk.specs.Look.{Look, look, slotsOf, extra}
-use Rattle.disk.specs.Check.{chainAt, checkLook, checkDisk}
-use Rattle.disk.specs.Given.{rows9, rows11, AllClear, RowAt, Given, by-length, by-slot, by-chain}
+use Rattle.disk.specs.Check.{chainAt, checkBy, checkLook, checkDisk}
+use Rattle.disk.specs.Given.{rowsBy, rows9, rows11, AllClear, RowAt, GivenBy, Given, by-length, by-slot, by-chain}
 
 -- a pass over the live slots of a look
 abbrev pub passAt : Look → (ℕ → File → List Row) → ℕ → Reply
@@ -82,15 +81,15 @@ module _ (l : Look) (rs : ℕ → File → List Row) where
       named : (r : Refusal) (s : ℕ) → r .slot ≡ s → _≡_ {A = Refusal} (refuse (r .number) s) r
       named r s e = ap (refuse (r .number)) (sym e)
 
--- ---- the check as the passes over its rows
+-- ---- a check as the passes over its rows
 
-survey-pass : (l : Look) → survey (extra l) (slotsOf l) ≡ pass l (rows9 l)
-unfolding survey surveyAt slotsOf
-survey-pass l = sweep-cong slots (surveyAt (extra l) (slotsOf l)) (passAt l (rows9 l)) (λ j h. by j (l .files j))
+survey-pass : (release : Bool) (l : Look) → surveyBy release (extra l) (slotsOf l) ≡ pass l (rowsBy release l)
+unfolding surveyBy surveyAt slotsOf
+survey-pass release l = sweep-cong slots (surveyAt release (extra l) (slotsOf l)) (passAt l (rowsBy release l)) (λ j h. by j (l .files j))
   where
     by : (j : ℕ) (o : Option File)
-        → held none (λ s. rows (suc j) (own (extra l) (facts s) ++ cross (slotsOf l) j s)) (held none (λ f. some (f .bytes)) o)
-        ≡ held none (λ f. rows (suc j) (rows9 l j f)) o
+        → held none (λ s. rows (suc j) (rowsAt release (extra l) (slotsOf l) j s)) (held none (λ f. some (f .bytes)) o)
+        ≡ held none (λ f. rows (suc j) (rowsBy release l j f)) o
     by j none = refl
     by j (some f) = refl
 
@@ -98,9 +97,9 @@ chain-pass : (l : Look) → sweep slots (chainAt l) ≡ pass l (rows11 l)
 unfolding chainAt laterReply
 chain-pass l = refl
 
-pub check-passes : (l : Look) → checkLook l ≡ row 1 0 (not (eqb (l .long) imageSize)) else pass l (rows9 l) else pass l (rows11 l)
-unfolding checkLook
-check-passes l = rw (survey-pass l, chain-pass l)
+pub check-passes : (release : Bool) (l : Look) → checkBy release l ≡ row 1 0 (not (eqb (l .long) imageSize)) else pass l (rowsBy release l) else pass l (rows11 l)
+unfolding checkBy
+check-passes release l = rw (survey-pass release l, chain-pass l)
 
 length-none : (l : Look) → row 1 0 (not (eqb (l .long) imageSize)) ≡ none → l .long ≡ imageSize
 length-none l e = by (eqb (l .long) imageSize) refl e
@@ -116,38 +115,52 @@ length-some l r e = by (eqb (l .long) imageSize) refl e
     by true q w = absurd (Option·some-ne-none r (sym w))
     by false q w = (eqb-false (l .long) imageSize q, cc)
 
-pub record Accepted (l : Look) : Type 0 where
+pub record Accepted (release : Bool) (l : Look) : Type 0 where
   pub long : l .long ≡ imageSize
-  pub survey : AllClear l (rows9 l) slots
+  pub survey : AllClear l (rowsBy release l) slots
   pub chains : AllClear l (rows11 l) slots
 
--- no row holds
-pub accepted : (l : Look) → checkLook l ≡ none → Accepted l
-accepted l e =
-    let a = else-none (row 1 0 (not (eqb (l .long) imageSize))) (pass l (rows9 l) else pass l (rows11 l)) (sym (check-passes l) ∙ e) in
-    let b = else-none (pass l (rows9 l)) (pass l (rows11 l)) (a .1) in
-    record { long = length-none l (a .0); survey = pass-clear l (rows9 l) (b .0); chains = pass-clear l (rows11 l) (b .1) }
+module _ (release : Bool) (l : Look) where
+  -- no row holds
+  pub accepted-by : checkBy release l ≡ none → Accepted release l
+  accepted-by e =
+      let a = else-none (row 1 0 (not (eqb (l .long) imageSize))) (pass l (rowsBy release l) else pass l (rows11 l)) (sym (check-passes release l) ∙ e) in
+      let b = else-none (pass l (rowsBy release l)) (pass l (rows11 l)) (a .1) in
+      record { long = length-none l (a .0); survey = pass-clear l (rowsBy release l) (b .0); chains = pass-clear l (rows11 l) (b .1) }
 
-pub accepted-only : (l : Look) → Accepted l → checkLook l ≡ none
-accepted-only l w =
-    check-passes l
-    ∙ rw (eq-eqb (l .long) imageSize (w .long), clear-pass l (rows9 l) (w .survey), clear-pass l (rows11 l) (w .chains))
+  pub accepted-by-only : Accepted release l → checkBy release l ≡ none
+  accepted-by-only w =
+      check-passes release l
+      ∙ rw (eq-eqb (l .long) imageSize (w .long), clear-pass l (rowsBy release l) (w .survey), clear-pass l (rows11 l) (w .chains))
 
--- a refusal is the first in the order
+  -- a refusal is the first in the order
+  pub given-by : (r : Refusal) → checkBy release l ≡ some r → GivenBy release l r
+  given-by r e =
+      ⊎-elim (λ a. let c = length-some l r a in by-length (c .0) (c .1))
+      (λ a.
+      ⊎-elim (λ b. by-slot (length-none l (a .0)) (pass-first l (rowsBy release l) r b))
+      (λ b. by-chain (length-none l (a .0)) (pass-clear l (rowsBy release l) (b .0)) (pass-first l (rows11 l) r (b .1)))
+      (else-some (pass l (rowsBy release l)) (pass l (rows11 l)) r (a .1)))
+      (else-some (row 1 0 (not (eqb (l .long) imageSize))) (pass l (rowsBy release l) else pass l (rows11 l)) r (sym (check-passes release l) ∙ e))
+
+  pub given-by-only : (r : Refusal) → GivenBy release l r → checkBy release l ≡ some r
+  given-by-only r (by-length n e) = check-passes release l ∙ rw (ne-eqb (l .long) imageSize n, e)
+  given-by-only r (by-slot n w) = check-passes release l ∙ rw (eq-eqb (l .long) imageSize n, first-pass l (rowsBy release l) r w)
+  given-by-only r (by-chain n c w) =
+      check-passes release l ∙ rw (eq-eqb (l .long) imageSize n, clear-pass l (rowsBy release l) c, first-pass l (rows11 l) r w)
+
+-- of the check
+pub accepted : (l : Look) → checkLook l ≡ none → Accepted false l
+accepted l = accepted-by false l
+
+pub accepted-only : (l : Look) → Accepted false l → checkLook l ≡ none
+accepted-only l = accepted-by-only false l
+
 pub given : (l : Look) (r : Refusal) → checkLook l ≡ some r → Given l r
-given l r e =
-    ⊎-elim (λ a. let c = length-some l r a in by-length (c .0) (c .1))
-    (λ a.
-    ⊎-elim (λ b. by-slot (length-none l (a .0)) (pass-first l (rows9 l) r b))
-    (λ b. by-chain (length-none l (a .0)) (pass-clear l (rows9 l) (b .0)) (pass-first l (rows11 l) r (b .1)))
-    (else-some (pass l (rows9 l)) (pass l (rows11 l)) r (a .1)))
-    (else-some (row 1 0 (not (eqb (l .long) imageSize))) (pass l (rows9 l) else pass l (rows11 l)) r (sym (check-passes l) ∙ e))
+given l = given-by false l
 
 pub given-only : (l : Look) (r : Refusal) → Given l r → checkLook l ≡ some r
-given-only l r (by-length n e) = check-passes l ∙ rw (ne-eqb (l .long) imageSize n, e)
-given-only l r (by-slot n w) = check-passes l ∙ rw (eq-eqb (l .long) imageSize n, first-pass l (rows9 l) r w)
-given-only l r (by-chain n c w) =
-    check-passes l ∙ rw (eq-eqb (l .long) imageSize n, clear-pass l (rows9 l) c, first-pass l (rows11 l) r w)
+given-only l = given-by-only false l
 
 -- ---- the lowest number, and none is 0
 
@@ -160,11 +173,18 @@ row-lowest l r w =
 pub chain-lowest : (l : Look) (r : Refusal) (w : RowAt l (rows11 l) r) → Lowest (r .number) (rows11 l (w .at) (w .file))
 chain-lowest l r w = lowest-first (rows11 l (w .at) (w .file)) (r .number) (later-rises (facts (w .file .bytes)) (w .file .sectors)) .0 (w .number)
 
+pub positive-by : (release : Bool) (l : Look) (r : Refusal) → checkBy release l ≡ some r → r .number ≢ 0
+positive-by release l r e = by (given-by release l r e)
+  where
+    some-number : (release : Bool) (i : ℕ) (f : File) → lacks 0 (rowsBy release l i f) ≡ true
+    some-number true i f = refl
+    some-number false i f = refl
+
+    by : GivenBy release l r → r .number ≢ 0
+    by (by-length n q) = λ z. omega (arith, ap (λ (x : Refusal). x .number) q)
+    by (by-slot n w) = first-lacks 0 (rowsBy release l (w .at) (w .file)) (r .number) (some-number release (w .at) (w .file)) (w .number)
+    by (by-chain n c w) = first-lacks 0 (rows11 l (w .at) (w .file)) (r .number) refl (w .number)
+
 pub check-positive : (d : List ℕ) (r : Refusal) → checkDisk d ≡ some r → r .number ≢ 0
 unfolding checkDisk
-check-positive d r e = by (given (look d) r e)
-  where
-    by : Given (look d) r → r .number ≢ 0
-    by (by-length n q) = λ z. omega (arith, ap (λ (x : Refusal). x .number) q)
-    by (by-slot n w) = first-positive (rows9 (look d) (w .at) (w .file)) (r .number) (survey-rises (extra (look d)) (slotsOf (look d)) (w .at) (w .file .bytes)) (w .number)
-    by (by-chain n c w) = first-positive (rows11 (look d) (w .at) (w .file)) (r .number) (later-rises (facts (w .file .bytes)) (w .file .sectors)) (w .number)
+check-positive d = positive-by false (look d)

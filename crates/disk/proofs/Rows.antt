@@ -18,11 +18,11 @@ use Rattle.disk.specs.Sound.{Known, Carried, Agrees}
 -- ---- Booleans
 
 -- a test that fails where another holds
-guard : (a b : Bool) → (a && b) ≡ false → a ≡ true → b ≡ false
+pub guard : (a b : Bool) → (a && b) ≡ false → a ≡ true → b ≡ false
 guard true b e p = e
 guard false b e p = absurd (false≢true p)
 
-guarded : (a b : Bool) → (a ≡ true → b ≡ false) → (a && b) ≡ false
+pub guarded : (a b : Bool) → (a ≡ true → b ≡ false) → (a && b) ≡ false
 guarded true b h = h refl
 guarded false b h = refl
 

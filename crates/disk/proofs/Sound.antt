@@ -100,7 +100,7 @@ sound l e = record {
   names = λ i j f g k h q p. differ (nameOf (g .bytes)) (nameOf (f .bytes)) (earlier-none l i (λ t. sameName (nameOf t) (nameOf (f .bytes))) (parts i f h q .1 .1 .0) j g k p);
 }
   where
-    a : Accepted l
+    a : Accepted false l
     a = accepted l e
 
     parts : (i : ℕ) (f : File) → i < slots → l .files i ≡ some f → Clear (own (extra l) (facts (f .bytes))) × Clear (cross (slotsOf l) i (f .bytes))

@@ -1,17 +1,17 @@
--- The disk check: the first refusal of the table in its order. The words of document 01 stand above what they define.
+-- The disk check and the release check beside it: the first refusal of the table in its order. The words of documents 01 and 02
+-- stand above what they define.
 use Prim.Native.Nat.{ℕ, suc}
-use mathlib.Core.Bool.{not}
+use mathlib.Core.Bool.{Bool, true, false, not}
 use mathlib.Core.List.{List}
 use mathlib.Core.Option.{none}
-use mathlib.Core.Path.{_≡_}
 use lib.Dec.{eqb}
 use Rattle.refusals.specs.Order.{Reply, _else_, row, sweep}
-use Rattle.refusals.specs.Answers.{replyOf}
 use Rattle.geometry.specs.Disk.{imageSize}
 use Rattle.chains.specs.Chain.{laterReply}
 use Rattle.directory.specs.Places.{slots}
-use Rattle.directory.specs.Directory.{held, directory}
-use Rattle.directory.specs.Survey.{survey, usedOr, filesOr}
+use Rattle.directory.specs.Directory.{held}
+use Rattle.directory.specs.Survey.{surveyBy}
+use Rattle.directory.specs.Steps.{Surveyed}
 use Rattle.directory.specs.declared.Survey.{Survey}
 use Rattle.disk.specs.Look.{Look, look, slotsOf, extra}
 
@@ -20,14 +20,20 @@ unfoldable pub chainAt : Look → ℕ → Reply
 chainAt l i = held none (laterReply (suc i)) (l .files i)
 
 -- "Order: 1; then all slots for 2 to 9, lowest slot first, at a slot the lowest number; then all slots for 10, 11 likewise;"
-unfoldable pub checkLook : Look → Reply
-checkLook l = row 1 0 (not (eqb (l .long) imageSize)) else survey (extra l) (slotsOf l) else sweep slots (chainAt l)
+-- with 22 after 7 where it is the release check
+unfoldable pub checkBy : Bool → Look → Reply
+checkBy release l = row 1 0 (not (eqb (l .long) imageSize)) else surveyBy release (extra l) (slotsOf l) else sweep slots (chainAt l)
+
+abbrev pub checkLook : Look → Reply
+checkLook l = checkBy false l
 
 unfoldable pub checkDisk : List ℕ → Reply
 checkDisk d = checkLook (look d)
 
+-- "A second check, beside the first, also refuses a carried kind whose count is above the least that its length needs."
+unfoldable pub checkRelease : List ℕ → Reply
+checkRelease d = checkBy true (look d)
+
 -- the check's reply, and the used map and the number of files of a disk that is not refused (a clear map and 0 of another)
-pub record Examined (d : List ℕ) (r : Survey) : Type 0 where
-  pub reply : replyOf (r .verdict) ≡ checkDisk d
-  pub used : r .used ≡ usedOr (checkDisk d) (directory d)
-  pub files : r .files ≡ filesOr (checkDisk d) (directory d)
+abbrev pub Examined : List ℕ → Survey → Type 0
+Examined d r = Surveyed (checkDisk d) d r

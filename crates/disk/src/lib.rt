@@ -1,11 +1,13 @@
-// The disk check, whole: the first refusal of the table in its order, and with it the used map.
+// The disk check, whole: the first refusal of the table in its order, and with it the used map. Beside it the release check,
+// by the same pass.
 ghost use mathlib.Core.Path.{_≡_};
 ghost use Rattle.refusals.specs.Order.{sweep};
 ghost use Rattle.refusals.specs.Answers.{replyOf};
 ghost use Rattle.directory.specs.Places.{slots};
 ghost use Rattle.directory.specs.Directory.{directory, liveAmong};
 ghost use Rattle.disk.specs.Look.{look};
-ghost use Rattle.disk.specs.Check.{chainAt, checkDisk, Examined};
+ghost use Rattle.directory.specs.Steps.{Surveyed};
+ghost use Rattle.disk.specs.Check.{chainAt, checkBy, checkDisk, checkRelease, Examined};
 use directory::Survey;
 use refusals::Reason;
 use refusals::Verdict;
@@ -33,14 +35,15 @@ fn all_chains(image: &[u8], files: usize) -> Verdict
     Verdict::Sound
 }
 
-// The check with the used map and the number of files of an accepted disk; a clear map and 0 where the disk is refused.
-pub fn examine(image: &[u8]) -> Survey
-    ensures { λ r. ⌜ Examined (now (image .entry)) r ⌝ }
+// The check, or the release check, with the used map and the number of files of an accepted disk; a clear map and 0 where the
+// disk is refused.
+fn examine_by(image: &[u8], release: bool) -> Survey
+    ensures { λ r. ⌜ Surveyed (checkBy release (look (now (image .entry)))) (now (image .entry)) r ⌝ }
 {
     if image.len() != geometry::IMAGE_SIZE {
         return directory::refused(refusals::unsound(Reason::NotAnImage, 0));
     }
-    let found = directory::survey_slots(image);
+    let found = directory::survey_slots(image, release);
     let verdict = found.verdict;
     match verdict {
         Verdict::Unsound(_) => found,
@@ -54,10 +57,25 @@ pub fn examine(image: &[u8]) -> Survey
     }
 }
 
+// The check with the used map and the number of files of an accepted disk; a clear map and 0 where the disk is refused.
+pub fn examine(image: &[u8]) -> Survey
+    ensures { λ r. ⌜ Examined (now (image .entry)) r ⌝ }
+{
+    examine_by(image, false)
+}
+
 // The check.
 pub fn check(image: &[u8]) -> Verdict
     ensures { λ r. ⌜ replyOf r ≡ checkDisk (now (image .entry)) ⌝ }
 {
     let found = examine(image);
     found.verdict
+}
+
+// The release check: it also refuses a carried kind with more sectors than its length needs.
+pub fn check_release(image: &[u8]) -> Verdict
+    ensures { λ r. ⌜ replyOf r ≡ checkRelease (now (image .entry)) ⌝ }
+{
+    let released = examine_by(image, true);
+    released.verdict
 }

@@ -72,7 +72,7 @@ module _ (d n : List ℕ) (o : ℕ) (y : File → List ℕ) (Also : File → Typ
       ap₂ (λ (e : List ℕ) (k : ℕ). getD e k 0) (t .disk) (omega arith)
       ∙ put-in d (slotAt (t .slot) + o) (y (t .file)) i h (omega (arith, sound-long d w, slot-front (t .slot) (t .found .below)))
 
-first-byte : (s : List ℕ) (b : ℕ) → 1 ≤ length s → getD (put s 0 (b ∷ [])) 0 0 ≡ b
+pub first-byte : (s : List ℕ) (b : ℕ) → 1 ≤ length s → getD (put s 0 (b ∷ [])) 0 0 ≡ b
 first-byte s b h = put-in s 0 (b ∷ []) 0 (omega arith) (omega arith)
 
 -- ---- a name by the files that have it
@@ -221,7 +221,7 @@ protected-bit show x = let e : x % 128 / 64 % 2 ≡ x / 64 % 2 = omega arith in 
 protected-bit protect x = eq-eqb ((x / 128 * 128 + 64 + x % 64) / 64 % 2) 1 (omega arith)
 protected-bit release x = ne-eqb ((x / 128 * 128 + x % 64) / 64 % 2) 1 (omega arith)
 
-kind-bits : (k : Mark) (x : ℕ) → marked k x % 64 ≡ x % 64
+pub kind-bits : (k : Mark) (x : ℕ) → marked k x % 64 ≡ x % 64
 kind-bits hide x = omega arith
 kind-bits show x = omega arith
 kind-bits protect x = omega arith

@@ -13,7 +13,7 @@ use lib.ListN.{length}
 use Rattle.buffers.specs.Bytes.{count, any}
 use Rattle.buffers.proofs.Counts.{any-none, none-any, any-some, some-any, count-cong}
 use Rattle.maps.specs.Bits.{has, bitsOf}
-use Rattle.slots.specs.Slot.{mapOf}
+use Rattle.slots.specs.Slot.{mapOf, sectorsFor}
 use Rattle.chains.specs.File.{File}
 use Rattle.directory.specs.Places.{slots, dataBit}
 use Rattle.directory.specs.Directory.{held, liveAmong}
@@ -23,7 +23,7 @@ use Rattle.disk.specs.Look.{Look, look, slotsOf, extra}
 use Rattle.disk.specs.Check.{checkDisk}
 use Rattle.steps.specs.Sectors.{listed}
 use Rattle.plans.specs.Change.{Wish, save}
-use Rattle.plans.specs.Saving.{sectorsFor, freeBit, mapWith, newSlot}
+use Rattle.plans.specs.Saving.{freeBit, mapWith, newSlot}
 use Rattle.plans.specs.Plan.{upd, made, run}
 use Rattle.plans.proofs.Frame.{slots-same, slots-other, extra-upd}
 use Rattle.plans.proofs.Free.{Run, run-listed, passing-long, free-long}

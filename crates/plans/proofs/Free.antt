@@ -15,7 +15,7 @@ use Rattle.buffers.specs.Bytes.{count, any}
 use Rattle.buffers.proofs.Counts.{count-add, count-cong, any-none}
 use Rattle.refusals.proofs.First.{sweep-none, sweep-first}
 use Rattle.maps.specs.Bits.{has, bitsOf}
-use Rattle.slots.specs.Slot.{mapOf}
+use Rattle.slots.specs.Slot.{mapOf, sectorsFor}
 use Rattle.slots.specs.Rows.{dataCount}
 use Rattle.chains.specs.File.{File}
 use Rattle.directory.specs.Places.{slotCount, slots, dataBit}
@@ -27,7 +27,7 @@ use Rattle.disk.specs.Look.{Look, slotsOf, extra}
 use Rattle.steps.specs.Sectors.{listed}
 use Rattle.steps.proofs.Sectors.{listed-tail}
 use Rattle.plans.specs.Change.{Wish}
-use Rattle.plans.specs.Saving.{sectorsFor, passing, freeBit, taken, lowestSlot}
+use Rattle.plans.specs.Saving.{passing, freeBit, taken, lowestSlot}
 use Rattle.plans.proofs.Frame.{slot-file, slot-none}
 
 -- ---- runs
@@ -165,14 +165,6 @@ free-is n v b e i s h q m =
     true≢false (sym (rw (q, m)) ∙ any-none slots (λ j. held false (λ x. has (mapOf x) b) (v j)) u i h)
 
 -- ---- how many
-
-pub sectors-least : (n : ℕ) → (9 + n ≤ 510 * sectorsFor n) × (510 * (sectorsFor n - 1) < 9 + n)
-unfolding sectorsFor
-sectors-least n = (omega arith, omega arith)
-
-pub sectors-some : (n : ℕ) → 1 ≤ sectorsFor n
-unfolding sectorsFor
-sectors-some n = omega arith
 
 -- ---- what is taken
 

@@ -14,7 +14,7 @@ use Rattle.geometry.specs.Disk.{bitNumber}
 use Rattle.refusals.specs.Order.{Refusal, refuse, Reply, _else_, row, SlotRow, rowAt, NoRow, FirstOf, bare, rises, Lowest}
 use Rattle.refusals.specs.Answers.{done, refused, filled}
 use Rattle.refusals.proofs.First.{first-same, first-none}
-use Rattle.slots.specs.Slot.{protected, carried, nameOf}
+use Rattle.slots.specs.Slot.{protected, carried, nameOf, sectorsFor}
 use Rattle.slots.specs.Name.{sameName, askable, padded}
 use Rattle.slots.proofs.Names.{same-refl, same-is}
 use Rattle.chains.specs.File.{File}
@@ -31,7 +31,7 @@ use Rattle.files.proofs.Asked.{some-named, none-named, outside-is, by-lowest, b
 use Rattle.steps.specs.Steps.{Step, enact, numbers}
 use Rattle.steps.proofs.Steps.{length-numbers}
 use Rattle.plans.specs.Change.{Wish, Mark, Change, save, erase, rename, mark, marked, between, usable}
-use Rattle.plans.specs.Saving.{sectorsFor, taken, lowestSlot, slotTaken}
+use Rattle.plans.specs.Saving.{taken, lowestSlot, slotTaken}
 use Rattle.plans.specs.Plan.{touch, saveSteps, Plan, no, go, orNo, byName, nameTaken, isProtected, saveReply, planOf, Result, stopped, made, settle, checked, run, changedBy, change}
 use Rattle.plans.specs.Refused.{someFree, row14, row16, row17, row18, row19, changeRows, Refuses, Passes, Accepts}
 use Rattle.plans.specs.Accepted.{many}

@@ -14,6 +14,7 @@ use Rattle.buffers.proofs.Counts.{none-any}
 use Rattle.geometry.specs.Disk.{bitNumber, bitPlace}
 use Rattle.maps.specs.Bits.{has}
 use Rattle.slots.specs.Slot.{mapOf}
+use Rattle.slots.proofs.Least.{sectors-least}
 use Rattle.chains.specs.File.{File}
 use Rattle.directory.specs.Places.{slots, slotAt}
 use Rattle.directory.specs.Directory.{held}
@@ -33,7 +34,7 @@ use Rattle.plans.specs.Accepted.{many, Unused, Takes}
 use Rattle.plans.specs.After.{Outside, AfterSave}
 use Rattle.plans.proofs.Frame.{slots-some, slot-file, disk-sound, upd-same, holds, holds-sector}
 use Rattle.plans.proofs.Kept.{usable-is}
-use Rattle.plans.proofs.Free.{From, run-listed, run-rises, sectors-least, free-is, taken-lowest}
+use Rattle.plans.proofs.Free.{From, run-listed, run-rises, free-is, taken-lowest}
 use Rattle.plans.proofs.NewFile.{newFile, length-slot, slot-byte, name-is, block-byte, block-track, block-sector, filled, sector-at}
 use Rattle.plans.proofs.Good.{own-bit, slot-names}
 use Rattle.plans.proofs.Saved.{data-numbers, data-goes}

@@ -7,7 +7,7 @@ use mathlib.Core.Option.{none, some}
 use lib.ListN.{length, getD}
 use Rattle.geometry.specs.Disk.{bitNumber}
 use Rattle.maps.specs.Bits.{has}
-use Rattle.slots.specs.Slot.{protected, nameOf, mapOf}
+use Rattle.slots.specs.Slot.{protected, nameOf, mapOf, sectorsFor}
 use Rattle.slots.specs.Name.{askable, padded}
 use Rattle.chains.specs.File.{File}
 use Rattle.directory.specs.Places.{slots, slotBytes, dirSector}
@@ -18,7 +18,6 @@ use Rattle.disk.specs.Check.{checkDisk}
 use Rattle.disk.specs.Sound.{Carried}
 use Rattle.steps.specs.Sectors.{listed}
 use Rattle.plans.specs.Change.{Wish, usable}
-use Rattle.plans.specs.Saving.{sectorsFor}
 
 -- a slot that holds a file with the name
 pub record Named (d n : List ℕ) (i : ℕ) (f : File) : Type 0 where

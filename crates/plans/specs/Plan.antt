@@ -9,7 +9,7 @@ use Rattle.buffers.specs.Bytes.{put}
 use Rattle.geometry.specs.Disk.{bitNumber, bitPlace}
 use Rattle.refusals.specs.Order.{Refusal, refuse, Reply, _else_, row}
 use Rattle.refusals.specs.Answers.{Outcome, done, refused}
-use Rattle.slots.specs.Slot.{isLive, protected, carried, nameOf}
+use Rattle.slots.specs.Slot.{isLive, protected, carried, nameOf, sectorsFor}
 use Rattle.slots.specs.Name.{sameName, askable, padded}
 use Rattle.chains.specs.File.{File}
 use Rattle.directory.specs.Places.{slotAt, dirSector}
@@ -21,7 +21,7 @@ use Rattle.disk.specs.Check.{checkDisk}
 use Rattle.files.specs.Calls.{fileAt}
 use Rattle.steps.specs.Steps.{Put, Step, enact, numbers}
 use Rattle.plans.specs.Change.{Wish, Change, save, erase, rename, mark, marked, between, usable}
-use Rattle.plans.specs.Saving.{sectorsFor, taken, lowestSlot, slotTaken, stream, block, nextTrack, nextSector, chained, newSlot}
+use Rattle.plans.specs.Saving.{taken, lowestSlot, slotTaken, stream, block, nextTrack, nextSector, chained, newSlot}
 
 -- ---- steps
 

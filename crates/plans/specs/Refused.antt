@@ -8,7 +8,7 @@ use lib.Dec.{ltb}
 use lib.ListN.{length}
 use Rattle.buffers.specs.Bytes.{any}
 use Rattle.refusals.specs.Order.{Refusal, SlotRow, rowAt, NoRow}
-use Rattle.slots.specs.Slot.{protected, carried}
+use Rattle.slots.specs.Slot.{protected, carried, sectorsFor}
 use Rattle.slots.specs.Name.{askable}
 use Rattle.directory.specs.Places.{slotCount}
 use Rattle.directory.specs.Directory.{held}
@@ -18,7 +18,6 @@ use Rattle.disk.specs.Check.{checkDisk}
 use Rattle.files.specs.Calls.{fileNamed}
 use Rattle.files.specs.Asked.{someNamed, slotNamed, startOutside, row12, row15, row20, RefusesBy}
 use Rattle.plans.specs.Change.{Wish, Change, save, erase, rename, mark, usable}
-use Rattle.plans.specs.Saving.{sectorsFor}
 use Rattle.plans.specs.Plan.{made, run}
 
 -- ---- the tests

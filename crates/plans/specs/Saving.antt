@@ -9,6 +9,7 @@ use Rattle.buffers.specs.Bytes.{tab}
 use Rattle.geometry.specs.Disk.{trackOf, sectorOf}
 use Rattle.refusals.specs.Order.{sweep}
 use Rattle.maps.specs.Bits.{has, clear, marked}
+use Rattle.slots.specs.Slot.{sectorsFor}
 use Rattle.slots.specs.Name.{padded}
 use Rattle.directory.specs.Places.{slotCount, slots, dataBit}
 use Rattle.directory.specs.Directory.{held, Directory}
@@ -16,10 +17,6 @@ use Rattle.directory.specs.Survey.{union}
 use Rattle.plans.specs.Change.{Wish}
 
 -- ---- how much, and where
-
--- "the least n with 510 × n ≥ 9 + length"
-unfoldable pub sectorsFor : ℕ → ℕ
-sectorsFor length = (length + 518) / 510
 
 -- the numbers that pass a test, rising, among the n from i on
 unfoldable pub passing : ℕ → ℕ → (ℕ → Bool) → List ℕ

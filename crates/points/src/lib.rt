@@ -1,4 +1,4 @@
-// What the programs of document 01's points share: the lines that they write, one for each call with its answer, and an
+// What the programs of the documents' points share: the lines that they write, one for each call with its answer, and an
 // empty disk. No contract can say what is written, so one that only writes states nothing.
 ghost use mathlib.Core.Path.{_≡_};
 ghost use lib.ListN.{length, replicate};
@@ -39,12 +39,21 @@ pub fn title(call: &[u8], what: &[u8]) {
     say(b": ");
 }
 
-pub fn checked(what: &[u8], image: &[u8]) {
-    title(b"check of ", what);
-    match disk::check(image) {
+fn verdict(found: Verdict) {
+    match found {
         Verdict::Sound => say(b"accepted\n"),
         Verdict::Unsound(r) => refused(r),
     }
+}
+
+pub fn checked(what: &[u8], image: &[u8]) {
+    title(b"check of ", what);
+    verdict(disk::check(image));
+}
+
+pub fn released(what: &[u8], image: &[u8]) {
+    title(b"release check of ", what);
+    verdict(disk::check_release(image));
 }
 
 fn files_and_free(answer: Answer) {

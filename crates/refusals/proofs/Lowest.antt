@@ -1,17 +1,17 @@
 -- Of rows whose numbers rise the first that holds has the lowest number that applies, and no number is 0.
 use Prim.Native.Nat.{ℕ, _≤_, _<_}
 use mathlib.Core.Path.{_≡_, refl, sym, ap, _∙_}
-use mathlib.Core.Bool.{Bool, true, false, true≢false}
+use mathlib.Core.Bool.{Bool, true, false, not, _&&_, true≢false}
 use mathlib.Core.List.{List, [], _∷_}
 use mathlib.Core.Logic.{_≢_, _↔_, inl, inr, ⊎-elim}
 use native.Mathlib.Omega.{arith}
-use borrow.Author.Tests.{ltb-true}
-use lib.Dec.{ltb}
+use borrow.Author.Tests.{ltb-true, eqb-false, not-true}
+use lib.Dec.{eqb, ltb}
 use Rattle.buffers.proofs.Tests.{and-both}
 use Rattle.refusals.specs.Order.{Refusal, Row, FirstRow, SlotRow, FirstOf, bare, risesFrom, rises, Applies, Lowest}
 use Rattle.refusals.specs.Answers.{numberOf}
 use Rattle.refusals.specs.declared.Reason.{Reason}
-use Rattle.refusals.specs.declared.Reason.the-variants.{NotAnImage, KindUnknown, NameMissing, CountOutOfRange, BitsDiffer, FirstNotOwn, LengthTooGreat, SectorShared, NameTwice, ChainBroken, HeaderDiffers, NameNotUsable, KindNotCarried, StartOutOfRange, NameNotFound, NameTaken, FileProtected, NoFreeSlot, TooFewSectors, BufferTooShort, NoSuchSector}
+use Rattle.refusals.specs.declared.Reason.the-variants.{NotAnImage, KindUnknown, NameMissing, CountOutOfRange, BitsDiffer, FirstNotOwn, LengthTooGreat, SectorShared, NameTwice, ChainBroken, HeaderDiffers, NameNotUsable, KindNotCarried, StartOutOfRange, NameNotFound, NameTaken, FileProtected, NoFreeSlot, TooFewSectors, BufferTooShort, NoSuchSector, WasteSectors}
 
 -- ---- the lowest that applies is the first that holds
 
@@ -86,6 +86,19 @@ positive NoFreeSlot = λ e. omega arith
 positive TooFewSectors = λ e. omega arith
 positive BufferTooShort = λ e. omega arith
 positive NoSuchSector = λ e. omega arith
+positive WasteSectors = λ e. omega arith
+
+-- no row has the number m
+abbrev pub lacks : ℕ → List Row → Bool
+lacks m [] = true
+lacks m (r ∷ rs) = not (eqb (r .number) m) && lacks m rs
+
+pub first-lacks : (m : ℕ) (rs : List Row) (n : ℕ) → lacks m rs ≡ true → FirstRow n rs → n ≢ m
+first-lacks m [] n e f = absurd f
+first-lacks m (r ∷ rs) n e f =
+    let c = and-both (not (eqb (r .number) m)) (lacks m rs) e in
+    let h : r .number ≢ m = eqb-false (r .number) m (not-true (eqb (r .number) m) (c .0)) in
+    ⊎-elim (λ a z. h (a .1 ∙ z)) (λ a. first-lacks m rs n (c .1) (a .1)) f
 
 pub first-positive : (rs : List Row) (n : ℕ) → rises rs ≡ true → FirstRow n rs → n ≢ 0
 first-positive rs n e f z = let h : 0 < n = applies-above rs 0 n e (first-applies rs n f) in omega arith

@@ -28,6 +28,7 @@ pub enum Reason {
     TooFewSectors,
     BufferTooShort,
     NoSuchSector,
+    WasteSectors,
 }
 
 // A refusal: its reason, and the slot (from 1) it was found at, or 0.
@@ -74,6 +75,7 @@ pub fn number_of(reason: Reason) -> usize
         Reason::TooFewSectors => 19,
         Reason::BufferTooShort => 20,
         Reason::NoSuchSector => 21,
+        Reason::WasteSectors => 22,
     }
 }
 

@@ -11,7 +11,7 @@ use lib.ListN.{length, take}
 use Rattle.maps.specs.Bits.{has}
 use Rattle.refusals.specs.Order.{Refusal, refuse, Reply, _else_, row}
 use Rattle.refusals.specs.Answers.{Outcome, done, refused}
-use Rattle.slots.specs.Slot.{carried}
+use Rattle.slots.specs.Slot.{carried, sectorsFor}
 use Rattle.slots.specs.Rows.{dataCount}
 use Rattle.directory.specs.Places.{slotCount, slots}
 use Rattle.directory.specs.Directory.{held, Directory, directory}
@@ -27,7 +27,7 @@ use Rattle.files.specs.Calls.{at, barred}
 use Rattle.files.specs.Steps.{Accepted}
 use Rattle.steps.specs.Steps.{Step, numbers}
 use Rattle.plans.specs.Change.{Wish, save, between, usable}
-use Rattle.plans.specs.Saving.{sectorsFor, passing, freeBit, taken, lowestSlot, slotTaken}
+use Rattle.plans.specs.Saving.{passing, freeBit, taken, lowestSlot, slotTaken}
 use Rattle.plans.specs.Plan.{no, go, orNo, nameTaken, saveReply, planOf, plan, saveSteps, changed, change}
 use Rattle.plans.proofs.Free.{taken-run, taken-long, run-at, lowest-slot}
 use Rattle.plans.proofs.Refused.{save-long}

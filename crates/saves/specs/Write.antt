@@ -4,12 +4,13 @@ use mathlib.Core.Path.{_≡_}
 use mathlib.Core.List.{List, [], _∷_}
 use lib.ListN.{length, getD}
 use Rattle.buffers.specs.Bytes.{tab}
+use Rattle.slots.specs.Slot.{sectorsFor}
 use Rattle.directory.specs.Places.{slots}
 use Rattle.directory.specs.declared.UsedMap.{UsedMap}
 use Rattle.files.specs.Calls.{at}
 use Rattle.files.specs.Steps.{Accepted}
 use Rattle.plans.specs.Change.{Wish}
-use Rattle.plans.specs.Saving.{sectorsFor, nextTrack, nextSector}
+use Rattle.plans.specs.Saving.{nextTrack, nextSector}
 use Rattle.taking.specs.declared.Start.{Start}
 use Rattle.taking.specs.Taken.{slotFor, lowest}
 use Rattle.saves.specs.declared.Link.{Link}

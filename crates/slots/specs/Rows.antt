@@ -1,11 +1,11 @@
--- Rows 2 to 7 of the table: what one slot's bytes alone can have wrong.
+-- Rows 2 to 7 of the table, and 22: what one slot's bytes alone can have wrong.
 use Prim.Native.Nat.{ℕ, _+_, _-_, _*_}
-use mathlib.Core.Bool.{not, _&&_}
+use mathlib.Core.Bool.{Bool, true, false, not, _&&_}
 use mathlib.Core.List.{List, [], _∷_}
 use lib.Dec.{eqb, leb, ltb}
 use Rattle.maps.specs.Bits.{has, bitsOf}
 use Rattle.refusals.specs.Order.{Row, _when_, Reply, rows}
-use Rattle.slots.specs.Slot.{Facts, facts, known, carried, lengthOf}
+use Rattle.slots.specs.Slot.{Facts, facts, known, carried, lengthOf, sectorsFor}
 
 -- "The other 1,560 sectors are data." With n directory tracks beyond the four there are ten fewer for each.
 unfoldable pub dataCount : ℕ → ℕ
@@ -31,3 +31,12 @@ own n x =
 -- their reply at a slot's bytes
 unfoldable pub ownReply : ℕ → ℕ → List ℕ → Reply
 ownReply n slot s = rows slot (own n (facts s))
+
+-- "a carried kind whose count is above the least that its length needs"
+unfoldable pub wasteful : Facts → Bool
+wasteful x = carried (x .kind) && ltb (sectorsFor (lengthOf x)) (x .count)
+
+-- "Refusals: 22, in this check alone, directly after 7 at a slot.": what stands there in the release check, and in every other
+abbrev pub strict : Bool → Facts → List Row
+strict true x = (22 when wasteful x) ∷ []
+strict false x = []

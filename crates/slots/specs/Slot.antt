@@ -84,3 +84,7 @@ facts s = record {
 -- "Their length is pages × 16,384 + that remainder."
 unfoldable pub lengthOf : Facts → ℕ
 lengthOf x = x .pages * 16384 + x .remainder
+
+-- the sectors that a length needs: "the least n with 510 × n ≥ 9 + length"
+unfoldable pub sectorsFor : ℕ → ℕ
+sectorsFor length = (length + 518) / 510

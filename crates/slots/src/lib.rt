@@ -1,4 +1,4 @@
-// One slot of the directory: its fields, its name, and rows 2 to 7 of the table. A slot is 256 bytes; of a shorter
+// One slot of the directory: its fields, its name, and rows 2 to 7 and 22 of the table. A slot is 256 bytes; of a shorter
 // slice the missing bytes count as 0.
 ghost use mathlib.Core.Path.{_≡_};
 ghost use Prim.Native.Nat.{_+_, _*_, _≤_, _<_};
@@ -6,7 +6,7 @@ ghost use Rattle.buffers.specs.Bytes.{part};
 ghost use Rattle.refusals.specs.Answers.{replyOf};
 ghost use Rattle.slots.specs.Slot.{isLive, hidden, protected, kindOf, known, carried, nameOf, countOf, firstOf, mapOf, pageOf, offsetOf, pagesOf, remainderOf, facts, lengthOf};
 ghost use Rattle.slots.specs.Name.{sameName, askable, padded, keyOf};
-ghost use Rattle.slots.specs.Rows.{ownReply};
+ghost use Rattle.slots.specs.Rows.{ownReply, wasteful};
 use refusals::Reason;
 use refusals::Verdict;
 
@@ -191,4 +191,14 @@ pub fn own_rows(s: &[u8], slot: usize) -> Verdict
         }
     }
     Verdict::Sound
+}
+
+// Row 22, which the release check alone asks for: a carried kind, and more sectors than its length needs.
+pub fn is_wasteful(s: &[u8]) -> bool
+    ensures { λ r. ⌜ r ≡ wasteful (facts (now (s .entry))) ⌝ }
+{
+    if is_carried(kind_of(s)) {
+        return (length_of(s) + 518) / 510 < count_of(s);
+    }
+    false
 }

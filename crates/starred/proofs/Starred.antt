@@ -5,9 +5,9 @@ use mathlib.Core.List.{List, [], _∷_}
 use lib.Dec.{T, eqb, eqb→eq}
 use Rattle.geometry.specs.Disk.{isSector, isData, trackOf, bitOf, bitNumber}
 use Rattle.geometry.proofs.Table.{both}
+use Rattle.slots.specs.Slot.{sectorsFor}
 use Rattle.directory.specs.Places.{slotAt}
 use Rattle.files.specs.Calls.{address}
-use Rattle.plans.specs.Saving.{sectorsFor}
 use Rattle.starred.specs.Starred.{Point, starred, Every}
 
 abbrev right : List Point → Bool

@@ -3,9 +3,9 @@ use Prim.Native.Nat.{ℕ}
 use mathlib.Core.Path.{_≡_}
 use mathlib.Core.List.{List, [], _∷_}
 use Rattle.geometry.specs.Disk.{bitOf, placeOf, bitPlace}
+use Rattle.slots.specs.Slot.{sectorsFor}
 use Rattle.directory.specs.Places.{slotAt}
 use Rattle.files.specs.Calls.{address}
-use Rattle.plans.specs.Saving.{sectorsFor}
 
 pub record Point : Type 0 where
   pub gives : ℕ

@@ -26,7 +26,7 @@ use Rattle.directory.specs.Directory.{directory, slotOr, liveAmong}
 use Rattle.directory.specs.Survey.{free}
 use Rattle.directory.specs.Find.{find}
 use Rattle.disk.specs.Look.{look, slotsOf, extra}
-use Rattle.disk.specs.Check.{checkLook, checkDisk}
+use Rattle.disk.specs.Check.{checkLook, checkDisk, checkRelease}
 use Rattle.disk.proofs.Look.{look-some}
 use Rattle.disk.proofs.Rows.{carried-is}
 use Rattle.disk.proofs.Sound.{sound}
@@ -42,9 +42,9 @@ use Rattle.plans.proofs.Sure.{row-none}
 use Rattle.packing.specs.Packed.{packed, Within, Told}
 use Rattle.packing.proofs.Parts.{within-fits, told}
 use Rattle.bytelists.specs.Lists.{changing, changingBy}
-use Rattle.bytelists.proofs.Table.{Small, small-else, small-row, check-small}
+use Rattle.bytelists.proofs.Table.{Small, small-else, small-row, small-by, check-small}
 use Rattle.bytelists.proofs.Changing.{free-few, most, most-few, Settled, mild-run}
-use Rattle.varnucht.specs.Calls.{checking, sectorPlace}
+use Rattle.varnucht.specs.Calls.{checking, releasing, sectorPlace}
 use Rattle.directory.proofs.Live.{among-few}
 
 -- ---- outcomes
@@ -60,11 +60,15 @@ filled-outcome : (q : Reply) (o : Outcome) (x buf : List ℕ) → filled q o x b
 filled-outcome none o x buf = refl
 filled-outcome (some r) o x buf = refl
 
--- ---- the check
+-- ---- the two checks
 
 pub checking-within : (d : List ℕ) → Within (checking d) 0 0
 unfolding checkDisk
 checking-within d = within-unless (checkDisk d) 0 0 0 0 (check-small (look d)) (λ e. (omega arith, omega arith))
+
+pub releasing-within : (d : List ℕ) → Within (releasing d) 0 0
+unfolding checkRelease
+releasing-within d = within-unless (checkRelease d) 0 0 0 0 (small-by true (look d)) (λ e. (omega arith, omega arith))
 
 -- ---- the listing: 80 slots, 1,560 sectors
 
@@ -179,6 +183,9 @@ module _ (c : Change) (d b : List ℕ) where
 
 pub checking-told : (d : List ℕ) → Told (checking d) (packed (checking d))
 checking-told d = told _ (within-fits _ _ _ (omega arith) (omega arith) (checking-within d))
+
+pub releasing-told : (d : List ℕ) → Told (releasing d) (packed (releasing d))
+releasing-told d = told _ (within-fits _ _ _ (omega arith) (omega arith) (releasing-within d))
 
 pub listing-told : (d buf : List ℕ) → Told (listing d buf .outcome) (packed (listing d buf .outcome))
 listing-told d buf = told _ (within-fits _ _ _ (omega arith) (omega arith) (listing-within d buf))

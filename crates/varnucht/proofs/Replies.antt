@@ -14,21 +14,21 @@ use Rattle.packing.specs.Packed.{packed, clipped, checked, Within}
 use Rattle.packing.proofs.Parts.{within-fits, clipped-is}
 use Rattle.drives.specs.Raw.{rawRefusal}
 use Rattle.drives.proofs.Laws.{accepted}
-use Rattle.disk.specs.Check.{checkDisk}
 use Rattle.files.specs.Calls.{listing, reading, starting}
 use Rattle.plans.specs.Change.{Change}
 use Rattle.plans.specs.Plan.{Changed, changed}
 use Rattle.bytelists.specs.Lists.{changing}
-use Rattle.varnucht.specs.Calls.{checking, sectorPlace, Returns}
-use Rattle.varnucht.proofs.Bounds.{checking-within, listing-within, reading-within, starting-within, changing-within}
+use Rattle.varnucht.specs.Calls.{sectorPlace, Returns}
+use Rattle.varnucht.proofs.Bounds.{listing-within, reading-within, starting-within, changing-within}
 
 -- ---- a number that is packed of an outcome within bounds
 
 packed-within : (o : Outcome) (v f : ℕ) → v < 2 ^ 24 → f < 2 ^ 16 → Within o v f → (p : Outcome) → p ≡ o → (n : ℕ) → n ≡ clipped p → n ≡ packed o
 packed-within o v f h k w p e n q = q ∙ ap clipped e ∙ clipped-is o (within-fits o v f h k w)
 
-pub packed-check : (d : List ℕ) (q : Reply) → q ≡ checkDisk d → (n : ℕ) → n ≡ clipped (checked q) → n ≡ packed (checking d)
-packed-check d q e = packed-within (checking d) 0 0 (omega arith) (omega arith) (checking-within d) (checked q) (ap checked e)
+-- a check's verdict
+pub packed-check : (p : Reply) → Within (checked p) 0 0 → (q : Reply) → q ≡ p → (n : ℕ) → n ≡ clipped (checked q) → n ≡ packed (checked p)
+packed-check p w q e = packed-within (checked p) 0 0 (omega arith) (omega arith) w (checked q) (ap checked e)
 
 pub packed-start : (d n : List ℕ) (o : Outcome) → o ≡ starting d n → (k : ℕ) → k ≡ clipped o → k ≡ packed (starting d n)
 packed-start d n = packed-within (starting d n) 540671 0 (omega arith) (omega arith) (starting-within d n)

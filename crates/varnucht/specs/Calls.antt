@@ -9,13 +9,17 @@ use Rattle.refusals.specs.Order.{refuse}
 use Rattle.refusals.specs.Answers.{Outcome, done, refused}
 use Rattle.packing.specs.Packed.{packed, checked}
 use Rattle.drives.specs.Raw.{rawRefusal}
-use Rattle.disk.specs.Check.{checkDisk}
+use Rattle.disk.specs.Check.{checkDisk, checkRelease}
 use Rattle.plans.specs.Change.{Change}
 use Rattle.bytelists.specs.Lists.{changing}
 
 -- the check as an outcome
 abbrev pub checking : List ℕ → Outcome
 checking d = checked (checkDisk d)
+
+-- the release check likewise
+abbrev pub releasing : List ℕ → Outcome
+releasing d = checked (checkRelease d)
 
 -- the raw sector call as an outcome: its value is the sector's place in the chosen drive's image
 unfoldable pub sectorPlace : List ℕ → List ℕ → ℕ → ℕ → ℕ → Outcome

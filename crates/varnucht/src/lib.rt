@@ -9,7 +9,7 @@ ghost use Rattle.readers.specs.Opening.{beginning};
 ghost use Rattle.plans.specs.Change.{save, erase, rename, mark, hide, show, protect, release};
 ghost use Rattle.changes.specs.Marks.{markOf};
 ghost use Rattle.saves.specs.Write.{wish};
-ghost use Rattle.varnucht.specs.Calls.{checking, sectorPlace, Returns};
+ghost use Rattle.varnucht.specs.Calls.{checking, releasing, sectorPlace, Returns};
 ghost use Rattle.varnucht.specs.Reading.{packedBegin, packedPiece};
 use changes::Marking;
 use geometry::Spot;
@@ -24,6 +24,15 @@ pub extern "C" fn varnucht_check(image: &[u8]) -> u64
 {
     let verdict = disk::check(image);
     packing::pack_verdict(verdict)
+}
+
+// The release check: the check, which here also refuses a carried kind with more sectors than its length needs.
+#[no_mangle]
+pub extern "C" fn varnucht_check_release(image: &[u8]) -> u64
+    ensures { λ r. ⌜ r ≡ packed (releasing (now (image .entry))) ⌝ }
+{
+    let released = disk::check_release(image);
+    packing::pack_verdict(released)
 }
 
 // The listing, put to the front of `out`: how many, and the free sectors.

@@ -7,7 +7,7 @@ use std::time::Duration;
 pub fn print_head(timer: Duration) {
     println!("The proved library (ours) beside document 01 in plain Rust (paper), both built for release, in one process.");
     println!("Microseconds for one call; ratio: ours / paper. The sides take turns; a round is at least 100 us of calls.");
-    println!("check, list, read, open, pieces and refused calls: many calls between two looks at the clock.");
+    println!("both checks, list, read, open, pieces and refused calls: many calls between two looks at the clock.");
     println!("pieces: a whole body by next, so many bytes to a call, laid end to end; it was opened before, untimed.");
     println!(
         "save and erase that are accepted: every call timed alone, less {} ns, the cost of an empty timed",
@@ -24,7 +24,7 @@ pub fn print_head(timer: Duration) {
     println!("so the save takes its slot and sectors.");
     println!();
     println!(
-        "{:<12} {:<22} {:<10} {:>10} {:>10} {:>10} {:>10} {:>7} {:>7} {:>6}",
+        "{:<13} {:<22} {:<10} {:>10} {:>10} {:>10} {:>10} {:>7} {:>7} {:>6}",
         "call", "disk", "answer", "ours best", "median", "paper best", "median", "ratio", "median", "rounds"
     );
 }
@@ -37,7 +37,7 @@ pub fn print_row(row: &Row, measured: &Measured) {
     };
     let (ours, theirs) = (&measured.ours, &measured.theirs);
     println!(
-        "{:<12} {:<22} {:<10} {:>10.3} {:>10.3} {:>10.3} {:>10.3} {:>7.2} {:>7.2} {:>6}",
+        "{:<13} {:<22} {:<10} {:>10.3} {:>10.3} {:>10.3} {:>10.3} {:>7.2} {:>7.2} {:>6}",
         row.call(),
         row.disk.title,
         answer,

@@ -1,6 +1,6 @@
 //! The calls that change no image.
 
-use crate::check::survey;
+use crate::check::{Purpose, survey, survey_for};
 use crate::geometry::{Address, Image, PAYLOAD_BYTES, SECTOR_BYTES, SLOT_BYTES, Sector, sector as sector_of, whole};
 use crate::name::asked;
 use crate::refusal::{Reason, Refused};
@@ -18,6 +18,11 @@ pub struct Listed {
 
 pub fn check(image: &[u8]) -> Result<(), Refused> {
     survey(whole(image)?).map(|_| ())
+}
+
+/// The check before a release: it refuses waste sectors behind a file of a carried kind too.
+pub fn check_release(image: &[u8]) -> Result<(), Refused> {
+    survey_for(whole(image)?, Purpose::Release).map(|_| ())
 }
 
 /// Fills the buffer with every live slot, hidden ones too.

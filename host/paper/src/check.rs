@@ -1,10 +1,20 @@
-//! The check of a disk: refusals 2 to 11. Every call but the raw sector begins with it.
+//! The check of a disk: refusals 2 to 11. Every call but the raw sector begins with it. The check before a release has one
+//! row more, 22.
 
 use crate::geometry::{Address, DATA_SECTORS, Image, PAYLOAD_BYTES, SLOTS, sector};
 use crate::map::Map;
 use crate::name::Name;
 use crate::refusal::{Reason, Refused};
-use crate::slot::{HEADER_BYTES, Slot, live_slots, remainder};
+use crate::slot::{HEADER_BYTES, Slot, live_slots, remainder, sectors_for};
+
+/// Which check is made.
+#[derive(Clone, Copy, PartialEq, Eq)]
+pub enum Purpose {
+    /// The one that every call begins with.
+    Use,
+    /// The one before a compilation goes out: it refuses waste sectors too.
+    Release,
+}
 
 /// What the check learns of the live slots.
 pub struct Survey {
@@ -30,8 +40,9 @@ impl Survey {
         DATA_SECTORS - self.used_count
     }
 
-    /// Joins in a slot, or says the lowest of 2 to 9 that it gives beside the slots before it.
-    fn join(&mut self, slot: &Slot) -> Result<(), Reason> {
+    /// Joins in a slot, or says the first of 2 to 9 that it gives beside the slots before it; before a release 22 stands
+    /// directly after 7.
+    fn join(&mut self, slot: &Slot, purpose: Purpose) -> Result<(), Reason> {
         let (name, count) = (slot.name(), slot.count());
         own_rules(slot)?;
         let map = slot.map();
@@ -43,6 +54,9 @@ impl Survey {
         }
         if slot.is_carried() && PAYLOAD_BYTES * count < HEADER_BYTES + slot.length() {
             return Err(Reason::TooFewSectors);
+        }
+        if purpose == Purpose::Release && slot.is_carried() && count > sectors_for(slot.length()) {
+            return Err(Reason::WasteSectors);
         }
         if self.used.meets(&map) {
             return Err(Reason::MapShared);
@@ -72,20 +86,25 @@ fn own_rules(slot: &Slot) -> Result<(), Reason> {
     Ok(())
 }
 
-/// The whole check: the directory first, then every chain.
+/// The check that every call begins with.
 pub fn survey(image: &Image) -> Result<Survey, Refused> {
-    let survey = directory(image)?;
+    survey_for(image, Purpose::Use)
+}
+
+/// The whole check: the directory first, then every chain.
+pub fn survey_for(image: &Image, purpose: Purpose) -> Result<Survey, Refused> {
+    let survey = directory(image, purpose)?;
     for slot in live_slots(image) {
         file(image, &slot).map_err(|reason| reason.at(slot.number))?;
     }
     Ok(survey)
 }
 
-/// Refusals 2 to 9.
-pub fn directory(image: &Image) -> Result<Survey, Refused> {
+/// Refusals 2 to 9, and 22 before a release.
+fn directory(image: &Image, purpose: Purpose) -> Result<Survey, Refused> {
     let mut survey = Survey::EMPTY;
     for slot in live_slots(image) {
-        survey.join(&slot).map_err(|reason| reason.at(slot.number))?;
+        survey.join(&slot, purpose).map_err(|reason| reason.at(slot.number))?;
     }
     Ok(survey)
 }
@@ -155,7 +174,7 @@ mod tests {
     fn case_l_has_1538_free_sectors() {
         let image = case_l();
         let image = whole(&image).expect("a whole image");
-        let survey = directory(image).unwrap_or_else(|refused| panic!("{refused:?}"));
+        let survey = directory(image, Purpose::Use).unwrap_or_else(|refused| panic!("{refused:?}"));
         assert_eq!((survey.files, survey.free(), survey.used.count()), (2, 1_538, 22));
         assert_eq!(super::survey(image).err(), Some(Reason::ChainBroken.at(1)));
     }
@@ -164,7 +183,7 @@ mod tests {
     fn with(slot: u8, at: usize, bytes: &[u8]) -> Option<Refused> {
         let mut image = case_l();
         put(&mut image, slot, at, bytes);
-        directory(whole(&image).expect("a whole image")).err()
+        directory(whole(&image).expect("a whole image"), Purpose::Use).err()
     }
 
     #[test]

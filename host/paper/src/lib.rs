@@ -1,5 +1,5 @@
-//! Document 01 in plain Rust, and M-100 of document 02, written from the papers alone. The tests and the benchmark compare
-//! the proved library with it.
+//! Document 01 in plain Rust, with those requests of document 02 that have landed, written from the papers alone. The tests
+//! and the benchmark compare the proved library with it.
 //!
 //! Every call takes any bytes and any numbers. A refused call changes no byte of anything lent.
 //!
@@ -7,8 +7,8 @@
 //! - `map`: the 1,560 bits of a slot's map or of the used map
 //! - `name`: names asked for and new names
 //! - `slot`: what the 256 bytes of a directory slot say
-//! - `check`: refusals 1 to 11
-//! - `calls`: check, list, read, start address, raw sector
+//! - `check`: refusals 1 to 11, and 22 before a release
+//! - `calls`: the two checks, list, read, start address, raw sector
 //! - `pieces`: a file's body a piece at a time
 //! - `save`: the change that takes slots and sectors
 //! - `changes`: the changes of one directory byte or name
@@ -25,7 +25,7 @@ mod refusal;
 mod save;
 mod slot;
 
-pub use calls::{Listed, check, list, read, sector, start};
+pub use calls::{Listed, check, check_release, list, read, sector, start};
 pub use changes::{erase, hide, protect, release, rename, show};
 pub use pieces::{Reader, next, open};
 pub use refusal::Refused;

@@ -6,7 +6,7 @@ use crate::geometry::{Address, Image, PAYLOAD_BYTES, SECTOR_BYTES, SLOT_BYTES, S
 use crate::map::Map;
 use crate::name::{Name, fresh};
 use crate::refusal::{Reason, Refused};
-use crate::slot::{self, HEADER_BYTES, PAGE_BYTES, find, is_carried, slots};
+use crate::slot::{self, HEADER_BYTES, PAGE_BYTES, find, is_carried, sectors_for, slots};
 
 /// What a save asks for.
 #[derive(Clone, Copy, Debug)]
@@ -53,11 +53,6 @@ pub fn save(image: &mut [u8], wish: &Wish, list: &mut [u8]) -> Result<usize, Ref
     write_slot(image, slot, wish, &name, &map, count);
     directory[0] = number_bytes(slot_place(slot) / SECTOR_BYTES);
     Ok(count + 1)
-}
-
-/// How many sectors a body of this length takes with its header.
-fn sectors_for(length: usize) -> usize {
-    (HEADER_BYTES + length).div_ceil(PAYLOAD_BYTES)
 }
 
 /// A sector number as the list has it.
@@ -144,16 +139,4 @@ fn write_slot(image: &mut Image, number: u8, wish: &Wish, name: &Name, map: &Map
 /// The first bytes, up to a number of them.
 fn at_most(bytes: &[u8], most: usize) -> &[u8] {
     &bytes[..bytes.len().min(most)]
-}
-
-#[cfg(test)]
-mod tests {
-    use super::*;
-
-    #[test]
-    fn the_papers_sector_counts() {
-        for (length, sectors) in [(0, 1), (501, 1), (502, 2), (10_000, 20), (795_591, 1_560), (795_592, 1_561)] {
-            assert_eq!(sectors_for(length), sectors);
-        }
-    }
 }

@@ -1,6 +1,6 @@
 //! What the 256 bytes of a directory slot say.
 
-use crate::geometry::{Address, Image, SLOT_BYTES, SLOTS, slot_place};
+use crate::geometry::{Address, Image, PAYLOAD_BYTES, SLOT_BYTES, SLOTS, slot_place};
 use crate::map::{MAP_BYTES, Map};
 use crate::name::Name;
 
@@ -23,6 +23,11 @@ pub const HEADER_BYTES: usize = 9;
 
 /// A page of memory: lengths are pages and a remainder.
 pub const PAGE_BYTES: usize = 16_384;
+
+/// How many sectors a body of this length takes with its header: the least n with 510 × n ≥ 9 + length.
+pub fn sectors_for(length: usize) -> usize {
+    (HEADER_BYTES + length).div_ceil(PAYLOAD_BYTES)
+}
 
 /// The kinds whose length and body this paper carries.
 pub fn is_carried(kind: u32) -> bool {
@@ -142,6 +147,13 @@ mod tests {
         assert_eq!((slot.kind(), slot.count(), slot.page(), slot.offset()), (19, 300, 29, 32_768));
         assert_eq!((slot.length(), slot.remainder()), (16_384, 0));
         assert!(slot.is_live() && slot.is_protected() && slot.is_carried());
+    }
+
+    #[test]
+    fn the_papers_sector_counts() {
+        for (length, sectors) in [(0, 1), (501, 1), (502, 2), (10_000, 20), (795_591, 1_560), (795_592, 1_561)] {
+            assert_eq!(sectors_for(length), sectors);
+        }
     }
 
     #[test]

@@ -59,6 +59,11 @@ const DRY_RUN: Choice = flag(
 order, and write nothing; then IMAGE may be `-`,
 standard input",
 );
+const RELEASE: Choice = flag(
+    &["--release"],
+    "refuse waste sectors too: more sectors behind a file
+than its length needs (kinds 16 to 20)",
+);
 const COLOR: Choice = valued(
     &["--color"],
     "WHEN",
@@ -132,10 +137,14 @@ const fn on_name(name: &'static str, brief: &'static str, run: fn(&Given) -> Out
 pub const COMMANDS: &[Command] = &[
     Command {
         name: "check",
-        places: &["IMAGE"],
-        options: &[&NO_WAIT],
-        brief: "tell whether a disk is sound",
-        more: &["Prints `accepted`, or says which slot is wrong and why.", PIPE],
+        places: &["IMAGE..."],
+        options: &[&RELEASE, &NO_WAIT],
+        brief: "tell whether a disk is sound, and fit to go out",
+        more: &[
+            "Prints `accepted`, or says which slot is wrong and why. Of several images
+each gets its line, with its name in front, and the greatest status is given.",
+            PIPE,
+        ],
         run: check::run,
     },
     Command {

@@ -113,3 +113,31 @@ fn raw_sectors_are_parts_of_the_chosen_image() {
         assert_eq!(one.sector(track, sector), Ok(one.at(number)));
     }
 }
+
+/// A disk may go out where no file has a sector more than its length needs; every other call takes it all the same.
+#[test]
+fn waste_sectors_are_found_before_a_release() {
+    for (length, waste) in [(0, true), (1, true), (501, true), (502, false), (900, false), (1_011, false)] {
+        let disk = shortened(length);
+        let refused = disk.check_release().map_err(|refused| parts(refused).0);
+        assert_eq!(refused, if waste { Err(22) } else { Ok(()) }, "{length} bytes");
+        assert_eq!(disk.image().check_release(), disk.check_release());
+        let entry = disk.listing().find(&name("TWO")).unwrap();
+        assert_eq!(
+            (entry.sector_count(), entry.least_sectors()),
+            (2, Some(if waste { 1 } else { 2 }))
+        );
+        assert!(
+            disk.read(&name("TWO")).unwrap()[..usize::from(length).min(900)] == body(900)[..usize::from(length).min(900)]
+        );
+        assert_eq!(disk.image().check(), Ok(()));
+    }
+    let strange = Disk::open(damaged(&[(0, 5), (240, 1), (241, 0)])).unwrap();
+    assert_eq!(
+        (strange.check_release(), strange.listing().entries()[1].least_sectors()),
+        (Ok(()), None)
+    );
+    // What the check refuses this one refuses too.
+    assert_eq!(parts(damaged(&[(0, 13)]).check_release().unwrap_err()).0, 2);
+    assert_eq!(blank().check_release(), Ok(()));
+}

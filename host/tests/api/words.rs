@@ -19,11 +19,11 @@ fn every_number_prints_with_and_without_a_slot() {
         assert_eq!(at.to_string(), format!("refusal {number} at slot 80: {words}"));
     }
     assert_eq!(Refusal::from_number(0), None);
-    let distinct: HashSet<_> = (1..=21).map(|number| Refusal::from_number(number).unwrap()).collect();
-    assert_eq!(distinct.len(), 21);
+    let distinct: HashSet<_> = (1..=22).map(|number| Refusal::from_number(number).unwrap()).collect();
+    assert_eq!(distinct.len(), 22);
 }
 
-/// Each of the 21 refusals, brought about and caught as an error.
+/// Each of the 22 refusals, brought about and caught as an error.
 #[test]
 fn every_refusal_is_met() {
     let mut met = Vec::new();
@@ -37,7 +37,7 @@ fn every_refusal_is_met() {
         assert_eq!(parts(refused), (number, slot, format!("refusal {number}{at}: {words}")));
         met.push(number);
     }
-    assert_eq!(met, (1..=21).collect::<Vec<u8>>());
+    assert_eq!(met, (1..=22).collect::<Vec<u8>>());
 }
 
 /// A refusal of every number, each with the number and the slot that it should have.
@@ -66,6 +66,7 @@ fn provoked() -> Vec<(u8, u16, Refused)> {
         calls::list(pair().image().as_bytes(), &mut [0; 515]).decode().unwrap_err(),
     ));
     all.push((21, 0, Track::new(80).unwrap_err()));
+    all.push((22, 2, shortened(501).check_release().unwrap_err()));
     all
 }
 

@@ -25,9 +25,10 @@ static void check_reasons(void) {
         VARNUCHT_TOO_FEW_SECTORS,
         VARNUCHT_BUFFER_TOO_SHORT,
         VARNUCHT_NO_SUCH_SECTOR,
+        VARNUCHT_WASTE_SECTORS,
     };
-    expect(sizeof reasons / sizeof reasons[0] == 22, "how many refusals", 22);
-    for (int number = 0; number < 22; number++) {
+    expect(sizeof reasons / sizeof reasons[0] == 23, "how many refusals", 23);
+    for (int number = 0; number < 23; number++) {
         expect(reasons[number] == number, "the number of a refusal", (unsigned long)number);
     }
 }

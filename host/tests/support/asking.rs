@@ -46,7 +46,7 @@ impl Asked {
 pub fn draw(call: Call, facts: &Facts, random: &mut Random) -> Asked {
     let asked = Asked::new(call);
     match call {
-        Call::Check => asked,
+        Call::Check | Call::CheckRelease => asked,
         Call::List => asked.with(OUT, buffer(258 * facts.live.len(), random)),
         Call::Open | Call::Start => asked.with(NAME, asked_name(facts, random)),
         Call::Next => readers::draw(facts, random),

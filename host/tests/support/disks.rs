@@ -4,7 +4,7 @@ use super::fields;
 use super::geometry::{BITS, PAYLOAD, SECTOR, SLOT, SLOTS, address, bit_place, fills, slot_place};
 use super::names::{self, Name};
 use super::random::Random;
-use super::shapes::{Ground, Shape};
+use super::shapes::Shape;
 
 #[derive(Clone)]
 pub struct File {
@@ -37,7 +37,7 @@ pub fn of_shape(shape: &Shape, random: &mut Random) -> Disk {
     let mut free = shape.free(random);
     for &(slot, count) in &shape.files {
         let chain = free.drain(..count).collect();
-        let file = disk.write(slot, chain, shape.ground, random);
+        let file = disk.write(slot, chain, shape, random);
         disk.files.push(file);
     }
     for slot in 1..=SLOTS {
@@ -74,14 +74,14 @@ impl Disk {
         BITS - self.files.iter().map(|file| file.chain.len()).sum::<usize>()
     }
 
-    fn write(&mut self, slot: usize, chain: Vec<usize>, ground: Ground, random: &mut Random) -> File {
+    fn write(&mut self, slot: usize, chain: Vec<usize>, shape: &Shape, random: &mut Random) -> File {
         let kind = if random.one_in(3) {
             random.pick(&fields::KNOWN)
         } else {
             random.between(16, 20) as u8
         };
         let name = names::draw(random, &self.names());
-        let mut bytes = ground.bytes(SLOT, random);
+        let mut bytes = shape.ground.bytes(SLOT, random);
         bytes[0] = kind | random.byte() & (fields::HIDDEN | fields::PROTECTED);
         bytes[fields::NAME..fields::COUNT].copy_from_slice(&name);
         fields::set_count(&mut bytes, chain.len());
@@ -94,7 +94,11 @@ impl Disk {
         }
         start(&mut bytes, random);
         let body = if fields::is_carried(kind) {
-            let length = length(chain.len(), random);
+            let length = if shape.tidy {
+                tidy_length(chain.len(), random)
+            } else {
+                length(chain.len(), random)
+            };
             bytes[fields::PAGES] = (length / 16_384) as u8;
             bytes[fields::REMAINDER..fields::EXEC].copy_from_slice(&fields::remainder(length, random.byte()));
             self.carry(kind, &chain, length, random)
@@ -161,5 +165,15 @@ fn length(sectors: usize, random: &mut Random) -> usize {
         3 => 0,
         4 => full - full % 16_384,
         _ => random.between(0, full),
+    }
+}
+
+/// The length of a body that needs all of so many sectors: the least, the most, or anything between.
+fn tidy_length(sectors: usize, random: &mut Random) -> usize {
+    let least = if sectors == 1 { 0 } else { fills(sectors - 1) + 1 };
+    match random.below(3) {
+        0 => least,
+        1 => fills(sectors),
+        _ => random.between(least, fills(sectors)),
     }
 }

@@ -9,6 +9,8 @@ pub struct Shape {
     pub files: Vec<(usize, usize)>,
     pub order: Order,
     pub ground: Ground,
+    /// Whether every carried file has no more sectors than it needs.
+    pub tidy: bool,
 }
 
 /// In which order the files take their sectors.
@@ -48,7 +50,12 @@ impl Shape {
             1 => Ground::Filled(random.pick(&[1, 4, 229, 255])),
             _ => Ground::Rubbish,
         };
-        Shape { files, order, ground }
+        Shape {
+            files,
+            order,
+            ground,
+            tidy: random.one_in(4),
+        }
     }
 
     /// The data sectors in the order in which they are taken.

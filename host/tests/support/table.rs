@@ -1,5 +1,5 @@
-/// The words of document 01's table, from number 1 on, copied from it.
-pub const TABLE: [&str; 21] = [
+/// The words of document 01's table, from number 1 on, copied from it; and those of the rows that document 02 adds.
+pub const TABLE: [&str; 22] = [
     "the image is not 819,200 bytes",
     "the kind is not known",
     "the first name byte is 0",
@@ -21,4 +21,5 @@ pub const TABLE: [&str; 21] = [
     "fewer free sectors than the save takes",
     "a lent output buffer is too short",
     "no such drive, track or sector",
+    "carried kind, and the count is above the least that its length needs (waste sectors behind the file)",
 ];

@@ -1,5 +1,6 @@
 //! The tool's commands, each run as a process: what it prints, what it does to the file, and its exit status.
 use crate::support::*;
+use std::ffi::OsString;
 use std::fs;
 use varnucht::{LONGEST_BODY, Name};
 
@@ -22,6 +23,83 @@ fn check_accepts_and_refuses() {
     on("read", &image, [""]).fails(1, "disk.mgt: refusal 3 at slot 1");
     on("save", &image, ["", "/dev/null", "--kind", "5", "--page", "32"]).fails(1, "disk.mgt: refusal 3 at slot 1");
     assert_eq!(fs::read(&image).unwrap(), bytes);
+}
+
+/// A disk with the files ONE and TWO, of which TWO says in its slot and in its header that it has so many bytes.
+fn shortened(length: u16) -> Vec<u8> {
+    let mut bytes = disk(&[("ONE", 10), ("TWO", 1_000)]).into_image().into_bytes();
+    // ONE takes one sector, so TWO begins at track 4, sector 2.
+    for place in [256 + 240, 81 * 512 + 1] {
+        bytes[place..place + 2].copy_from_slice(&length.to_le_bytes());
+    }
+    bytes
+}
+
+#[test]
+fn check_before_a_release() {
+    let folder = Folder::new();
+    let words = "refusal 22 at slot 2: carried kind, and the count is above the least that its length needs \
+                 (waste sectors behind the file)";
+    for length in [0, 501, 502, 1_000] {
+        let image = folder.file("disk.mgt", &shortened(length));
+        assert_eq!(on("check", &image, NONE).done(), "accepted\n");
+        let run = on("check", &image, ["--release"]);
+        match length {
+            ..=501 => run.fails(1, &format!("disk.mgt: {words}: TWO has 2 sectors and needs 1\n")),
+            _ => assert_eq!(run.done(), "accepted\n"),
+        }
+        on("list", &image, ["--release"]).fails(2, "`list` has no option `--release`");
+    }
+    // What else is wrong behind it does not hide it; then the file is not named.
+    let mut bytes = shortened(1);
+    bytes[512] = 63;
+    let image = folder.file("disk.mgt", &bytes);
+    on("check", &image, NONE).fails(1, "disk.mgt: refusal 2 at slot 3: ");
+    on("check", &image, ["--release"]).fails(1, &format!("disk.mgt: {words}\n"));
+}
+
+/// Several images: a line each, in their order, and the greatest status of all.
+#[test]
+fn check_of_several_images() {
+    let folder = Folder::new();
+    let good = folder.file("good.mgt", &shortened(1_000)).into_os_string();
+    let waste = folder.file("waste.mgt", &shortened(9)).into_os_string();
+    let short = folder.file("short.mgt", b"PK\x03\x04").into_os_string();
+    let missing = folder.path("missing.mgt").into_os_string();
+    let check = |words: &[&OsString]| run([&"check".into()].into_iter().chain(words.iter().copied()));
+    let (release, name) = (OsString::from("--release"), |path: &OsString| {
+        path.to_str().unwrap().to_string()
+    });
+    let accepted = |path: &OsString| format!("{}: accepted\n", name(path));
+
+    assert_eq!(check(&[&good, &waste]).done(), accepted(&good) + &accepted(&waste));
+    assert_eq!(check(&[&release, &good, &good, &good]).done(), accepted(&good).repeat(3));
+    let run = check(&[&good, &waste, &release, &good]);
+    assert_eq!((run.status, run.text()), (1, accepted(&good).repeat(2).as_str()));
+    assert_eq!(run.err.lines().count(), 1, "{}", run.err);
+    assert!(
+        run.err
+            .starts_with(&format!("varnucht: {}: refusal 22 at slot 2: ", name(&waste))),
+        "{}",
+        run.err
+    );
+
+    // Nothing stops the rest from being checked.
+    let run = check(&[&missing, &good, &short, &release, &waste]);
+    assert_eq!((run.status, run.text()), (3, accepted(&good).as_str()));
+    let said: Vec<&str> = run.err.lines().collect();
+    assert_eq!(said.len(), 4, "{}", run.err);
+    assert!(said[0].contains("missing.mgt: No such file") && said[1].contains("short.mgt: refusal 1: "));
+    assert!(said[2].starts_with("It looks like a file packed with zip") && said[3].contains("waste.mgt: refusal 22 "));
+    let run = check(&[&waste, &short]);
+    assert_eq!((run.status, run.text()), (1, accepted(&waste).as_str()));
+
+    // Standard input is one of them, once.
+    let piped = fed([&"check".into(), &good, &"-".into()], &shortened(9));
+    assert_eq!(piped.done(), accepted(&good) + "standard input: accepted\n");
+    fed([&"check".into(), &OsString::from("-"), &good, &"-".into()], &shortened(9))
+        .fails(2, "standard input can be read once");
+    assert_eq!(folder.names(), ["good.mgt", "short.mgt", "waste.mgt"]);
 }
 
 #[test]

@@ -1,9 +1,19 @@
--- `directory::live_rows` meets its contract: its own rows first, then the two against the slots before it.
-use mathlib.Core.Path.{_∙_}
-use Rattle.directory.proofs.Pass.{slot-own, slot-shared, slot-twice, slot-clear}
+-- `directory::live_rows` meets its contract: its own rows first, then the one that the release check asks for, then the two
+-- against the slots before it.
+use mathlib.Core.Path.{_≡_, sym, _∙_}
+use mathlib.Core.Bool.{false, _&&_}
+use mathlib.Core.Logic.{⊎-elim}
+use denote.Ref.{now}
+use Rattle.slots.specs.Slot.{facts}
+use Rattle.slots.specs.Rows.{wasteful}
+use Rattle.directory.proofs.Pass.{slot-own, slot-waste, slot-shared, slot-twice, slot-clear}
 use borrow.Author.Needs.{needs}
 use Rattle.directory.proofs.live_rows.Statement.{statement}
 use Rattle.directory.proofs.live_rows.Tie as tie
+
+-- past row 22 it was not asked for, or it does not hold
+lean : (c : tie.Joined1) → let a = c .before .before .before .before .before .before .before .before .args in (a .release && wasteful (facts (now (a .s)))) ≡ false
+lean c = ⊎-elim (λ t. rw (t .0 .taken) (sym (t .1 .ensures) ∙ t .2 .left)) (λ t. rw (t .left)) (c .if1 .came)
 
 add-slot : tie.Need-add-slot
 add-slot c = search needs
@@ -17,11 +27,8 @@ enum-known-f c = search needs
 enum-told : tie.Need-enum-told
 enum-told c = search needs
 
-map-of-requires : tie.Need-map-of-requires
-map-of-requires c κs = search needs
-
-shares-requires : tie.Need-shares-requires
-shares-requires c κs = search needs
+is-wasteful-requires : tie.Need-is-wasteful-requires
+is-wasteful-requires c κs = search needs
 
 unsound-requires : tie.Need-unsound-requires
 unsound-requires c κs = search needs
@@ -29,17 +36,18 @@ unsound-requires c κs = search needs
 returns : tie.Need-returns
 returns c =
     let t = c .before in
-    let m = t .before .before in
-    let o = m .before .before .before in
+    let a = t .before .before in
+    let o = a .before .before .before in
     let p = o .before .before .before .before .before .pre in
     c .unsound .ensures
-    ∙ slot-shared _ _ _ _ (p .here) (p .used) _ (o .own-rows .ensures) (m .before .enum-told .given .1) (m .map-of .ensures) (t .before .shares .ensures) (t .if1 .taken)
+    ∙ slot-waste _ _ _ _ _ (p .here) (p .used) _ (o .own-rows .ensures) (a .before .enum-told .given .1)
+    (rw (a .if1 .taken) (sym (t .before .is-wasteful .ensures) ∙ t .if2 .taken))
 
-name-of-requires : tie.Need-name-of-requires
-name-of-requires c κs = search needs
+map-of-requires : tie.Need-map-of-requires
+map-of-requires c κs = search needs
 
-named-before-requires : tie.Need-named-before-requires
-named-before-requires c κs = search needs
+shares-requires : tie.Need-shares-requires
+shares-requires c κs = search needs
 
 unsound-requires-2 : tie.Need-unsound-requires-2
 unsound-requires-2 c κs = search needs
@@ -47,28 +55,49 @@ unsound-requires-2 c κs = search needs
 returns-2 : tie.Need-returns-2
 returns-2 c =
     let t = c .before in
-    let n = t .before .before in
-    let m = n .before .before .before in
-    let o = m .before .before .before in
+    let m = t .before .before in
+    let j = m .before in
+    let o = j .before .before .before in
     let p = o .before .before .before .before .before .pre in
     c .unsound2 .ensures
-    ∙ slot-twice _ _ _ _ (p .here) (p .used) _ (o .own-rows .ensures) (m .before .enum-told .given .1) (m .map-of .ensures) (n .before .before .shares .ensures)
-    (n .before .if1 .left) (n .name-of .ensures) (t .before .named-before .ensures) (t .if2 .taken)
+    ∙ slot-shared _ _ _ _ _ (p .here) (p .used) _ (o .own-rows .ensures) (j .before .enum-told .given .1) (lean j) (m .map-of .ensures) (t .before .shares .ensures) (t .if3 .taken)
+
+name-of-requires : tie.Need-name-of-requires
+name-of-requires c κs = search needs
+
+named-before-requires : tie.Need-named-before-requires
+named-before-requires c κs = search needs
+
+unsound-requires-3 : tie.Need-unsound-requires-3
+unsound-requires-3 c κs = search needs
 
 returns-3 : tie.Need-returns-3
 returns-3 c =
-    let o = c .before .before .before in
+    let t = c .before in
+    let n = t .before .before in
+    let m = n .before .before .before in
+    let j = m .before in
+    let o = j .before .before .before in
     let p = o .before .before .before .before .before .pre in
-    slot-own _ _ _ _ (p .here) (p .used) _ (o .own-rows .ensures) _ (c .before .f .given .1)
+    c .unsound3 .ensures
+    ∙ slot-twice _ _ _ _ _ (p .here) (p .used) _ (o .own-rows .ensures) (j .before .enum-told .given .1) (lean j) (m .map-of .ensures) (n .before .before .shares .ensures)
+    (n .before .if3 .left) (n .name-of .ensures) (t .before .named-before .ensures) (t .if4 .taken)
 
 returns-4 : tie.Need-returns-4
 returns-4 c =
+    let o = c .before .before .before in
+    let p = o .before .before .before .before .before .pre in
+    slot-own _ _ _ _ _ (p .here) (p .used) _ (o .own-rows .ensures) _ (c .before .f .given .1)
+
+returns-5 : tie.Need-returns-5
+returns-5 c =
     let n = c .before .before in
     let m = n .before .before .before in
-    let o = m .before .before .before in
+    let j = m .before in
+    let o = j .before .before .before in
     let p = o .before .before .before .before .before .pre in
-    slot-clear _ _ _ _ (p .here) (p .used) _ (o .own-rows .ensures) (m .before .enum-told .given .1) (m .map-of .ensures) (n .before .before .shares .ensures)
-    (n .before .if1 .left) (n .name-of .ensures) (c .before .named-before .ensures) (c .if2 .left)
+    slot-clear _ _ _ _ _ (p .here) (p .used) _ (o .own-rows .ensures) (j .before .enum-told .given .1) (lean j) (m .map-of .ensures) (n .before .before .shares .ensures)
+    (n .before .if3 .left) (n .name-of .ensures) (c .before .named-before .ensures) (c .if4 .left)
 
 pub live-rows-spec : {M : Type 1} → statement M
 live-rows-spec =
@@ -78,13 +107,16 @@ live-rows-spec =
     own-rows-requires
     enum-known-f
     enum-told
-    map-of-requires
-    shares-requires
+    is-wasteful-requires
     unsound-requires
     returns
-    name-of-requires
-    named-before-requires
+    map-of-requires
+    shares-requires
     unsound-requires-2
     returns-2
+    name-of-requires
+    named-before-requires
+    unsound-requires-3
     returns-3
-    returns-4)
+    returns-4
+    returns-5)

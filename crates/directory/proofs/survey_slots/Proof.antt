@@ -1,13 +1,15 @@
 -- `directory::survey_slots` meets its contract: the reply is that of the slots from `i` on, and the used map that of those before.
 use Prim.Native.Nat.{_-_, _≤_}
 use mathlib.Core.Path.{_≡_, refl, sym, ap, _∙_}
+use mathlib.Core.Option.{none}
 use native.Mathlib.Omega.{arith}
+use denote.Ref.{now}
 use Rattle.refusals.specs.Order.{sweepFrom}
 use Rattle.refusals.specs.Answers.{replyOf}
 use Rattle.refusals.proofs.First.{sweep-skip}
 use Rattle.directory.specs.Places.{slots}
 use Rattle.directory.specs.Directory.{slotsRead, directory}
-use Rattle.directory.specs.Survey.{surveyAt, survey, union, counted}
+use Rattle.directory.specs.Survey.{surveyAt, surveyBy, union, counted}
 use Rattle.directory.proofs.Live.{met-live, met-dead}
 use Rattle.directory.proofs.Keys.{Noted, noted-none, noted-few, noted-dead, noted-live}
 use Rattle.directory.proofs.Pass.{survey-dead, survey-start, used-start, used-dead, reached, apart, used-more, pass-stops, pass-ends}
@@ -16,11 +18,16 @@ use Rattle.directory.proofs.survey_slots.Statement.{statement}
 use Rattle.directory.proofs.survey_slots.Tie as tie
 
 abbrev Inv-loop : tie.InvT-loop
-Inv-loop dir end used₀ keys₀ files₀ i₀ used keys files i =
-    (i ≤ slotsRead dir) × (used ≡ counted (union (directory dir) i)) × (survey 0 (directory dir) ≡ sweepFrom (slots - i) i (surveyAt 0 (directory dir))) × Noted dir i keys files
+Inv-loop dir release end used₀ keys₀ files₀ i₀ used keys files i =
+    (i ≤ slotsRead dir) × (used ≡ counted (union (directory dir) i)) × (surveyBy release 0 (directory dir) ≡ sweepFrom (slots - i) i (surveyAt release 0 (directory dir))) × Noted dir i keys files
 
 abbrev μ-loop : tie.MeasureT-loop
-μ-loop dir end used₀ keys₀ files₀ i₀ used keys files i = end - i
+μ-loop dir release end used₀ keys₀ files₀ i₀ used keys files i = end - i
+
+-- a slot at which no row holds
+passed : (t : tie.After-enum-told Inv-loop μ-loop) → let l = t .before .before .before .before .before .before .before .before .before .before .before in
+    surveyAt (l .before .before .before .before .args .release) 0 (directory (now (l .before .before .before .before .args .dir))) (l .loop .i) ≡ none
+passed t = sym (ap replyOf (sym (t .enum-told .given .1)) ∙ t .before .before .live-rows .ensures)
 
 slots-read-requires : tie.Need-slots-read-requires Inv-loop μ-loop
 slots-read-requires c κs = search needs
@@ -29,7 +36,7 @@ unused-requires : tie.Need-unused-requires Inv-loop μ-loop
 unused-requires c κs = search needs
 
 loop-holds : tie.Need-loop-holds Inv-loop μ-loop
-loop-holds c = (omega arith, used-start _ _ (c .unused .ensures), survey-start _ _, noted-none _ _ refl)
+loop-holds c = (omega arith, used-start _ _ (c .unused .ensures), survey-start _ _ _, noted-none _ _ refl)
 
 slot-at-requires : tie.Need-slot-at-requires Inv-loop μ-loop
 slot-at-requires c κs = search needs
@@ -60,7 +67,7 @@ returns c =
     let f = c .before .before in
     let l = f .before .before .before .before .before .before .before .before .before .before in
     let a = l .before .loop in
-    pass-stops _ _ (a .i) (a .inv .2) _ (omega (arith, l .before .before .before .slots-read .ensures .0)) (ap replyOf (sym (f .f .given .1)) ∙ f .before .before .live-rows .ensures) (c .refused .ensures)
+    pass-stops _ _ _ (a .i) (a .inv .2) _ (omega (arith, l .before .before .before .slots-read .ensures .0)) (ap replyOf (sym (f .f .given .1)) ∙ f .before .before .live-rows .ensures) (c .refused .ensures)
 
 enum-told : tie.Need-enum-told Inv-loop μ-loop
 enum-told c = search needs
@@ -93,7 +100,7 @@ joined-requires c κs =
     let t = c .before .before .before .before in
     let y = t .before .before .before .before .before .before .before in
     let a = y .before .before .before .before .loop in
-    apart _ (a .i) _ (a .inv .1) _ (met-live _ _ (y .before .before .slot-at .ensures) (y .before .is-live .ensures) (omega arith) (y .if1 .taken)) (c .before .map-of .ensures) (c .count-of .ensures .0) (sym (ap replyOf (sym (t .enum-told .given .1)) ∙ t .before .before .live-rows .ensures))
+    apart _ (a .i) _ (a .inv .1) _ (met-live _ _ (y .before .before .slot-at .ensures) (y .before .is-live .ensures) (omega arith) (y .if1 .taken)) (c .before .map-of .ensures) (c .count-of .ensures .0) _ (passed t)
 
 loop-less : tie.Need-loop-less Inv-loop μ-loop
 loop-less c = search needs
@@ -106,7 +113,7 @@ loop-again c =
     let e = met-live _ _ (y .before .before .slot-at .ensures) (y .before .is-live .ensures) (omega arith) (y .if1 .taken) in (
       omega arith,
       used-more _ (a .i) _ (a .inv .1) _ e (c .before .before .map-of .ensures) _ (c .joined .ensures),
-      a .inv .2 ∙ sweep-skip slots (a .i) _ (omega arith) (sym (ap replyOf (sym (t .enum-told .given .1)) ∙ t .before .before .live-rows .ensures)),
+      a .inv .2 ∙ sweep-skip slots (a .i) _ (omega arith) (passed t),
       noted-live _ _ _ _ (a .inv .3) (omega arith) _ e (c .before .before .before .before .name-of .ensures) (c .before .before .before .key-of .ensures),
     )
 
@@ -118,10 +125,10 @@ loop-again-2 c =
     let s = c .before .before in
     let a = s .before .before .loop in
     let e = met-dead _ _ (s .slot-at .ensures) (c .before .is-live .ensures) (c .if1 .left) in
-    (omega arith, used-dead _ (a .i) _ (a .inv .1) e, a .inv .2 ∙ sweep-skip slots (a .i) _ (omega arith) (survey-dead 0 _ (a .i) e), noted-dead _ _ _ _ (a .inv .3) (omega arith) e)
+    (omega arith, used-dead _ (a .i) _ (a .inv .1) e, a .inv .2 ∙ sweep-skip slots (a .i) _ (omega arith) (survey-dead _ 0 _ (a .i) e), noted-dead _ _ _ _ (a .inv .3) (omega arith) e)
 
 returns-2 : tie.Need-returns-2 Inv-loop μ-loop
-returns-2 c = let a = c .before .loop in pass-ends _ _ (a .i) (a .inv .2) (omega arith) (omega arith) refl (a .inv .1) (a .inv .3 .live)
+returns-2 c = let a = c .before .loop in pass-ends _ _ _ (a .i) (a .inv .2) (omega arith) (omega arith) refl (a .inv .1) (a .inv .3 .live)
 
 pub survey-slots-spec : {M : Type 1} → statement M
 survey-slots-spec =

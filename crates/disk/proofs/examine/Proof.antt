@@ -1,75 +1,15 @@
--- `disk::examine` meets its contract: each way out has the tests that led there.
-use mathlib.Core.Path.{sym, ap, _∙_}
-use Rattle.refusals.specs.Answers.{replyOf}
-use Rattle.directory.proofs.Pass.{surveyed-sound}
-use Rattle.disk.proofs.Examined.{examined-length, examined-survey, examined-chains, examined-sound}
+-- `disk::examine` meets its contract: it is the check's.
 use borrow.Author.Needs.{needs}
+use Rattle.disk.specs.Check.{checkDisk}
 use Rattle.disk.proofs.examine.Statement.{statement}
 use Rattle.disk.proofs.examine.Tie as tie
 
-unsound-requires : tie.Need-unsound-requires
-unsound-requires c κs = search needs
-
-refused-requires : tie.Need-refused-requires
-refused-requires c κs = search needs
+examine-by-requires : tie.Need-examine-by-requires
+examine-by-requires c κs = search needs
 
 returns : tie.Need-returns
-returns c = examined-length _ (c .before .before .if1 .taken) _ (c .before .unsound .ensures) _ (c .refused .ensures)
-
-survey-slots-requires : tie.Need-survey-slots-requires
-survey-slots-requires c κs = search needs
-
-enum-told : tie.Need-enum-told
-enum-told c = search needs
-
-enum-told-2 : tie.Need-enum-told-2
-enum-told-2 c = search needs
-
-all-chains-requires : tie.Need-all-chains-requires
-all-chains-requires c κs = surveyed-sound _ _ (c .before .before .survey-slots .ensures) (c .enum-told2 .given .1) .2
-
-enum-told-3 : tie.Need-enum-told-3
-enum-told-3 c = search needs
-
-refused-requires-2 : tie.Need-refused-requires-2
-refused-requires-2 c κs = search needs
-
-enum-told-4 : tie.Need-enum-told-4
-enum-told-4 c = search needs
-
-returns-2 : tie.Need-returns-2
-returns-2 c =
-    let v = c .before .before in
-    examined-survey _ (v .before .if1 .left) _ (v .survey-slots .ensures) _ (c .enum-told .given .1)
-
-returns-3 : tie.Need-returns-3
-returns-3 c =
-    let a = c .before .before .before in
-    let v = a .before .before .before in
-    examined-chains _ (v .before .if1 .left) _ (v .survey-slots .ensures) (a .before .enum-told2 .given .1) _ _ (c .before .enum-told3 .given .1)
-    (a .all-chains .ensures) _ (c .refused2 .ensures)
-
-returns-4 : tie.Need-returns-4
-returns-4 c =
-    let a = c .before .before in
-    let v = a .before .before .before in
-    examined-sound _ (v .before .if1 .left) _ (v .survey-slots .ensures) (a .before .enum-told2 .given .1)
-    (ap replyOf (sym (c .enum-told4 .given .1)) ∙ a .all-chains .ensures)
+unfolding checkDisk
+returns c = c .examine-by .ensures
 
 pub examine-spec : {M : Type 1} → statement M
-examine-spec =
-    tie.close
-    (tie.spec
-    unsound-requires
-    refused-requires
-    returns
-    survey-slots-requires
-    enum-told
-    enum-told-2
-    all-chains-requires
-    enum-told-3
-    refused-requires-2
-    enum-told-4
-    returns-2
-    returns-3
-    returns-4)
+examine-spec = tie.close (tie.spec examine-by-requires returns)

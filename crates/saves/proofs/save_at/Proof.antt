@@ -1,7 +1,7 @@
 -- `saves::save_at` meets its contract: each way out has the tests that led there.
 use mathlib.Core.Path.{refl}
 use denote.Ref.{now}
-use Rattle.plans.specs.Saving.{sectorsFor}
+use Rattle.slots.specs.Slot.{sectorsFor}
 use Rattle.saves.proofs.Planned.{save-few, save-large, save-short, savable, save-done}
 use borrow.Author.Needs.{needs}
 use Rattle.saves.proofs.save_at.Statement.{statement}

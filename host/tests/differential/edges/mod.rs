@@ -6,6 +6,7 @@ mod bodies;
 mod buffers;
 mod names;
 mod order;
+mod release;
 mod slots;
 
 use crate::support::asking::Asked;

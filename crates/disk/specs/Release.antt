@@ -1,0 +1,18 @@
+-- What the release check asks beyond the first, without the table's rows and their order.
+use Prim.Native.Nat.{ℕ, _+_, _*_, _≤_, _<_}
+use mathlib.Core.List.{List}
+use mathlib.Core.Option.{some}
+use mathlib.Core.Path.{_≡_}
+use Rattle.slots.specs.Slot.{kindOf, countOf, facts, lengthOf}
+use Rattle.chains.specs.File.{File}
+use Rattle.directory.specs.Places.{slots}
+use Rattle.disk.specs.Look.{Look}
+use Rattle.disk.specs.Sound.{Carried}
+
+-- "no waste sectors behind a file": where k sectors hold the nine bytes and the body of a carried file, it has no more than k
+abbrev pub LeanFile : List ℕ → Type 0
+LeanFile s = Carried (kindOf s) → (k : ℕ) → 9 + lengthOf (facts s) ≤ 510 * k → countOf s ≤ k
+
+-- of every live file
+abbrev pub Lean : Look → Type 0
+Lean l = (i : ℕ) (f : File) → i < slots → l .files i ≡ some f → LeanFile (f .bytes)

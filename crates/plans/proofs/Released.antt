@@ -1,0 +1,131 @@
+-- A change leaves no waste sector behind a file where there was none: what the release check accepts before it, it accepts after it,
+-- whichever number of the change's sectors is written.
+use Prim.Native.Nat.{ℕ, _%_, _≤_, _<_}
+use mathlib.Core.Path.{_≡_, sym, ap, _∙_, subst, subst₂}
+use mathlib.Core.Bool.{true, true≢false}
+use mathlib.Core.List.{List}
+use mathlib.Core.Logic.{⊎-elim}
+use mathlib.Core.Option.{Option, none, some, Option·some-injective}
+use native.Mathlib.Decide.{ℕ-discrete}
+use native.Mathlib.Nat.{eq-or-lt-of-le}
+use native.Mathlib.Omega.{arith}
+use lib.ListN.{length, getD}
+use Rattle.buffers.specs.Bytes.{put}
+use Rattle.buffers.proofs.Lists.{put-before, put-after}
+use Rattle.slots.specs.Slot.{isLive, kindOf, facts, lengthOf}
+use Rattle.slots.specs.Name.{padded}
+use Rattle.slots.proofs.Least.{sectors-few}
+use Rattle.chains.specs.File.{File}
+use Rattle.disk.specs.Look.{Look, look, slotsOf}
+use Rattle.disk.specs.Check.{checkDisk, checkRelease}
+use Rattle.disk.specs.Release.{LeanFile, Lean}
+use Rattle.disk.proofs.Release.{release-accepts, release-exactly}
+use Rattle.steps.specs.Sectors.{cut}
+use Rattle.plans.specs.Change.{Wish, Change, save, erase, rename, mark, marked}
+use Rattle.plans.specs.Plan.{upd, entryOf, made, run, finds}
+use Rattle.plans.specs.Accepted.{Unprotected, Renames}
+use Rattle.plans.specs.After.{marking}
+use Rattle.plans.proofs.Frame.{disk-sound, upd-same, upd-other, entry-alive, entry-is, holds-long}
+use Rattle.plans.proofs.Kept.{sound-long, usable-is}
+use Rattle.plans.proofs.NewFile.{newFile, count-is, length-is}
+use Rattle.plans.proofs.Crash.{unseen, run-made}
+use Rattle.plans.proofs.Sure.{sure}
+use Rattle.plans.proofs.Effect.{Touched, erasing, erased, marked-so, renamed}
+use Rattle.plans.proofs.Demand3.{crash, change-accepted}
+use Rattle.plans.proofs.ReadBack.{Stored, stored}
+use Rattle.plans.proofs.After.{first-byte, kind-bits}
+
+-- ---- one slot
+
+-- with the kind and every byte from 11 on as they were
+lean-kept : (s t : List ℕ) → kindOf t ≡ kindOf s → ((j : ℕ) → 11 ≤ j → getD t j 0 ≡ getD s j 0) → LeanFile s → LeanFile t
+unfolding facts lengthOf
+lean-kept s t p r w = rw (p, r 11 (omega arith), r 12 (omega arith), r 239 (omega arith), r 240 (omega arith), r 241 (omega arith)) w
+
+-- slot i of a look holds another file, or none
+lean-upd : (l : Look) (i : ℕ) (o : Option File) → Lean l → ((f : File) → o ≡ some f → LeanFile (f .bytes)) → Lean (upd l i o)
+lean-upd l i o w h j f k q = by (ℕ-discrete j i)
+  where
+    by : Dec (j ≡ i) → LeanFile (f .bytes)
+    by (yes z) = h f (sym (upd-same l i o) ∙ ap (upd l i o .files) (sym z) ∙ q)
+    by (no z) = w j f k (sym (upd-other l i o j z) ∙ q)
+
+-- a change of the slot that it finds, if that slot is as lean as it was where it is still live
+touched-lean : (d n : List ℕ) (o : ℕ) (y : File → List ℕ) (Also : File → Type 0) (new ss : List ℕ) → Lean (look d) → (t : Touched d n o y Also new ss)
+    → (isLive (put (t .file .bytes) o (y (t .file))) ≡ true → LeanFile (t .file .bytes) → LeanFile (put (t .file .bytes) o (y (t .file)))) → Lean (look new)
+touched-lean d n o y Also new ss w t k =
+    let now : List ℕ = put (t .file .bytes) o (y (t .file)) in
+    subst Lean (sym (t .seen))
+    (lean-upd (look d) (t .slot) (entryOf now (t .file .sectors)) w
+    (λ f e.
+    subst (λ (f : File). LeanFile (f .bytes)) (sym (entry-is now (t .file .sectors) f e))
+    (k (entry-alive now (t .file .sectors) f e) (w (t .slot) (t .file) (t .found .below) (t .found .here)))))
+
+-- the slot of a save: "the least n with 510 × n ≥ 9 + length"
+saved-lean : (d : List ℕ) (w : Wish) (new ss : List ℕ) → Lean (look d) → Stored d w new ss → Lean (look new)
+saved-lean d w new ss h k =
+    subst Lean (sym (k .seen))
+    (lean-upd (look d) (k .slot) (some saved) h
+    (λ f e. subst (λ (f : File). LeanFile (f .bytes)) (Option·some-injective saved f e) new-lean))
+  where
+    saved : File
+    saved = newFile (slotsOf (look d)) (k .slot) w (k .bits)
+
+    new-lean : LeanFile (saved .bytes)
+    new-lean c m e =
+        let n = count-is (slotsOf (look d)) (k .slot) w (k .bits) in
+        let b = length-is (slotsOf (look d)) (k .slot) w (k .bits) in
+        omega (arith, n, k .ready .long, sectors-few (length (w .body)) m (omega (arith, b)))
+
+-- ---- every change
+
+module _ (d : List ℕ) (ok : checkRelease d ≡ none) (room : ℕ) (new ss : List ℕ) where
+  first : checkDisk d ≡ none
+  first = release-accepts d ok
+
+  lean : Lean (look d)
+  lean = release-exactly d .0 ok .1
+
+  change-lean : (c : Change) → run c d room ≡ made new ss → Lean (look new)
+  change-lean (save w) e = saved-lean d w new ss lean (stored d first room w new ss e)
+  change-lean (erase n) e =
+      let t = erased d first room new ss n e in
+      let z = holds-long d (t .slot) (t .file) (t .found .here) (sound-long d (disk-sound d first)) in
+      touched-lean d n 0 erasing Unprotected new ss lean t
+      (λ a. absurd (true≢false (sym a ∙ rw (first-byte (t .file .bytes) 0 (omega arith)))))
+  change-lean (rename n to) e =
+      let t = renamed d first room new ss n to e in
+      let u = usable-is to (t .also .name) in
+      let s : List ℕ = t .file .bytes in
+      touched-lean d n 1 (λ f. padded to) (Renames d to) new ss lean t
+      (λ a.
+      lean-kept s (put s 1 (padded to)) (ap (λ (x : ℕ). x % 64) (put-before s 1 (padded to) 0 (omega arith)))
+      (λ j h. put-after s 1 (padded to) j (omega (arith, u .1))))
+  change-lean (mark k n) e =
+      let t = marked-so d first room new ss k n e in
+      let z = holds-long d (t .slot) (t .file) (t .found .here) (sound-long d (disk-sound d first)) in
+      let s : List ℕ = t .file .bytes in
+      let x : ℕ = getD s 0 0 in
+      touched-lean d n 0 (marking k) (λ f. Unit {0}) new ss lean t
+      (λ a.
+      lean-kept s (put s 0 (marking k (t .file))) (ap (λ (x : ℕ). x % 64) (first-byte s (marked k x) (omega arith)) ∙ kind-bits k x)
+      (λ j h. put-after s 0 (marking k (t .file)) j (omega arith)))
+
+  -- the disk that an accepted change leaves
+  pub change-released : (c : Change) → run c d room ≡ made new ss → checkRelease new ≡ none
+  change-released c e = release-exactly new .1 (change-accepted c d room new ss first e, change-lean c e)
+
+  -- before the last sector nothing is seen to change
+  cut-look : (c : Change) → run c d room ≡ made new ss → (k : ℕ) → k < length ss → look (cut d new ss k) ≡ look d
+  cut-look c e k =
+      let m = run-made c d room new ss first e in
+      subst₂ (λ (n s : List ℕ). k < length s → look (cut d n s k) ≡ look d) (m .disk) (m .named)
+      (unseen (finds c) d first (m .steps) (sure c d (m .steps) (disk-sound d first) (m .planned)) k)
+
+  -- and every cut of it
+  pub cut-released : (c : Change) → run c d room ≡ made new ss → (k : ℕ) → k ≤ length ss → checkRelease (cut d new ss k) ≡ none
+  cut-released c e k h =
+      let s = crash c d room new ss first e in
+      ⊎-elim (λ (q : k ≡ length ss). ap (λ (m : ℕ). checkRelease (cut d new ss m)) q ∙ ap checkRelease (s .whole) ∙ change-released c e)
+      (λ (q : k < length ss). release-exactly (cut d new ss k) .1 (s .accepts k h, subst Lean (sym (cut-look c e k q)) lean))
+      (eq-or-lt-of-le h)
