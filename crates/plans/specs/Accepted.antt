@@ -8,7 +8,7 @@ use lib.ListN.{length, getD}
 use Rattle.geometry.specs.Disk.{bitNumber}
 use Rattle.maps.specs.Bits.{has}
 use Rattle.slots.specs.Slot.{protected, nameOf, mapOf}
-use Rattle.slots.specs.Name.{askable, padded}
+use Rattle.slots.specs.Name.{Same, askable, padded}
 use Rattle.chains.specs.File.{File}
 use Rattle.directory.specs.Places.{slots, slotBytes, dirSector}
 use Rattle.directory.specs.Directory.{directory}
@@ -24,30 +24,36 @@ use Rattle.plans.specs.Saving.{sectorsFor}
 pub record Named (d n : List ℕ) (i : ℕ) (f : File) : Type 0 where
   pub below : i < slots
   pub here : look d .files i ≡ some f
-  pub name : nameOf (f .bytes) ≡ padded n
+  pub name : Same (nameOf (f .bytes)) (padded n)
 
 -- no live slot has the name
 abbrev pub Fresh : List ℕ → List ℕ → Type 0
-Fresh d n = (i : ℕ) (f : File) → look d .files i ≡ some f → nameOf (f .bytes) ≡ padded n → ⊥
+Fresh d n = (i : ℕ) (f : File) → look d .files i ≡ some f → Same (nameOf (f .bytes)) (padded n) → ⊥
 
 -- bit 6 is clear
 abbrev pub Unprotected : File → Type 0
 Unprotected f = protected (f .bytes) ≡ false
 
 -- the disk is accepted, the name can be asked for, a live slot has it, more holds of its file, and the list has room for one number
-pub record Allowed (d n : List ℕ) (Also : File → Type 0) (room : ℕ) : Type 0 where
+pub record Allowed (d n : List ℕ) (Also : ℕ → File → Type 0) (room : ℕ) : Type 0 where
   pub disk : checkDisk d ≡ none
   pub name : askable n ≡ true
   pub slot : ℕ
   pub file : File
   pub found : Named d n slot file
-  pub also : Also file
+  pub also : Also slot file
   pub list : 1 ≤ room
 
--- for a rename: the new name is usable, no live slot has it, and the file is not protected
-pub record Renames (d new : List ℕ) (f : File) : Type 0 where
+-- no live slot but slot i has the name
+abbrev pub FreshBut : List ℕ → ℕ → List ℕ → Type 0
+FreshBut d i n = (j : ℕ) (g : File) → (j ≡ i → ⊥) → look d .files j ≡ some g → Same (nameOf (g .bytes)) (padded n) → ⊥
+
+-- for a rename of the file in slot i: the new name is usable, no other live slot has it, the ten bytes stored are others, and the
+-- file is not protected
+pub record Renames (d new : List ℕ) (i : ℕ) (f : File) : Type 0 where
   pub name : usable new ≡ true
-  pub fresh : Fresh d new
+  pub fresh : FreshBut d i new
+  pub other : nameOf (f .bytes) ≡ padded new → ⊥
   pub unprotected : Unprotected f
 
 -- a slot whose byte 0 is zero

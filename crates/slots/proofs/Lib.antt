@@ -1,2 +1,4 @@
+pub mod Letters
 pub mod Names
+pub mod Keys
 pub mod Rows
