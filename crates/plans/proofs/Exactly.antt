@@ -76,8 +76,8 @@ module _ (d n : List ℕ) (ok : checkDisk d ≡ none) (i : ℕ) (f : File) (w : 
   named-file = ap (held noFile (fileAt (look d))) named-find ∙ ap (held noFile (λ f. f)) (w .here)
 
   -- no other slot has the new name and the bytes stored are others: 16 does not hold
-  untaken : (new : List ℕ) → FreshBut d i new → (nameOf (f .bytes) ≡ padded new → ⊥) → renameRow16 (look d) n new .holds ≡ false
-  untaken new u v = rw (named-slot, named-file) (by (find (slotsOf (look d)) new) refl)
+  not-taken : (new : List ℕ) → FreshBut d i new → (nameOf (f .bytes) ≡ padded new → ⊥) → renameRow16 (look d) n new .holds ≡ false
+  not-taken new u v = rw (named-slot, named-file) (by (find (slotsOf (look d)) new) refl)
     where
       own : (j : ℕ) → find (slotsOf (look d)) new ≡ some j → (t : Bool) → eqb j i ≡ t → j ≡ i
       own j q true z = eqb-true j i z
@@ -146,7 +146,7 @@ module _ (d n : List ℕ) (room : ℕ) where
             (
               ap not (named-some d n (a .disk) (a .slot) (a .file) (a .found)),
               (
-                untaken d n (a .disk) (a .slot) (a .file) (a .found) new (a .also .fresh) (a .also .other),
+                not-taken d n (a .disk) (a .slot) (a .file) (a .found) new (a .also .fresh) (a .also .other),
                 (
                   ap (λ (f : File). protected (f .bytes)) (named-file d n (a .disk) (a .slot) (a .file) (a .found)) ∙ a .also .unprotected,
                   (le-ltb room 1 (a .list), tt),

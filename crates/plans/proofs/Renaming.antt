@@ -1,5 +1,4 @@
--- Refusal 16 of a rename, in the words of the request: at the file's own slot where the ten bytes stored are the new ones, or at
--- another that has the name.
+-- Refusal 16 of a rename, and its slot.
 use Prim.Native.Nat.{ℕ, suc}
 use mathlib.Core.Path.{_≡_, refl, sym, ap, _∙_}
 use mathlib.Core.Bool.{Bool, true, false, not, _&&_, true≢false, false≢true}
@@ -23,14 +22,10 @@ use Rattle.plans.specs.Plan.{respells, stopped, run}
 use Rattle.files.specs.Asked.{someNamed, slotNamed, by-check, by-row}
 use Rattle.files.proofs.Asked.{some-named, none-named}
 use Rattle.plans.specs.Refused.{changeRows, renameRow16, Refuses}
-use Rattle.plans.specs.Accepted.{Named}
+use Rattle.plans.specs.Accepted.{Named, Bars}
 use Rattle.plans.proofs.Named.{found-file}
 use Rattle.plans.proofs.Refused.{refused-exactly}
 use Rattle.plans.proofs.Exactly.{named-find, named-slot, named-some, named-file, peel, other}
-
--- slot j bars the new name of the file in slot i: its own by its bytes, another by its name
-abbrev pub Bars : List ℕ → List ℕ → ℕ → File → ℕ → Type 0
-Bars d new i f j = ((j ≡ i) × (nameOf (f .bytes) ≡ padded new)) ⊎ ((j ≡ i → ⊥) × (g : File) × Named d new j g)
 
 respells-not : (i j : ℕ) (f : File) (new : List ℕ) → respells (suc i) (suc j) f new ≡ false → (j ≡ i → ⊥) ⊎ ((j ≡ i) × (nameOf (f .bytes) ≡ padded new))
 respells-not i j f new = by (eqb (suc j) (suc i)) (sameBytes (nameOf (f .bytes)) (padded new)) refl refl
@@ -72,7 +67,8 @@ module _ (d n new : List ℕ) (room : ℕ) (ok : checkDisk d ≡ none) (a : aska
       let s : slotNamed (look d) new ≡ suc j = named-slot d new ok j g v in
       (s, rw (named-some d new ok j g v, named-slot d n ok i f w, s, named-file d n ok i f w, ne-eqb (suc j) (suc i) (λ (x : suc j ≡ suc i). z (omega arith))))
 
-  -- "a new name equal to the stored bytes stays refused", and a name that another live slot has
+  -- "a new name equal to the stored bytes stays refused", and one that another live slot has; each at that slot, which is the only
+  -- one and so the lowest
   pub rename-16 : (j : ℕ) → (run (rename n new) d room ≡ stopped (refuse 16 (suc j))) ↔ Bars d new i f j
   unfolding changeRows
   rename-16 j = (λ e. there (refused-exactly (rename n new) d room (refuse 16 (suc j)) .0 e), back)

@@ -3,6 +3,7 @@ use Prim.Native.Nat.{ℕ, _+_, _-_, _*_, _≤_, _<_}
 use mathlib.Core.Path.{_≡_}
 use mathlib.Core.Bool.{true, false}
 use mathlib.Core.List.{List, [], _∷_, _++_, map}
+use mathlib.Core.Logic.{_⊎_}
 use mathlib.Core.Option.{none, some}
 use lib.ListN.{length, getD}
 use Rattle.geometry.specs.Disk.{bitNumber}
@@ -48,13 +49,17 @@ pub record Allowed (d n : List ℕ) (Also : ℕ → File → Type 0) (room : ℕ
 abbrev pub FreshBut : List ℕ → ℕ → List ℕ → Type 0
 FreshBut d i n = (j : ℕ) (g : File) → (j ≡ i → ⊥) → look d .files j ≡ some g → Same (nameOf (g .bytes)) (padded n) → ⊥
 
--- for a rename of the file in slot i: the new name is usable, no other live slot has it, the ten bytes stored are others, and the
--- file is not protected
+-- for a rename of the file in slot i: the new name is usable, no other live slot has it, and the file is not protected. "A rename
+-- that alters only the case of its own name is allowed; a new name equal to the stored bytes stays refused."
 pub record Renames (d new : List ℕ) (i : ℕ) (f : File) : Type 0 where
   pub name : usable new ≡ true
   pub fresh : FreshBut d i new
   pub other : nameOf (f .bytes) ≡ padded new → ⊥
   pub unprotected : Unprotected f
+
+-- the new name of the file in slot i is refused at slot j: its own, which stores these bytes, or another that has the name
+abbrev pub Bars : List ℕ → List ℕ → ℕ → File → ℕ → Type 0
+Bars d new i f j = ((j ≡ i) × (nameOf (f .bytes) ≡ padded new)) ⊎ ((j ≡ i → ⊥) × (g : File) × Named d new j g)
 
 -- a slot whose byte 0 is zero
 abbrev pub Empty : List ℕ → ℕ → Type 0

@@ -75,7 +75,7 @@ pub record AfterRename (d n to new ss : List ℕ) : Type 0 where
   pub now : Named new to slot (record { bytes = put (file .bytes) 1 (padded to); sectors = file .sectors })
   -- reading and the start address give for the new name what they gave for the old one
   pub answers : SameAnswers new to d n
-  -- and refuse that 15 where the new name is another; where it is the same name, they give for it what they gave
+  -- the old one is refused 15 where the new one is another name; where it "alters only the case" the old spelling finds the file
   pub gone : (Same (padded n) (padded to) → ⊥) → Gone new n
   pub respelt : Same (padded n) (padded to) → SameAnswers new n d n
 

@@ -41,7 +41,7 @@ row14 w = rowAt 14 0 (startOutside (w .page) (w .offset))
 abbrev pub row16 : Look → List ℕ → SlotRow
 row16 l n = rowAt 16 (slotNamed l n) (someNamed l n)
 
--- the same for a rename, but not where the name is the file's own in other bytes
+-- the same for a rename, but where it "alters only the case of its own name"
 abbrev pub renameRow16 : Look → List ℕ → List ℕ → SlotRow
 renameRow16 l n new = rowAt 16 (slotNamed l new) (someNamed l new && not (respells (slotNamed l n) (slotNamed l new) (fileNamed l n) new))
 

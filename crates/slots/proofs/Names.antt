@@ -77,12 +77,13 @@ same-long xs ys e = sym (length-lowered xs) ∙ ap length (same-is xs ys e) ∙ 
 
 -- "Names that differ only in a to z against A to Z are the same name", and no others
 pub same-exactly : (a b : List ℕ) → (Same a b → OneName a b) × (OneName a b → Same a b)
-same-exactly a b =
-    (λ e. record { long = same-long a b e; letters = λ i h. lower-is (getD a i 0) (getD b i 0) (sym (lowered-at a i) ∙ ap (λ (l : List ℕ). getD l i 0) (same-is a b e) ∙ lowered-at b i) },
-    λ w.
-    is-same a b
-    (ext-getD 0 (lowered a) (lowered b) (length-lowered a ∙ w .long ∙ sym (length-lowered b))
-    (λ i h. lowered-at a i ∙ is-lower (getD a i 0) (getD b i 0) (w .letters i (omega (arith, length-lowered a))) ∙ sym (lowered-at b i))))
+same-exactly a b = (
+  λ e. record { long = same-long a b e; letters = λ i h. lower-is (getD a i 0) (getD b i 0) (sym (lowered-at a i) ∙ ap (λ (l : List ℕ). getD l i 0) (same-is a b e) ∙ lowered-at b i) },
+  λ w.
+      is-same a b
+      (ext-getD 0 (lowered a) (lowered b) (length-lowered a ∙ w .long ∙ sym (length-lowered b))
+      (λ i h. lowered-at a i ∙ is-lower (getD a i 0) (getD b i 0) (w .letters i (omega (arith, length-lowered a))) ∙ sym (lowered-at b i))),
+)
 
 -- an equivalence
 pub same-eq : (a b : List ℕ) → a ≡ b → Same a b

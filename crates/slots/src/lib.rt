@@ -144,8 +144,7 @@ fn lower(b: u8) -> u8
     b + 32
 }
 
-// Whether two names are the same, capitals or not. Most bytes that are compared are equal or no letters of one kind, so case
-// is looked at only where they differ.
+// Whether two names are the same, capitals or not. Case is looked at only where two bytes differ.
 pub fn same_name(a: &[u8], b: &[u8]) -> bool
     ensures { λ r. ⌜ r ≡ sameName (now (a .entry)) (now (b .entry)) ⌝ }
 {
