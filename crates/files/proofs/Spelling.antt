@@ -6,7 +6,7 @@ use Rattle.slots.specs.Name.{Same, askable}
 use Rattle.slots.proofs.Names.{same-padded, same-askable}
 use Rattle.directory.specs.Find.{find}
 use Rattle.directory.proofs.Search.{find-same}
-use Rattle.disk.specs.Look.{Look, look, slotsOf}
+use Rattle.disk.specs.Look.{look, slotsOf}
 use Rattle.files.specs.Calls.{fileNamed, readReply, readLook, reading, startReply, startLook, starting}
 
 -- on every disk, accepted or not, for every two spellings, usable or not

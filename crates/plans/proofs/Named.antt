@@ -1,8 +1,8 @@
 -- A name on a disk: the live slot that has it, and none other where the disk is sound.
 use Prim.Native.Nat.{ℕ, _<_}
-use mathlib.Core.Path.{_≡_, refl, sym, ap, _∙_, subst}
+use mathlib.Core.Path.{_≡_, sym, ap, subst}
 use mathlib.Core.List.{List}
-use mathlib.Core.Option.{Option, none, some, Option·some-ne-none, Option·some-injective}
+use mathlib.Core.Option.{none, some}
 use native.Mathlib.Omega.{arith}
 use Rattle.slots.specs.Slot.{nameOf}
 use Rattle.slots.specs.Name.{Same, padded}

@@ -10,7 +10,7 @@ use borrow.Author.Tests.{eqb-true, eqb-false, eq-eqb, ne-eqb}
 use lib.Dec.{eqb}
 use Rattle.refusals.specs.Order.{Refusal, refuse}
 use Rattle.slots.specs.Slot.{nameOf}
-use Rattle.slots.specs.Name.{sameBytes, Same, askable, padded}
+use Rattle.slots.specs.Name.{sameBytes, askable, padded}
 use Rattle.slots.proofs.Names.{same-eq, are-bytes, bytes-are}
 use Rattle.chains.specs.File.{File}
 use Rattle.directory.specs.Find.{find}
@@ -20,12 +20,12 @@ use Rattle.files.specs.Calls.{fileAt, fileNamed}
 use Rattle.plans.specs.Change.{rename, usable}
 use Rattle.plans.specs.Plan.{respells, stopped, run}
 use Rattle.files.specs.Asked.{someNamed, slotNamed, by-check, by-row}
-use Rattle.files.proofs.Asked.{some-named, none-named}
+use Rattle.files.proofs.Asked.{none-named}
 use Rattle.plans.specs.Refused.{changeRows, renameRow16, Refuses}
 use Rattle.plans.specs.Accepted.{Named, Bars}
 use Rattle.plans.proofs.Named.{found-file}
 use Rattle.plans.proofs.Refused.{refused-exactly}
-use Rattle.plans.proofs.Exactly.{named-find, named-slot, named-some, named-file, peel, other}
+use Rattle.plans.proofs.Exactly.{named-slot, named-some, named-file, peel, other}
 
 respells-not : (i j : ℕ) (f : File) (new : List ℕ) → respells (suc i) (suc j) f new ≡ false → (j ≡ i → ⊥) ⊎ ((j ≡ i) × (nameOf (f .bytes) ≡ padded new))
 respells-not i j f new = by (eqb (suc j) (suc i)) (sameBytes (nameOf (f .bytes)) (padded new)) refl refl

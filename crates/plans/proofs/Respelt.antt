@@ -23,7 +23,7 @@ use Rattle.plans.specs.Accepted.{FreshBut}
 use Rattle.plans.proofs.Frame.{holds}
 use Rattle.plans.proofs.Named.{found-file, find-fresh, alone}
 
--- 16 is not given exactly where there is no slot to give it at
+-- where 16 is not given there is no slot to give it at
 pub taken-none : (o : Option ℕ) → takenAt o ≡ none → o ≡ none
 taken-none none e = refl
 taken-none (some i) e = absurd (Option·some-ne-none (refuse 16 (suc i)) e)

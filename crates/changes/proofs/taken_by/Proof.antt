@@ -1,8 +1,7 @@
 -- `changes::taken_by` meets its contract: by the slot that has the new name, and at its own by the bytes.
 use mathlib.Core.Path.{_≡_, sym, ap, _∙_}
 use mathlib.Core.Bool.{Bool, cond}
-use mathlib.Core.Option.{Option, none, some}
-use Prim.Native.Nat.{ℕ}
+use mathlib.Core.Option.{none, some}
 use denote.Ref.{now}
 use Rattle.directory.specs.Directory.{directory}
 use Rattle.directory.specs.Find.{find, foundAt}
