@@ -1,11 +1,11 @@
-//! Document 01 in plain Rust, with M-100 and M-102 of document 02, written from the papers alone. The tests and the benchmark
-//! compare the proved library with it.
+//! Document 01 in plain Rust, with M-100, M-102 and M-105 of document 02, written from the papers alone. The tests and the
+//! benchmark compare the proved library with it.
 //!
 //! Every call takes any bytes and any numbers. A refused call changes no byte of anything lent.
 //!
 //! - `geometry`: sides, tracks, sectors, map bits, slot places
 //! - `map`: the 1,560 bits of a slot's map or of the used map
-//! - `name`: names asked for and new names
+//! - `name`: names asked for and new names, and when two are the same
 //! - `slot`: what the 256 bytes of a directory slot say
 //! - `check`: refusals 1 to 11, and 22 before a release
 //! - `calls`: the two checks, list, read, start address, raw sector
