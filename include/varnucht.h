@@ -92,7 +92,7 @@ enum varnucht_reason {
     VARNUCHT_FIRST_NOT_OWN = 6,         /* the first address is not a data sector, or its bit is clear */
     VARNUCHT_LENGTH_TOO_GREAT = 7,      /* carried kind, and 510 * count is below 9 + length */
     VARNUCHT_SECTOR_SHARED = 8,         /* the map shares a bit with an earlier live slot */
-    VARNUCHT_NAME_TWICE = 9,            /* the ten name bytes equal an earlier live slot's */
+    VARNUCHT_NAME_TWICE = 9,            /* the name is an earlier live slot's, capitals or not (section 7) */
     VARNUCHT_CHAIN_BROKEN = 10,         /* the chain of sectors is broken: a link that leads out of the file's own sectors or
                                            back to one already passed, or a last link that is not 0, 0 */
     VARNUCHT_HEADER_DIFFERS = 11,       /* carried kind, and the header's first byte, remainder or pages differ from the
@@ -101,8 +101,8 @@ enum varnucht_reason {
     VARNUCHT_NAME_NOT_USABLE = 12,      /* the name is not usable: section 7 */
     VARNUCHT_KIND_NOT_CARRIED = 13,     /* the kind asked for (save) or found (read, open, start) is not 16 to 20 */
     VARNUCHT_START_OUT_OF_RANGE = 14,   /* start page above 31, or offset outside 32,768 to 49,151 (save, start) */
-    VARNUCHT_NAME_NOT_FOUND = 15,       /* no live slot has the name */
-    VARNUCHT_NAME_TAKEN = 16,           /* a live slot has the new name */
+    VARNUCHT_NAME_NOT_FOUND = 15,       /* no live slot has the name, capitals or not */
+    VARNUCHT_NAME_TAKEN = 16,           /* a live slot has the new name, capitals or not; varnucht_rename says more */
     VARNUCHT_FILE_PROTECTED = 17,       /* protected (erase, rename) */
     VARNUCHT_NO_FREE_SLOT = 18,         /* no slot has byte 0 zero: 80 files are there (save) */
     VARNUCHT_TOO_FEW_SECTORS = 19,      /* fewer free sectors than the save takes */
@@ -126,7 +126,7 @@ static inline const char *varnucht_words(unsigned refusal) {
     case VARNUCHT_LENGTH_TOO_GREAT: /* with a multiplication sign */
         return "carried kind, and 510 \xc3\x97 count is below 9 + length";
     case VARNUCHT_SECTOR_SHARED: return "the map shares a bit with an earlier live slot";
-    case VARNUCHT_NAME_TWICE: return "the ten name bytes equal an earlier live slot's";
+    case VARNUCHT_NAME_TWICE: return "the name is an earlier live slot's, capitals or not";
     case VARNUCHT_CHAIN_BROKEN: return "the chain is broken";
     case VARNUCHT_HEADER_DIFFERS:
         return "carried kind, and the header's first byte (whole), remainder (mod 16,384) or pages differ from the slot's "
@@ -135,8 +135,8 @@ static inline const char *varnucht_words(unsigned refusal) {
     case VARNUCHT_KIND_NOT_CARRIED: return "the kind asked for (save) or found (read, start address) is not carried";
     case VARNUCHT_START_OUT_OF_RANGE:
         return "start page above 31, or offset outside 32,768 to 49,151 (save, start address)";
-    case VARNUCHT_NAME_NOT_FOUND: return "no live slot has the name";
-    case VARNUCHT_NAME_TAKEN: return "a live slot has the new name";
+    case VARNUCHT_NAME_NOT_FOUND: return "no live slot has the name, capitals or not";
+    case VARNUCHT_NAME_TAKEN: return "a live slot has the new name, capitals or not";
     case VARNUCHT_FILE_PROTECTED: return "protected (erase, rename)";
     case VARNUCHT_NO_FREE_SLOT: return "no slot has byte 0 zero (save)";
     case VARNUCHT_TOO_FEW_SECTORS: return "fewer free sectors than the save takes";
@@ -158,7 +158,7 @@ uint64_t varnucht_check(const uint8_t *image, size_t image_len);
 
 /* Whether the disk is good and fit to go out: no file of a carried kind has waste sectors behind it, where old texts hide. A
  * file has them where its count is above the least that its length needs. Every other call accepts such a disk still.
- * Value: 0. Refusals: 1 to 11, 22. Stack: 1,224 bytes. */
+ * Value: 0. Refusals: 1 to 11, 22. Stack: 1,336 bytes. */
 uint64_t varnucht_check_release(const uint8_t *image, size_t image_len);
 
 /* Every file, hidden ones too, by rising slot, at 258 bytes each from the front of `out`; section 6 says how to read them.
@@ -193,7 +193,7 @@ uint64_t varnucht_read(const uint8_t *image, size_t image_len, const uint8_t *na
  * than that the call answers and touches nothing but `out`. */
 
 /* Finds a file. Value: the length of its body in bytes, 0 to 795,591. Slot: the sector that the body begins in, 0 to 1,599.
- * Free: the place of its first byte there, 9. Refusals: 1 to 11, 12, 13, 15, as varnucht_read has them. Stack: 1,304 bytes. */
+ * Free: the place of its first byte there, 9. Refusals: 1 to 11, 12, 13, 15, as varnucht_read has them. Stack: 1,416 bytes. */
 uint64_t varnucht_open(const uint8_t *image, size_t image_len, const uint8_t *name, size_t name_len);
 
 /* The next bytes, to the front of `out`: as many as it holds or as are left.
@@ -299,7 +299,8 @@ uint64_t varnucht_save(uint8_t *image, size_t image_len, uint32_t kind, const ui
 uint64_t varnucht_erase(uint8_t *image, size_t image_len, const uint8_t *name, size_t name_len, uint8_t *list,
                         size_t list_len);
 
-/* Gives a file a new name (section 7); a name that any file has is refused 16, the file's own too. Value: 1.
+/* Gives a file a new name (section 7). It may be the file's own with other capitals. Refused 16 where another file has the
+ * name, capitals or not (slot: that file's), or where the file has it already, byte for byte (slot: its own). Value: 1.
  * Refusals: 1 to 11, 12 (either name), 15, 16, 17, 20. */
 uint64_t varnucht_rename(uint8_t *image, size_t image_len, const uint8_t *name, size_t name_len, const uint8_t *new_name,
                          size_t new_name_len, uint8_t *list, size_t list_len);
@@ -388,9 +389,10 @@ static inline const uint8_t *varnucht_entry_exec(const uint8_t *entry) { return 
 /* 7. NAMES AND KINDS
  *
  * A name is given as 1 to 10 bytes with no 0 behind them, so "TUNES" has length 5. A shorter name is filled with spaces (32)
- * to ten bytes, and then names compare byte for byte: "TUNES" and "TUNES " are one name, "TUNES" and "tunes" are two. A name
- * asked for may hold any bytes, but the first is not 0. A new name (save, rename) has bytes 32 to 126 alone, and the first
- * is not 32. Anything else is refused 12.
+ * to ten bytes, and then names compare byte for byte, where a to z count as A to Z: "TUNES", "TUNES " and "tunes" are one
+ * name, which no two files of a disk have. No other bytes are letters. A slot stores a new name as it was given, and the
+ * listing shows it so. A name asked for may hold any bytes, but the first is not 0. A new name (save, rename) has bytes 32
+ * to 126 alone, and the first is not 32. Anything else is refused 12.
  *
  * A kind is a number. 1 to 12 and 16 to 23 are known, and their files are listed, erased, renamed and marked. Only the
  * carried kinds, 16 to 20, have a body and a start address for these calls, and only they can be saved. */

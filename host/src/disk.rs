@@ -168,6 +168,18 @@ impl Disk {
     }
 
     /// Gives a file another name: [`Change::Rename`]. Refused 15, and 16 and 17 with the slot.
+    ///
+    /// ```
+    /// use varnucht::{CarriedKind, Disk, Image, Name, NewFile, NewName, Start};
+    ///
+    /// let mut disk = Disk::open(Image::blank())?;
+    /// let (old, new) = (NewName::new("TUNES")?, NewName::new("Tunes")?);
+    /// let _ = disk.save(&NewFile::new(CarriedKind::Code, old, Start::new(1, 32_768)?, b"la la la"))?;
+    /// let _ = disk.rename(&Name::new("tunes")?, &new)?; // the case of its own name alone
+    /// assert_eq!(disk.listing().entries()[0].name().to_string(), "Tunes");
+    /// assert_eq!(disk.rename(&old.name(), &new).unwrap_err().refusal.number(), 16); // it has those bytes already
+    /// # Ok::<(), varnucht::Refused>(())
+    /// ```
     pub fn rename(&mut self, name: &Name, new: &NewName) -> Result<Sectors<'_>, Refused> {
         self.change(&Change::Rename(*name, *new))
     }

@@ -55,7 +55,7 @@
 //! assert_eq!(disk.listing().free(), 1_559);
 //!
 //! let refused = disk.save(&file).unwrap_err();
-//! assert_eq!(refused.to_string(), "refusal 16 at slot 1: a live slot has the new name");
+//! assert_eq!(refused.to_string(), "refusal 16 at slot 1: a live slot has the new name, capitals or not");
 //! # Ok::<(), Box<dyn std::error::Error>>(())
 //! ```
 //!

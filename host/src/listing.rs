@@ -33,7 +33,7 @@ impl Listing {
         &self.entries
     }
 
-    /// The file of this name, if there is one.
+    /// The file of this name, capitals or not, if there is one.
     pub fn find(&self, name: &Name) -> Option<&Entry> {
         self.entries.iter().find(|entry| entry.name() == *name)
     }

@@ -23,7 +23,7 @@ pub enum Refusal {
     TooFewSectors,
     /// 8: the map shares a bit with an earlier live slot.
     SharedSector,
-    /// 9: the ten name bytes equal an earlier live slot's.
+    /// 9: the name is an earlier live slot's, capitals or not.
     SharedName,
     /// 10: the chain is broken.
     BrokenChain,
@@ -35,9 +35,10 @@ pub enum Refusal {
     NotCarried,
     /// 14: start page above 31, or offset outside 32,768 to 49,151.
     StartOutside,
-    /// 15: no live slot has the name.
+    /// 15: no live slot has the name, capitals or not.
     NotFound,
-    /// 16: a live slot has the new name.
+    /// 16: a live slot has the new name, capitals or not. A rename may alter the capitals of the file's own name; it is
+    /// refused where another file has the name, or the file itself has it byte for byte.
     NameTaken,
     /// 17: the file is protected.
     Protected,
@@ -68,7 +69,7 @@ const TABLE: [(Refusal, &str); 22] = [
     ),
     (Refusal::TooFewSectors, "carried kind, and 510 × count is below 9 + length"),
     (Refusal::SharedSector, "the map shares a bit with an earlier live slot"),
-    (Refusal::SharedName, "the ten name bytes equal an earlier live slot's"),
+    (Refusal::SharedName, "the name is an earlier live slot's, capitals or not"),
     (Refusal::BrokenChain, "the chain is broken"),
     (
         Refusal::Header,
@@ -84,8 +85,8 @@ const TABLE: [(Refusal, &str); 22] = [
         Refusal::StartOutside,
         "start page above 31, or offset outside 32,768 to 49,151 (save, start address)",
     ),
-    (Refusal::NotFound, "no live slot has the name"),
-    (Refusal::NameTaken, "a live slot has the new name"),
+    (Refusal::NotFound, "no live slot has the name, capitals or not"),
+    (Refusal::NameTaken, "a live slot has the new name, capitals or not"),
     (Refusal::Protected, "protected (erase, rename)"),
     (Refusal::NoFreeSlot, "no slot has byte 0 zero (save)"),
     (Refusal::NoRoom, "fewer free sectors than the save takes"),
@@ -123,7 +124,7 @@ impl Refusal {
     /// The papers' words: when this refusal is given.
     ///
     /// ```
-    /// assert_eq!(varnucht::Refusal::NotFound.words(), "no live slot has the name");
+    /// assert_eq!(varnucht::Refusal::NotFound.words(), "no live slot has the name, capitals or not");
     /// ```
     pub fn words(self) -> &'static str {
         TABLE
@@ -166,7 +167,7 @@ impl fmt::Display for Slot {
 /// let refused = disk.read(&Name::new("TUNES")?).unwrap_err();
 /// assert_eq!(refused.refusal.number(), 15);
 /// assert_eq!(refused.slot, None);
-/// assert_eq!(refused.to_string(), "refusal 15: no live slot has the name");
+/// assert_eq!(refused.to_string(), "refusal 15: no live slot has the name, capitals or not");
 /// # Ok::<(), Box<dyn std::error::Error>>(())
 /// ```
 #[derive(Clone, Copy, Debug, PartialEq, Eq, Hash)]

@@ -27,7 +27,8 @@ use Rattle.files.specs.Calls.{fileAt}
 use Rattle.steps.specs.Steps.{enact, numbers}
 use Rattle.plans.specs.Change.{Wish, Change, save, erase, rename, mark, marked, between, usable}
 use Rattle.plans.specs.Saving.{taken, lowestSlot, slotTaken}
-use Rattle.plans.specs.Plan.{touch, saveSteps, Plan, no, go, orNo, byName, nameTaken, isProtected, saveReply, planOf, plan, Result, stopped, made, settle, checked, run, Changed, changed, changedBy, change}
+use Rattle.plans.specs.Plan.{touch, saveSteps, Plan, no, go, orNo, byName, takenAt, nameTaken, takenBy, renameTaken, isProtected, saveReply, planOf, plan, Result, stopped, made, settle, checked, run, Changed, changed, changedBy, change}
+use Rattle.plans.proofs.Respelt.{taken-found}
 use Rattle.plans.proofs.Free.{taken-long}
 use Rattle.plans.proofs.Refused.{save-long}
 use Rattle.plans.proofs.Sure.{save-tested}
@@ -67,12 +68,16 @@ module _ (l : Look) (n : List ℕ) where
       by none e = (omega arith, omega arith)
       by (some i) e = h i (find-some (slotsOf l) n i e .below)
 
+-- 16, at a slot that a search can give
+small-at : (o : Option ℕ) → ((i : ℕ) → o ≡ some i → i < 80) → Small (takenAt o)
+small-at none h = tt
+small-at (some i) h = let k : i < 80 = h i refl in (omega arith, omega arith)
+
 small-taken : (v : Directory) (n : List ℕ) → Small (nameTaken v n)
-small-taken v n = by (find v n) refl
-  where
-    by : (o : Option ℕ) → find v n ≡ o → Small (held none (λ i. some (refuse 16 (suc i))) o)
-    by none e = tt
-    by (some i) e = let h : i < 80 = find-some v n i e .below in (omega arith, omega arith)
+small-taken v n = small-at (find v n) (λ i e. find-some v n i e .below)
+
+small-renamed : (v : Directory) (i : ℕ) (f : File) (n : List ℕ) → Small (renameTaken v i f n)
+small-renamed v i f n = small-at (takenBy v i f n) (λ j e. find-some v n j (taken-found v i f n j e) .below)
 
 small-protected : (i : ℕ) (f : File) → i < 80 → Small (isProtected i f)
 small-protected i f h = small-row 17 (suc i) (protected (f .bytes)) (omega arith) (omega arith)
@@ -125,11 +130,11 @@ mild (erase n) l =
     (mild-named l n 1 (λ i f. orNo (isProtected i f) (go (touch l i f 0 (0 ∷ []))))
     (λ i h. mild-or 1 (isProtected i (fileAt l i)) (go (touch l i (fileAt l i) 0 (0 ∷ []))) (small-protected i (fileAt l i) h) (omega arith)))
 mild (rename n new) l =
-    mild-or 1 (row 12 0 (not (askable n && usable new))) (byName l n (λ i f. orNo (nameTaken (slotsOf l) new else isProtected i f) (go (touch l i f 1 (padded new)))))
+    mild-or 1 (row 12 0 (not (askable n && usable new))) (byName l n (λ i f. orNo (renameTaken (slotsOf l) i f new else isProtected i f) (go (touch l i f 1 (padded new)))))
     (small-row 12 0 (not (askable n && usable new)) (omega arith) (omega arith))
-    (mild-named l n 1 (λ i f. orNo (nameTaken (slotsOf l) new else isProtected i f) (go (touch l i f 1 (padded new))))
-    (λ i h. mild-or 1 (nameTaken (slotsOf l) new else isProtected i (fileAt l i)) (go (touch l i (fileAt l i) 1 (padded new)))
-    (small-else (nameTaken (slotsOf l) new) (isProtected i (fileAt l i)) (small-taken (slotsOf l) new) (small-protected i (fileAt l i) h)) (omega arith)))
+    (mild-named l n 1 (λ i f. orNo (renameTaken (slotsOf l) i f new else isProtected i f) (go (touch l i f 1 (padded new))))
+    (λ i h. mild-or 1 (renameTaken (slotsOf l) i (fileAt l i) new else isProtected i (fileAt l i)) (go (touch l i (fileAt l i) 1 (padded new)))
+    (small-else (renameTaken (slotsOf l) i (fileAt l i) new) (isProtected i (fileAt l i)) (small-renamed (slotsOf l) i (fileAt l i) new) (small-protected i (fileAt l i) h)) (omega arith)))
 mild (mark m n) l =
     mild-or 1 (row 12 0 (not (askable n))) (byName l n (λ i f. go (touch l i f 0 (marked m (getD (f .bytes) 0 0) ∷ [])))) (small-row 12 0 (not (askable n)) (omega arith) (omega arith))
     (mild-named l n 1 (λ i f. go (touch l i f 0 (marked m (getD (f .bytes) 0 0) ∷ []))) (λ i h. omega arith))

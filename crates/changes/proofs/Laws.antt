@@ -1,23 +1,24 @@
 -- What a change by name comes to: refused before its slot is found, at that slot, or the bytes put there and one sector named.
-use Prim.Native.Nat.{ℕ, _+_, _/_, _≤_, _<_}
-use mathlib.Core.Path.{_≡_, refl, sym, ap, _∙_}
-use mathlib.Core.Bool.{Bool, true, false, not, _&&_}
+use Prim.Native.Nat.{ℕ, suc, _+_, _/_, _≤_, _<_}
+use mathlib.Core.Path.{_≡_, refl, sym, ap, ap₂, _∙_}
+use mathlib.Core.Bool.{Bool, true, false, cond, not, _&&_}
 use mathlib.Core.List.{List, [], _∷_}
 use mathlib.Core.Option.{Option, none, some}
 use native.Mathlib.Numerals.{add-one}
 use native.Mathlib.Omega.{arith}
-use borrow.Author.Tests.{lt-ltb, le-ltb}
+use borrow.Author.Tests.{lt-ltb, le-ltb, eq-eqb, ne-eqb}
 use lib.ListN.{length, getD}
 use Rattle.buffers.specs.Bytes.{put}
 use Rattle.refusals.specs.Order.{Refusal, refuse, Reply, _else_, row}
 use Rattle.refusals.specs.Answers.{Outcome, done, refused}
-use Rattle.slots.specs.Slot.{protected}
-use Rattle.slots.specs.Name.{askable, padded}
+use Rattle.slots.specs.Slot.{protected, nameOf}
+use Rattle.slots.specs.Name.{sameBytes, askable, padded}
 use Rattle.chains.specs.File.{File, fileOf}
 use Rattle.directory.specs.Places.{slots, slotAt, slotPlace, dirSector}
 use Rattle.directory.specs.Directory.{held, Directory, directory, slotOr}
 use Rattle.directory.specs.Find.{find}
 use Rattle.directory.proofs.Places.{slot-placed}
+use Rattle.directory.proofs.Search.{find-some}
 use Rattle.disk.specs.Look.{Look, look, slotsOf}
 use Rattle.disk.specs.Check.{checkLook, checkDisk}
 use Rattle.disk.proofs.Look.{look-slots}
@@ -25,7 +26,8 @@ use Rattle.files.specs.Calls.{barred, soughtBy, lookup, fileAt}
 use Rattle.files.proofs.Named.{Named, named-slot}
 use Rattle.steps.specs.Steps.{Step, putAll, enact, numbers}
 use Rattle.plans.specs.Change.{Mark, Change, erase, rename, mark, marked, usable}
-use Rattle.plans.specs.Plan.{Plan, no, go, orNo, byName, nameTaken, isProtected, touch, planOf, plan, settle, checked, run, Changed, changed, changedBy, change}
+use Rattle.plans.specs.Plan.{Plan, no, go, orNo, byName, takenBy, renameTaken, isProtected, touch, planOf, plan, settle, checked, run, Changed, changed, changedBy, change}
+use Rattle.plans.proofs.Respelt.{taken-found}
 use Rattle.changes.specs.Settled.{settled, touching, unprotected, renaming, Holds, Made}
 
 -- ---- a change is settled by its plan, once the disk is accepted
@@ -102,13 +104,39 @@ module _ (d : List ℕ) (i o : ℕ) (y : List ℕ) (w : Holds d i) (s : List ℕ
   unfolding unprotected
   plan-released q = rw (protected-at q)
 
--- 16
+-- 16, as the code meets it: the name is found nowhere, at another slot, or at the file's own, where its bytes decide
 module _ (d : List ℕ) (i : ℕ) (new : List ℕ) where
-  pub plan-taken : (j : ℕ) → find (directory d) new ≡ some j → no (refuse 16 (j + 1)) ≡ renaming d i new
+  abbrev pub barring : Option ℕ
+  barring = takenBy (directory d) i (fileAt (look d) i) new
+
+  pub taken-nowhere : find (directory d) new ≡ none → none ≡ barring
+  unfolding takenBy
+  taken-nowhere e = rw e
+
+  pub taken-there : (j : ℕ) → find (directory d) new ≡ some j → (j ≡ i → ⊥) → some j ≡ barring
+  unfolding takenBy
+  taken-there j e n = rw (e, ne-eqb (suc j) (suc i) (λ (z : suc j ≡ suc i). n (omega arith)))
+
+  pub taken-here : (j : ℕ) → find (directory d) new ≡ some j → j ≡ i → (w : Holds d i) (s m y : List ℕ) → s ≡ slotOr d i → m ≡ nameOf s → y ≡ padded new
+      → (r t : Bool) → r ≡ sameBytes m y → r ≡ t → cond t (some j) none ≡ barring
+  unfolding takenBy
+  taken-here j e z w s m y p q u r t v x =
+      let b : sameBytes (nameOf (fileAt (look d) i .bytes)) (padded new) ≡ t =
+      sym (ap₂ sameBytes (q ∙ ap nameOf (p ∙ sym (w .bytes))) u) ∙ sym v ∙ x in
+      rw (e, eq-eqb (suc j) (suc i) (ap suc z), b) (by t)
+    where
+      by : (t : Bool) → cond {A = Option ℕ} t (some j) none ≡ cond (not t) none (some j)
+      by true = refl
+      by false = refl
+
+  pub taken-below : (j : ℕ) → barring ≡ some j → j < slots
+  taken-below j e = find-some (directory d) new j (taken-found (directory d) i (fileAt (look d) i) new j e) .below
+
+  pub plan-taken : (j : ℕ) → barring ≡ some j → no (refuse 16 (j + 1)) ≡ renaming d i new
   unfolding renaming
   plan-taken j e = rw (e, add-one)
 
-  pub plan-new : find (directory d) new ≡ none → (y : List ℕ) → y ≡ padded new → unprotected d i 1 y ≡ renaming d i new
+  pub plan-new : barring ≡ none → (y : List ℕ) → y ≡ padded new → unprotected d i 1 y ≡ renaming d i new
   unfolding renaming unprotected
   plan-new e y q = rw (e, q)
 
@@ -184,7 +212,7 @@ module _ (d n buf : List ℕ) where
 
 module _ (d n new buf : List ℕ) (a : checkDisk d ≡ none) where
   abbrev renameAt : ℕ → File → Plan
-  renameAt i f = orNo (nameTaken (slotsOf (look d)) new else isProtected i f) (go (touch (look d) i f 1 (padded new)))
+  renameAt i f = orNo (renameTaken (slotsOf (look d)) i f new else isProtected i f) (go (touch (look d) i f 1 (padded new)))
 
   pub rename-unaskable : askable n ≡ false → settled (no (refuse 12 0)) d buf ≡ change (rename n new) d buf
   unfolding planOf
@@ -201,5 +229,5 @@ module _ (d n new buf : List ℕ) (a : checkDisk d ≡ none) where
   pub rename-found : (askable n && usable new) ≡ true → (i : ℕ) → find (directory d) n ≡ some i → settled (renaming d i new) d buf ≡ change (rename n new) d buf
   unfolding planOf renaming touching
   rename-found e i q =
-      ap (λ (v : Directory). settled (orNo (nameTaken v new else isProtected i (fileAt (look d) i)) (touching d i 1 (padded new))) d buf) (sym (look-slots d))
+      ap (λ (v : Directory). settled (orNo (renameTaken v i (fileAt (look d) i) new else isProtected i (fileAt (look d) i)) (touching d i 1 (padded new))) d buf) (sym (look-slots d))
       ∙ name-found (rename n new) d n buf (askable n && usable new) renameAt refl a e i q

@@ -15,7 +15,7 @@ use Rattle.refusals.specs.declared.Answer.{Answer}
 use Rattle.slots.specs.Name.{padded}
 use Rattle.steps.specs.Steps.{Step, enact, numbers}
 use Rattle.plans.specs.Change.{Change, usable}
-use Rattle.plans.specs.Plan.{Plan, go, orNo, nameTaken, isProtected, touch, settle, Changed, changed, changedBy, change}
+use Rattle.plans.specs.Plan.{Plan, go, orNo, renameTaken, isProtected, touch, settle, Changed, changed, changedBy, change}
 
 -- answer, image and list at return are those of the change
 abbrev pub Returns : Change → List ℕ → List ℕ → Answer → List ℕ → List ℕ → Type 0
@@ -42,9 +42,10 @@ touching d i o y = go (touch (look d) i (fileAt (look d) i) o y)
 unfoldable pub unprotected : List ℕ → ℕ → ℕ → List ℕ → Plan
 unprotected d i o y = orNo (isProtected i (fileAt (look d) i)) (touching d i o y)
 
--- the same for a new name, unless a live slot has it
+-- the same for a new name, unless it is taken
 unfoldable pub renaming : List ℕ → ℕ → List ℕ → Plan
-renaming d i new = orNo (nameTaken (directory d) new else isProtected i (fileAt (look d) i)) (touching d i 1 (padded new))
+renaming d i new =
+    orNo (renameTaken (directory d) i (fileAt (look d) i) new else isProtected i (fileAt (look d) i)) (touching d i 1 (padded new))
 
 -- slot i holds a file, with the bytes that are read there
 pub record Holds (d : List ℕ) (i : ℕ) : Type 0 where

@@ -6,6 +6,11 @@ ghost use Prim.Native.Nat.{_+_, _≤_, _<_};
 ghost use lib.ListN.{length};
 ghost use Rattle.buffers.specs.Bytes.{put};
 ghost use Rattle.directory.specs.Places.{slotAt};
+ghost use Rattle.directory.specs.Directory.{directory};
+ghost use Rattle.directory.specs.Find.{foundAt};
+ghost use Rattle.disk.specs.Look.{look};
+ghost use Rattle.files.specs.Calls.{fileAt};
+ghost use Rattle.plans.specs.Plan.{takenBy};
 ghost use Rattle.plans.specs.Change.{erase, rename, mark, hide, show, protect, release, marked, allBetween, usable};
 ghost use Rattle.changes.specs.Marks.{markOf};
 ghost use Rattle.changes.specs.Settled.{Returns, Settles, touching, unprotected, renaming, Place, Renames};
@@ -95,12 +100,34 @@ pub fn erase(image: &mut [u8], name: &[u8], list: &mut [u16]) -> Answer
     }
 }
 
+// The slot that keeps the file in slot `i` from a new name: another that has it, or its own where the bytes stored are the new ones.
+fn taken_by(image: &[u8], i: usize, new: &[u8]) -> Found
+    requires { ⌜ Renames (now image) i (now new) ⌝ }
+    ensures { λ r. ⌜ foundAt r ≡ takenBy (directory (now (image .entry))) i (fileAt (look (now (image .entry))) i) (now (new .entry)) ⌝ }
+{
+    match directory::find(image, new) {
+        Found::Nothing => Found::Nothing,
+        Found::At(j) => {
+            if j != i {
+                return Found::At(j);
+            }
+            if slots::same_bytes(
+                slots::name_of(directory::slot_at(image, i)),
+                &slots::padded_name(new),
+            ) {
+                return Found::At(j);
+            }
+            Found::Nothing
+        }
+    }
+}
+
 // Gives the file in slot `i` a name that is fit for one.
 fn rename_at(image: &mut [u8], i: usize, new: &[u8], list: &mut [u16]) -> Answer
     requires { ⌜ Renames (now image) i (now new) ⌝ }
     ensures { λ r. ⌜ Settles (renaming (now (image .entry)) i (now (new .entry))) (now (image .entry)) (now (list .entry)) r (now (image .exit)) (now (list .exit)) ⌝ }
 {
-    match directory::find(image, new) {
+    match taken_by(image, i, new) {
         Found::At(j) => refusals::no(Reason::NameTaken, j + 1),
         Found::Nothing => touch_unprotected(image, i, 1, &slots::padded_name(new), list),
     }

@@ -8,10 +8,10 @@ use native.Mathlib.Omega.{arith}
 use lib.ListN.{length, replicate, length-append}
 use Rattle.buffers.proofs.Lists.{length-part}
 use Rattle.refusals.specs.Order.{sweepFrom}
-use Rattle.refusals.proofs.First.{sweep-start, sweep-none, none-sweep, none-sweepFrom, sweep-first, first-sweep}
+use Rattle.refusals.proofs.First.{sweep-start, sweep-none, none-sweep, none-sweepFrom, sweep-cong, sweep-first, first-sweep}
 use Rattle.slots.specs.Slot.{nameOf}
-use Rattle.slots.specs.Name.{sameName, padded}
-use Rattle.slots.proofs.Names.{same-refl, same-is}
+use Rattle.slots.specs.Name.{sameName, Same, padded}
+use Rattle.slots.proofs.Names.{same-long, same-right}
 use Rattle.directory.specs.Places.{slots}
 use Rattle.directory.specs.Directory.{held, Directory, slotsRead, directory}
 use Rattle.directory.specs.Find.{hit, find}
@@ -22,29 +22,28 @@ pub record FoundBy (v : Directory) (n : List ℕ) (i : ℕ) : Type 0 where
   pub below : i < slots
   pub bytes : List ℕ
   pub here : v i ≡ some bytes
-  pub name : nameOf bytes ≡ padded n
-  pub before : (k : ℕ) → k < i → (t : List ℕ) → v k ≡ some t → nameOf t ≡ padded n → ⊥
+  pub name : Same (nameOf bytes) (padded n)
+  pub before : (k : ℕ) → k < i → (t : List ℕ) → v k ≡ some t → Same (nameOf t) (padded n) → ⊥
 
 -- ---- at a slot
 
-hit-live : (v : Directory) (n : List ℕ) (i : ℕ) (s : List ℕ) → v i ≡ some s → sameName (nameOf s) (padded n) ≡ true → hit v n i ≡ some i
+hit-live : (v : Directory) (n : List ℕ) (i : ℕ) (s : List ℕ) → v i ≡ some s → Same (nameOf s) (padded n) → hit v n i ≡ some i
 hit-live v n i s e q = rw (e, q)
 
 -- ---- what an answer says
 
-missed : (v : Directory) (n : List ℕ) (k : ℕ) → hit v n k ≡ none → (t : List ℕ) → v k ≡ some t → nameOf t ≡ padded n → ⊥
-missed v n k e t p q =
-    Option·some-ne-none k (sym (hit-live v n k t p (ap (λ (m : List ℕ). sameName m (padded n)) q ∙ same-refl (padded n))) ∙ e)
+missed : (v : Directory) (n : List ℕ) (k : ℕ) → hit v n k ≡ none → (t : List ℕ) → v k ≡ some t → Same (nameOf t) (padded n) → ⊥
+missed v n k e t p q = Option·some-ne-none k (sym (hit-live v n k t p q) ∙ e)
 
-pub find-none : (v : Directory) (n : List ℕ) → find v n ≡ none → (k : ℕ) → k < slots → (t : List ℕ) → v k ≡ some t → nameOf t ≡ padded n → ⊥
+pub find-none : (v : Directory) (n : List ℕ) → find v n ≡ none → (k : ℕ) → k < slots → (t : List ℕ) → v k ≡ some t → Same (nameOf t) (padded n) → ⊥
 unfolding find
 find-none v n e k h = missed v n k (sweep-none slots (hit v n) e k h)
 
-unnamed : (v : Directory) (n : List ℕ) (k : ℕ) → ((t : List ℕ) → v k ≡ some t → nameOf t ≡ padded n → ⊥) → hit v n k ≡ none
+unnamed : (v : Directory) (n : List ℕ) (k : ℕ) → ((t : List ℕ) → v k ≡ some t → Same (nameOf t) (padded n) → ⊥) → hit v n k ≡ none
 unnamed v n k h = by (v k) refl
   where
     named : (s : List ℕ) (t : Bool) → v k ≡ some s → sameName (nameOf s) (padded n) ≡ t → cond {A = Option ℕ} t (some k) none ≡ none
-    named s true p q = absurd (h s p (same-is (nameOf s) (padded n) q))
+    named s true p q = absurd (h s p q)
     named s false p q = refl
 
     by : (o : Option (List ℕ)) → v k ≡ o → held none (λ s. cond (sameName (nameOf s) (padded n)) (some k) none) o ≡ none
@@ -52,16 +51,16 @@ unnamed v n k h = by (v k) refl
     by (some s) p = named s (sameName (nameOf s) (padded n)) p refl
 
 -- what a hit is
-hit-says : (v : Directory) (n : List ℕ) (k i : ℕ) → hit v n k ≡ some i → (k ≡ i) × (s : List ℕ) × (v k ≡ some s) × (nameOf s ≡ padded n)
+hit-says : (v : Directory) (n : List ℕ) (k i : ℕ) → hit v n k ≡ some i → (k ≡ i) × (s : List ℕ) × (v k ≡ some s) × Same (nameOf s) (padded n)
 hit-says v n k i e = by (v k) refl e
   where
     named : (s : List ℕ) (t : Bool) → v k ≡ some s → sameName (nameOf s) (padded n) ≡ t → cond t (some k) none ≡ some i
-        → (k ≡ i) × (s : List ℕ) × (v k ≡ some s) × (nameOf s ≡ padded n)
-    named s true p q w = (cc, s, p, same-is (nameOf s) (padded n) q)
+        → (k ≡ i) × (s : List ℕ) × (v k ≡ some s) × Same (nameOf s) (padded n)
+    named s true p q w = (cc, s, p, q)
     named s false p q w = absurd (Option·some-ne-none i (sym w))
 
     by : (o : Option (List ℕ)) → v k ≡ o → held none (λ s. cond (sameName (nameOf s) (padded n)) (some k) none) o ≡ some i
-        → (k ≡ i) × (s : List ℕ) × (v k ≡ some s) × (nameOf s ≡ padded n)
+        → (k ≡ i) × (s : List ℕ) × (v k ≡ some s) × Same (nameOf s) (padded n)
     by none p w = absurd (Option·some-ne-none i (sym w))
     by (some s) p w = named s (sameName (nameOf s) (padded n)) p refl w
 
@@ -82,12 +81,21 @@ some-find v n i f =
       at = i;
       below = f .below;
       before = λ k h. unnamed v n k (f .before k h);
-      here = hit-live v n i (f .bytes) (f .here) (ap (λ (m : List ℕ). sameName m (padded n)) (f .name) ∙ same-refl (padded n));
+      here = hit-live v n i (f .bytes) (f .here) (f .name);
     })
 
-pub none-find : (v : Directory) (n : List ℕ) → ((k : ℕ) → k < slots → (t : List ℕ) → v k ≡ some t → nameOf t ≡ padded n → ⊥) → find v n ≡ none
+pub none-find : (v : Directory) (n : List ℕ) → ((k : ℕ) → k < slots → (t : List ℕ) → v k ≡ some t → Same (nameOf t) (padded n) → ⊥) → find v n ≡ none
 unfolding find
 none-find v n h = none-sweep slots (hit v n) (λ k l. unnamed v n k (h k l))
+
+-- each spelling of a name finds the same slot
+pub find-same : (v : Directory) (m n : List ℕ) → Same (padded m) (padded n) → find v m ≡ find v n
+unfolding find
+find-same v m n e = sweep-cong slots (hit v m) (hit v n) (λ i h. by i (v i))
+  where
+    by : (i : ℕ) (o : Option (List ℕ)) → held none (λ s. cond (sameName (nameOf s) (padded m)) (some i) none) o ≡ held none (λ s. cond (sameName (nameOf s) (padded n)) (some i) none) o
+    by i none = refl
+    by i (some s) = ap (λ (t : Bool). cond t (some i) none) (same-right (padded m) (padded n) (nameOf s) e)
 
 -- ---- as the loop meets it
 
@@ -103,4 +111,4 @@ find-rest d n i h = none-sweepFrom (slots - i) i (hit (directory d) n) (λ j l k
 pub find-long : (v : Directory) (n : List ℕ) → 10 < length n → none ≡ find v n
 unfolding padded
 find-long v n h =
-    sym (none-find v n (λ k l t p q. absurd (omega (arith, length-part 1 10 t, ap length q, length-append n (replicate (10 - length n) 32)))))
+    sym (none-find v n (λ k l t p q. absurd (omega (arith, length-part 1 10 t, same-long (nameOf t) (padded n) q, length-append n (replicate (10 - length n) 32)))))

@@ -25,7 +25,7 @@ abbrev pub cross : Directory → ℕ → List ℕ → List Row
 cross v i s =
     -- the map shares a bit with an earlier live slot
     (8 when earlier v i (λ t. share (mapOf t) (mapOf s)))
-    -- the ten name bytes equal an earlier live slot's
+    -- the name is an earlier live slot's
     ∷ (9 when earlier v i (λ t. sameName (nameOf t) (nameOf s)))
     ∷ []
 

@@ -13,9 +13,9 @@ use Rattle.maps.specs.Bits.{share}
 use Rattle.maps.proofs.Laws.{share-none, none-share}
 use Rattle.refusals.specs.Order.{Clear}
 use Rattle.slots.specs.Slot.{facts, mapOf, nameOf, firstOf}
-use Rattle.slots.specs.Name.{sameName}
+use Rattle.slots.specs.Name.{sameName, Same}
 use Rattle.slots.specs.Rows.{own}
-use Rattle.slots.proofs.Names.{same-refl, not-same}
+use Rattle.slots.proofs.Names.{not-same}
 use Rattle.chains.specs.File.{File}
 use Rattle.chains.specs.Chain.{later}
 use Rattle.chains.proofs.Laws.{map-small}
@@ -87,8 +87,8 @@ module _ (l : Look) where
       by j k none q = refl
       by j k (some g) q = h j g k q
 
-differ : (a b : List ℕ) → sameName a b ≡ false → a ≡ b → ⊥
-differ a b e p = false≢true (sym e ∙ ap (sameName a) (sym p) ∙ same-refl a)
+differ : (a b : List ℕ) → sameName a b ≡ false → Same a b → ⊥
+differ a b e p = false≢true (sym e ∙ p)
 
 -- ---- the whole disk
 

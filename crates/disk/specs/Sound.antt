@@ -9,6 +9,7 @@ use lib.ListN.{getD}
 use Rattle.geometry.specs.Disk.{imageSize, isData, bitOf}
 use Rattle.maps.specs.Bits.{has, bitsOf}
 use Rattle.slots.specs.Slot.{kindOf, nameOf, countOf, mapOf, pagesOf, remainderOf, facts, lengthOf}
+use Rattle.slots.specs.Name.{Same}
 use Rattle.slots.specs.Rows.{dataCount}
 use Rattle.chains.specs.File.{File}
 use Rattle.chains.specs.Whole.{Whole}
@@ -42,10 +43,11 @@ pub record GoodFile (n : ℕ) (f : File) : Type 0 where
   pub chain : Whole (facts (f .bytes)) (f .sectors)
   pub header : Carried (kindOf (f .bytes)) → Agrees (f .bytes) (f .sectors (facts (f .bytes) .first))
 
--- an accepted disk: the size, each live file good, and no two that share a sector or a name
+-- an accepted disk: the size, each live file good, and no two that share a sector or a name; two names that "differ only in a to z
+-- against A to Z are the same name"
 pub record Sound (l : Look) : Type 0 where
   pub long : l .long ≡ imageSize
   pub good : (i : ℕ) (f : File) → i < slots → l .files i ≡ some f → GoodFile (extra l) f
   pub sectors : (i j : ℕ) (f g : File) → j < i → i < slots → l .files i ≡ some f → l .files j ≡ some g
       → (b : ℕ) → b < 1560 → has (mapOf (g .bytes)) b ≡ true → has (mapOf (f .bytes)) b ≡ true → ⊥
-  pub names : (i j : ℕ) (f g : File) → j < i → i < slots → l .files i ≡ some f → l .files j ≡ some g → nameOf (g .bytes) ≡ nameOf (f .bytes) → ⊥
+  pub names : (i j : ℕ) (f g : File) → j < i → i < slots → l .files i ≡ some f → l .files j ≡ some g → Same (nameOf (g .bytes)) (nameOf (f .bytes)) → ⊥

@@ -17,7 +17,7 @@ use Rattle.refusals.proofs.First.{else-some, firstRow, row-else, row-first, fir
 use Rattle.refusals.proofs.Lowest.{slot-lowest, slot-positive}
 use Rattle.slots.specs.Slot.{kindOf, carried, facts, lengthOf, nameOf, pageOf, offsetOf}
 use Rattle.slots.specs.Name.{sameName, askable, padded}
-use Rattle.slots.proofs.Names.{same-refl, not-same}
+use Rattle.slots.proofs.Names.{not-same}
 use Rattle.chains.specs.File.{File}
 use Rattle.directory.specs.Places.{slots}
 use Rattle.directory.specs.Directory.{held, Directory, liveAmong}
@@ -43,7 +43,7 @@ module _ (l : Look) (n : List ℕ) where
   some-named i e =
       let w = find-some (slotsOf l) n i e in
       any-some slots has-name i (w .below)
-      (ap (held false (λ s. sameName (nameOf s) (padded n))) (w .here) ∙ ap (λ (m : List ℕ). sameName m (padded n)) (w .name) ∙ same-refl (padded n))
+      (ap (held false (λ s. sameName (nameOf s) (padded n))) (w .here) ∙ w .name)
 
   pub none-named : find (slotsOf l) n ≡ none → someNamed l n ≡ false
   unfolding someNamed

@@ -5,3 +5,4 @@ pub mod Reading
 pub mod Looks
 pub mod Body
 pub mod Asked
+pub mod Spelling

@@ -20,7 +20,8 @@ use Rattle.refusals.specs.Order.{refuse}
 use Rattle.maps.specs.Bits.{has, bitsOf, join}
 use Rattle.maps.proofs.Laws.{bits-le, bits-join, has-join, none-share}
 use Rattle.slots.specs.Slot.{isLive, hidden, protected, kindOf, nameOf, countOf, mapOf, facts, lengthOf}
-use Rattle.slots.specs.Name.{sameName, askable, padded}
+use Rattle.slots.specs.Name.{sameName, Same, askable, padded}
+use Rattle.slots.proofs.Names.{same-sym, same-eq, same-of}
 use Rattle.slots.specs.Rows.{dataCount}
 use Rattle.chains.specs.File.{File}
 use Rattle.chains.specs.Chain.{linked, bodyByte, body}
@@ -31,7 +32,7 @@ use Rattle.directory.specs.Survey.{union, counted, usedMap, freeOf, free}
 use Rattle.directory.specs.Find.{find}
 use Rattle.directory.proofs.Places.{slot-front, data-all}
 use Rattle.directory.proofs.Union.{length-union, has-union}
-use Rattle.directory.proofs.Search.{none-find}
+use Rattle.directory.proofs.Search.{none-find, find-same}
 use Rattle.disk.specs.Look.{Look, look, slotsOf, extra}
 use Rattle.disk.specs.Check.{checkDisk}
 use Rattle.disk.specs.Sound.{Known, Sound}
@@ -54,7 +55,7 @@ use Rattle.plans.proofs.Others.{Alike, alike-same, same-answers, Unname
 
 -- ---- the bytes of the image
 
-module _ (d n : List ℕ) (o : ℕ) (y : File → List ℕ) (Also : File → Type 0) (new ss : List ℕ) (t : Touched d n o y Also new ss) where
+module _ (d n : List ℕ) (o : ℕ) (y : File → List ℕ) (Also : ℕ → File → Type 0) (new ss : List ℕ) (t : Touched d n o y Also new ss) where
   long-kept : length new ≡ length d
   long-kept = ap length (t .disk) ∙ length-put d (slotAt (t .slot) + o) (y (t .file))
 
@@ -77,16 +78,16 @@ first-byte s b h = put-in s 0 (b ∷ []) 0 (omega arith) (omega arith)
 
 -- ---- a name by the files that have it
 
-module _ (l : Look) (w : Sound l) (n : List ℕ) (i : ℕ) (f : File) (h : i < slots) (e : l .files i ≡ some f) (q : nameOf (f .bytes) ≡ padded n) where
+module _ (l : Look) (w : Sound l) (n : List ℕ) (i : ℕ) (f : File) (h : i < slots) (e : l .files i ≡ some f) (q : Same (nameOf (f .bytes)) (padded n)) where
   -- no slot has it where the slot has it no more
   found-none : (o : Option File) → Unnamed n o → find (slotsOf (upd l i o)) n ≡ none
   found-none o u =
       none-find (slotsOf (upd l i o)) n
       (λ k m s p r.
       let g = slot-file (upd l i o) k s p in
-      by k (g .0) m (g .1) (ap nameOf (g .2) ∙ r) (ℕ-discrete k i))
+      by k (g .0) m (g .1) (same-of (ap nameOf (g .2)) (padded n) r) (ℕ-discrete k i))
     where
-      by : (k : ℕ) (g : File) → k < slots → upd l i o .files k ≡ some g → nameOf (g .bytes) ≡ padded n → Dec (k ≡ i) → ⊥
+      by : (k : ℕ) (g : File) → k < slots → upd l i o .files k ≡ some g → Same (nameOf (g .bytes)) (padded n) → Dec (k ≡ i) → ⊥
       by k g m p r (yes z) = u g (sym (upd-same l i o) ∙ ap (upd l i o .files) (sym z) ∙ p) r
       by k g m p r (no z) = alone l w n i f h e q k g m z (sym (upd-other l i o k z) ∙ p) r
 
@@ -255,9 +256,9 @@ module _ (d : List ℕ) (ok : checkDisk d ≡ none) (room : ℕ) (new ss : List 
         slot = t .slot;
         file = t .file;
         found = t .found;
-        long = long-kept d n 0 erasing Unprotected new ss t;
-        byte = ap (λ (k : ℕ). getD new k 0) (omega arith) ∙ byte-put d n 0 erasing Unprotected new ss t old-sound 0 (omega arith) (omega arith);
-        bytes = byte-kept d n 0 erasing Unprotected new ss t refl refl;
+        long = long-kept d n 0 erasing (λ i. Unprotected) new ss t;
+        byte = ap (λ (k : ℕ). getD new k 0) (omega arith) ∙ byte-put d n 0 erasing (λ i. Unprotected) new ss t old-sound 0 (omega arith) (omega arith);
+        bytes = byte-kept d n 0 erasing (λ i. Unprotected) new ss t refl refl;
         sectors = t .sectors;
         empty = rw z (upd-same (look d) (t .slot) none);
         gone = gone-by new n (change-accepted (erase n) d room new ss ok e) (t .askable-name)
@@ -281,8 +282,8 @@ module _ (d : List ℕ) (ok : checkDisk d ≡ none) (room : ℕ) (new ss : List 
       let a : Alike g f = alike-by f (g .bytes) (ap (λ (x : ℕ). x % 64) (put-before (f .bytes) 1 (padded to) 0 (omega arith)))
       (λ j h. put-after (f .bytes) 1 (padded to) j (omega (arith, u .1))) in
       let now : checkDisk new ≡ none = change-accepted (rename n to) d room new ss ok e in
-      let other : padded to ≡ padded n → ⊥ = λ q.
-      t .also .fresh (t .slot) f (t .found .here) (t .found .name ∙ sym q) in
+      let found : find (slotsOf (look new)) to ≡ find (slotsOf (look d)) n = found-here (look new) (disk-sound new now) to (t .slot) g (t .found .below) here (same-eq (nameOf (g .bytes)) (padded to) named)
+      ∙ sym (found-here (look d) old-sound n (t .slot) f (t .found .below) (t .found .here) (t .found .name)) in
       record {
         slot = t .slot;
         file = f;
@@ -291,15 +292,14 @@ module _ (d : List ℕ) (ok : checkDisk d ≡ none) (room : ℕ) (new ss : List 
         name = λ k h. byte-put d n 1 (λ f. padded to) (Renames d to) new ss t old-sound k (omega (arith, u .1)) (omega arith);
         bytes = λ k h. bytes-kept d n 1 (λ f. padded to) (Renames d to) new ss t k (⊎-elim inl (λ (x : slotAt (t .slot) + 11 ≤ k). inr (omega (arith, u .1))) h);
         sectors = t .sectors;
-        now = record { below = t .found .below; here = here; name = named };
+        now = record { below = t .found .below; here = here; name = same-eq (nameOf (g .bytes)) (padded to) named };
         answers = swap-answers d new (t .slot) f g (t .found .here) z a ok now to n
-            (and-both (askable to) (allBetween 32 to 126 && not (eqb (getD to 0 0) 32)) (t .also .name) .0 ∙ sym (t .askable-name))
-            (found-here (look new) (disk-sound new now) to (t .slot) g (t .found .below) here named
-            ∙ sym (found-here (look d) old-sound n (t .slot) f (t .found .below) (t .found .here) (t .found .name)));
-        gone = gone-by new n now (t .askable-name)
+            (and-both (askable to) (allBetween 32 to 126 && not (eqb (getD to 0 0) 32)) (t .also .name) .0 ∙ sym (t .askable-name)) found;
+        gone = λ v. gone-by new n now (t .askable-name)
             (rw z
             (found-none (look d) old-sound n (t .slot) f (t .found .below) (t .found .here) (t .found .name) (some g)
-            (λ h p q. other (sym named ∙ ap (λ (f : File). nameOf (f .bytes)) (Option·some-injective g h p) ∙ q))));
+            (λ h p q. v (same-sym (padded to) (padded n) (same-of (sym named ∙ ap (λ (f : File). nameOf (f .bytes)) (Option·some-injective g h p)) (padded n) q)))));
+        respelt = λ v. swap-answers d new (t .slot) f g (t .found .here) z a ok now n n refl (find-same (slotsOf (look new)) n to v ∙ found);
       }
 
   pub after-mark : (k : Mark) (n : List ℕ) → run (mark k n) d room ≡ made new ss → AfterMark k d n new ss
@@ -319,13 +319,13 @@ module _ (d : List ℕ) (ok : checkDisk d ≡ none) (room : ℕ) (new ss : List 
         slot = t .slot;
         file = f;
         found = t .found;
-        long = long-kept d n 0 (marking k) (λ f. Unit {0}) new ss t;
-        byte = ap (λ (k : ℕ). getD new k 0) (omega arith) ∙ byte-put d n 0 (marking k) (λ f. Unit {0}) new ss t old-sound 0 (omega arith) (omega arith)
+        long = long-kept d n 0 (marking k) (λ i f. Unit {0}) new ss t;
+        byte = ap (λ (k : ℕ). getD new k 0) (omega arith) ∙ byte-put d n 0 (marking k) (λ i f. Unit {0}) new ss t old-sound 0 (omega arith) (omega arith)
             ∙ ap (marked k)
             (first-here d n (t .slot) f (t .found));
-        bytes = byte-kept d n 0 (marking k) (λ f. Unit {0}) new ss t refl refl;
+        bytes = byte-kept d n 0 (marking k) (λ i f. Unit {0}) new ss t refl refl;
         sectors = t .sectors;
-        now = record { below = t .found .below; here = swap-here d new (t .slot) f g (t .found .here) z; name = named ∙ t .found .name };
+        now = record { below = t .found .below; here = swap-here d new (t .slot) f g (t .found .here) z; name = same-of named (padded n) (t .found .name) };
         hides = ap (λ (x : ℕ). eqb (x / 128 % 2) 1) b ∙ hidden-bit k x;
         protects = ap (λ (x : ℕ). eqb (x / 64 % 2) 1) b ∙ protected-bit k x;
         kind = kept;

@@ -1,17 +1,19 @@
 -- Each change is accepted exactly when, in plain facts; what a save takes; and which files a change finds.
 use Prim.Native.Nat.{ℕ, suc, _+_, _-_, _≤_, _<_}
 use mathlib.Core.Path.{_≡_, refl, sym, ap, _∙_, subst}
-use mathlib.Core.Bool.{Bool, true, false, not, _||_, true≢false}
+use mathlib.Core.Bool.{Bool, true, false, not, _&&_, _||_, and-false, true≢false}
 use mathlib.Core.List.{List, [], _∷_}
 use mathlib.Core.Logic.{_⊎_, inl, inr, ⊎-elim, _↔_}
 use mathlib.Core.Option.{Option, none, some, Option·some-ne-none}
 use native.Mathlib.Omega.{arith}
-use borrow.Author.Tests.{ltb-true, ltb-false, lt-ltb, le-ltb, eqb-true, eq-eqb, not-true, not-false}
+use borrow.Author.Tests.{ltb-true, ltb-false, lt-ltb, le-ltb, eqb-true, eqb-false, eq-eqb, not-true, not-false}
 use lib.Dec.{eqb, ltb}
 use lib.ListN.{getD}
 use Rattle.buffers.proofs.Tests.{or-neither}
 use Rattle.refusals.specs.Order.{Refusal, refuse, _else_, SlotRow, FirstOf}
 use Rattle.slots.specs.Slot.{protected, carried, nameOf}
+use Rattle.slots.specs.Name.{padded}
+use Rattle.slots.proofs.Names.{not-bytes}
 use Rattle.slots.specs.Rows.{dataCount}
 use Rattle.chains.specs.File.{File, sectorsOf}
 use Rattle.directory.specs.Places.{slots, slotBytes}
@@ -27,11 +29,11 @@ use Rattle.files.specs.Asked.{someNamed, slotNamed, startOutside, row20, by-che
 use Rattle.files.proofs.Asked.{some-named, none-named}
 use Rattle.plans.specs.Change.{Wish, Mark, save, erase, rename, mark, usable}
 use Rattle.plans.specs.Saving.{lowestSlot}
-use Rattle.plans.specs.Plan.{stopped, run}
-use Rattle.plans.specs.Refused.{someFree, row18, row19, changeRows, Refuses, Accepts}
-use Rattle.plans.specs.Accepted.{Named, Fresh, Unprotected, Allowed, Renames, Empty, NoSlot, Asked, many, freeSectors, Savable}
+use Rattle.plans.specs.Plan.{respells, stopped, run}
+use Rattle.plans.specs.Refused.{someFree, renameRow16, row18, row19, changeRows, Refuses, Accepts}
+use Rattle.plans.specs.Accepted.{Named, Fresh, FreshBut, Unprotected, Allowed, Renames, Empty, NoSlot, Asked, many, freeSectors, Savable}
 use Rattle.plans.proofs.Frame.{disk-sound, entry-live, entry-dead, holds, look-entry}
-use Rattle.plans.proofs.Named.{fresh-find, find-fresh, found-here}
+use Rattle.plans.proofs.Named.{fresh-find, find-fresh, found-file, found-here}
 use Rattle.plans.proofs.Free.{free-slot, no-free-slot}
 use Rattle.plans.proofs.Effect.{erased, marked-so, renamed}
 use Rattle.plans.proofs.Refused.{some-free, none-free, refused-exactly, accepted-exactly}
@@ -53,12 +55,16 @@ named-fresh d n e = find-fresh d n (by (find (slotsOf (look d)) n) refl)
 pub named-exactly : (d n : List ℕ) → (someNamed (look d) n ≡ false) ↔ Fresh d n
 named-exactly d n = (named-fresh d n, fresh-named d n)
 
+slot-is : (l : Look) (n : List ℕ) (o : Option ℕ) → find (slotsOf l) n ≡ o → slotNamed l n ≡ held 0 suc o
+unfolding slotNamed
+slot-is l n o e = ap (held 0 suc) e
+
 -- on an accepted disk the slot that has the name is the one that is found, and the one that is given with a refusal
 module _ (d n : List ℕ) (ok : checkDisk d ≡ none) (i : ℕ) (f : File) (w : Named d n i f) where
   pub named-find : find (slotsOf (look d)) n ≡ some i
   named-find = found-here (look d) (disk-sound d ok) n i f (w .below) (w .here) (w .name)
 
-  named-some : someNamed (look d) n ≡ true
+  pub named-some : someNamed (look d) n ≡ true
   named-some = some-named (look d) n i named-find
 
   pub named-slot : slotNamed (look d) n ≡ suc i
@@ -69,10 +75,24 @@ module _ (d n : List ℕ) (ok : checkDisk d ≡ none) (i : ℕ) (f : File) (w : 
   unfolding fileNamed
   named-file = ap (held noFile (fileAt (look d))) named-find ∙ ap (held noFile (λ f. f)) (w .here)
 
+  -- no other slot has the new name and the bytes stored are others: 16 does not hold
+  not-taken : (new : List ℕ) → FreshBut d i new → (nameOf (f .bytes) ≡ padded new → ⊥) → renameRow16 (look d) n new .holds ≡ false
+  not-taken new u v = rw (named-slot, named-file) (by (find (slotsOf (look d)) new) refl)
+    where
+      own : (j : ℕ) → find (slotsOf (look d)) new ≡ some j → (t : Bool) → eqb j i ≡ t → j ≡ i
+      own j q true z = eqb-true j i z
+      own j q false z = let s = found-file d new j q in absurd (u j (fileAt (look d) j) (eqb-false j i z) (s .here) (s .name))
+
+      by : (o : Option ℕ) → find (slotsOf (look d)) new ≡ o → (someNamed (look d) new && not (respells (suc i) (slotNamed (look d) new) f new)) ≡ false
+      by none q = ap (λ (t : Bool). t && not (respells (suc i) (slotNamed (look d) new) f new)) (none-named (look d) new q)
+      by (some j) q =
+          let z : j ≡ i = own j q (eqb j i) refl in
+          rw (slot-is (look d) new (some j) q, z, not-bytes (nameOf (f .bytes)) (padded new) v, eq-eqb (suc i) (suc i) refl) (and-false (someNamed (look d) new))
+
 -- ---- erase, rename and the marks
 
 module _ (d n : List ℕ) (room : ℕ) where
-  pub erase-exactly : Accepts (erase n) d room ↔ Allowed d n Unprotected room
+  pub erase-exactly : Accepts (erase n) d room ↔ Allowed d n (λ i. Unprotected) room
   unfolding changeRows
   erase-exactly = (
     λ a.
@@ -126,7 +146,7 @@ module _ (d n : List ℕ) (room : ℕ) where
             (
               ap not (named-some d n (a .disk) (a .slot) (a .file) (a .found)),
               (
-                fresh-named d new (a .also .fresh),
+                not-taken d n (a .disk) (a .slot) (a .file) (a .found) new (a .also .fresh) (a .also .other),
                 (
                   ap (λ (f : File). protected (f .bytes)) (named-file d n (a .disk) (a .slot) (a .file) (a .found)) ∙ a .also .unprotected,
                   (le-ltb room 1 (a .list), tt),
@@ -137,7 +157,7 @@ module _ (d n : List ℕ) (room : ℕ) where
         }),
   )
 
-  pub mark-exactly : (m : Mark) → Accepts (mark m n) d room ↔ Allowed d n (λ f. Unit {0}) room
+  pub mark-exactly : (m : Mark) → Accepts (mark m n) d room ↔ Allowed d n (λ i f. Unit {0}) room
   unfolding changeRows
   mark-exactly m = (
     λ a.
@@ -217,11 +237,11 @@ unfolding extra free freeOf dataCount
 free-sectors d = ap (λ (v : Directory). 1560 - usedMap v .count) (look-slots d)
 
 -- a row that does not hold is not the first
-peel : {A B : Type 0} {t : Bool} → t ≡ false → ((t ≡ true) × A) ⊎ ((t ≡ false) × B) → B
+pub peel : {A B : Type 0} {t : Bool} → t ≡ false → ((t ≡ true) × A) ⊎ ((t ≡ false) × B) → B
 peel e f = ⊎-elim (λ a. absurd (true≢false (sym (a .0) ∙ e))) (λ a. a .1) f
 
 -- a row with another number is not the one that is given
-other : {B : Type 0} {t : Bool} {n s : ℕ} {x : Refusal} → (n ≡ x .number → ⊥) → ((t ≡ true) × (refuse n s ≡ x)) ⊎ ((t ≡ false) × B) → B
+pub other : {B : Type 0} {t : Bool} {n s : ℕ} {x : Refusal} → (n ≡ x .number → ⊥) → ((t ≡ true) × (refuse n s ≡ x)) ⊎ ((t ≡ false) × B) → B
 other h f = ⊎-elim (λ a. absurd (h (ap (λ (y : Refusal). y .number) (a .1)))) (λ a. a .1) f
 
 module _ (d : List ℕ) (w : Wish) (room : ℕ) where

@@ -1,6 +1,6 @@
--- What a change finds has exactly the ten bytes asked for, and on an accepted disk it is one slot at most.
+-- What a change finds has the name asked for, and on an accepted disk it is one slot at most.
 use Prim.Native.Nat.{ℕ, _-_}
-use mathlib.Core.Path.{_≡_, refl, sym, ap, _∙_}
+use mathlib.Core.Path.{_≡_, refl, sym, _∙_}
 use mathlib.Core.Bool.{Bool, true, false, false≢true}
 use mathlib.Core.List.{List}
 use mathlib.Core.Logic.{_↔_}
@@ -8,8 +8,8 @@ use mathlib.Core.Option.{none, some}
 use borrow.Author.Tests.{eqb-true, eqb-false}
 use lib.Dec.{eqb}
 use Rattle.slots.specs.Slot.{nameOf}
-use Rattle.slots.specs.Name.{sameName, padded}
-use Rattle.slots.proofs.Names.{same-refl, same-is}
+use Rattle.slots.specs.Name.{Same, padded}
+use Rattle.slots.proofs.Names.{same-both}
 use Rattle.chains.specs.File.{File}
 use Rattle.disk.specs.Look.{look}
 use Rattle.disk.specs.Check.{checkDisk}
@@ -18,20 +18,17 @@ use Rattle.plans.specs.Plan.{finds}
 use Rattle.plans.proofs.Frame.{disk-sound, holds}
 use Rattle.plans.proofs.Kept.{sound-apart}
 
-same-exactly : (m k : List ℕ) → (sameName m k ≡ true) ↔ (m ≡ k)
-same-exactly m k = (same-is m k, λ e. ap (λ (x : List ℕ). sameName x k) e ∙ same-refl k)
-
-pub finds-erase : (n : List ℕ) (f : File) → (finds (erase n) f ≡ true) ↔ (nameOf (f .bytes) ≡ padded n)
+pub finds-erase : (n : List ℕ) (f : File) → (finds (erase n) f ≡ true) ↔ Same (nameOf (f .bytes)) (padded n)
 unfolding finds
-finds-erase n f = same-exactly (nameOf (f .bytes)) (padded n)
+finds-erase n f = (λ e. e, λ e. e)
 
-pub finds-rename : (n new : List ℕ) (f : File) → (finds (rename n new) f ≡ true) ↔ (nameOf (f .bytes) ≡ padded n)
+pub finds-rename : (n new : List ℕ) (f : File) → (finds (rename n new) f ≡ true) ↔ Same (nameOf (f .bytes)) (padded n)
 unfolding finds
-finds-rename n new f = same-exactly (nameOf (f .bytes)) (padded n)
+finds-rename n new f = (λ e. e, λ e. e)
 
-pub finds-mark : (m : Mark) (n : List ℕ) (f : File) → (finds (mark m n) f ≡ true) ↔ (nameOf (f .bytes) ≡ padded n)
+pub finds-mark : (m : Mark) (n : List ℕ) (f : File) → (finds (mark m n) f ≡ true) ↔ Same (nameOf (f .bytes)) (padded n)
 unfolding finds
-finds-mark m n f = same-exactly (nameOf (f .bytes)) (padded n)
+finds-mark m n f = (λ e. e, λ e. e)
 
 -- "a save finds none"
 pub finds-save : (w : Wish) (f : File) → finds (save w) f ≡ false
@@ -40,14 +37,14 @@ finds-save w f = refl
 
 -- two live slots of an accepted disk that a change finds are the same slot
 module _ (d : List ℕ) (ok : checkDisk d ≡ none) (i j : ℕ) (f g : File) (p : look d .files i ≡ some f) (q : look d .files j ≡ some g) where
-  one-name : (n : List ℕ) → nameOf (f .bytes) ≡ padded n → nameOf (g .bytes) ≡ padded n → i ≡ j
+  one-name : (n : List ℕ) → Same (nameOf (f .bytes)) (padded n) → Same (nameOf (g .bytes)) (padded n) → i ≡ j
   one-name n a b = by (eqb j i) refl
     where
       by : (t : Bool) → eqb j i ≡ t → i ≡ j
       by true e = sym (eqb-true j i e)
       by false e =
           let s = sound-apart (look d) (disk-sound d ok) i j f g (holds d i f p .here) (holds d j g q .here) (eqb-false j i e) p q in
-          absurd (s .names (b ∙ sym a))
+          absurd (s .names (same-both (nameOf (g .bytes)) (nameOf (f .bytes)) (padded n) b a))
 
   pub finds-one : (c : Change) → finds c f ≡ true → finds c g ≡ true → i ≡ j
   finds-one (save w) a b = absurd (false≢true (sym (finds-save w f) ∙ a))

@@ -4,7 +4,7 @@ use mathlib.Core.Path.{_≡_, refl, sym, ap, _∙_}
 use mathlib.Core.Bool.{Bool, true, false, cond, not, _&&_, and-eq-true-iff, true≢false}
 use mathlib.Core.List.{List, [], _∷_}
 use mathlib.Core.Logic.{_⊎_, inl, inr, ⊎-elim}
-use mathlib.Core.Option.{Option, none, some}
+use mathlib.Core.Option.{Option, some}
 use native.Mathlib.Omega.{arith}
 use borrow.Author.Tests.{leb-true, eqb-true, eqb-false, ne-eqb, not-true}
 use lib.Dec.{eqb, leb}
@@ -14,29 +14,28 @@ use Rattle.buffers.proofs.Lists.{below-or-not, part-put, part-put-after, put-in
 use Rattle.geometry.specs.Disk.{imageSize, bitOf}
 use Rattle.maps.specs.Bits.{has}
 use Rattle.slots.specs.Slot.{isLive, kindOf, nameOf, countOf, mapOf, facts}
-use Rattle.slots.specs.Name.{askable, padded}
-use Rattle.slots.proofs.Names.{length-padded}
+use Rattle.slots.specs.Name.{Same, askable, padded}
+use Rattle.slots.proofs.Names.{same-sym, same-to, length-padded}
 use Rattle.chains.specs.File.{File, sectorAt, sectorsOf}
 use Rattle.directory.specs.Places.{slots, slotBytes}
-use Rattle.directory.specs.Find.{find}
-use Rattle.directory.proofs.Search.{find-none}
-use Rattle.disk.specs.Look.{Look, look, slotsOf, extra}
+use Rattle.disk.specs.Look.{Look, look, extra}
 use Rattle.disk.specs.Sound.{GoodFile, Sound}
 use Rattle.disk.proofs.Look.{look-long}
 use Rattle.steps.specs.Steps.{Step, putAll, Does}
 use Rattle.plans.specs.Change.{Mark, hide, show, protect, release, marked, allBetween, usable}
 use Rattle.plans.specs.Plan.{upd, entryOf, slotStep}
-use Rattle.plans.proofs.Frame.{slots-some, upd-same, upd-other, upd-long, extra-upd, entry-alive, entry-is, Holds, holds, holds-long, inside-slot, there-slot, slot-look}
+use Rattle.plans.specs.Accepted.{FreshBut}
+use Rattle.plans.proofs.Frame.{upd-same, upd-other, upd-long, extra-upd, entry-alive, entry-is, Holds, holds, holds-long, inside-slot, there-slot, slot-look}
 
 -- ---- files apart
 
 -- two files share no sector and differ in name
 pub record Apart (g f : File) : Type 0 where
   pub sectors : (b : ℕ) → b < 1560 → has (mapOf (g .bytes)) b ≡ true → has (mapOf (f .bytes)) b ≡ true → ⊥
-  pub names : nameOf (g .bytes) ≡ nameOf (f .bytes) → ⊥
+  pub names : Same (nameOf (g .bytes)) (nameOf (f .bytes)) → ⊥
 
 pub apart-sym : (g f : File) → Apart g f → Apart f g
-apart-sym g f a = record { sectors = λ b h p q. a .sectors b h q p; names = λ e. a .names (sym e) }
+apart-sym g f a = record { sectors = λ b h p q. a .sectors b h q p; names = λ e. a .names (same-sym (nameOf (f .bytes)) (nameOf (g .bytes)) e) }
 
 pub sound-apart : (l : Look) → Sound l → (i j : ℕ) (f g : File) → i < slots → j < slots → (j ≡ i → ⊥) → l .files i ≡ some f → l .files j ≡ some g → Apart g f
 sound-apart l w i j f g h k n p q =
@@ -185,7 +184,7 @@ module _ (d : List ℕ) (w : Sound (look d)) (i : ℕ) (f : File) (e : look d .f
           }
 
       -- and a name that no other file has
-      kept-does : ((j : ℕ) (g : File) → j < slots → (j ≡ i → ⊥) → look d .files j ≡ some g → nameOf (g .bytes) ≡ nameOf now → ⊥)
+      kept-does : ((j : ℕ) (g : File) → j < slots → (j ≡ i → ⊥) → look d .files j ≡ some g → Same (nameOf (g .bytes)) (nameOf now) → ⊥)
           → Does look Sound d (touchStep (look d) i f o y)
       kept-does fresh =
           touch-does (λ a. good-kept)
@@ -208,7 +207,8 @@ module _ (d : List ℕ) (w : Sound (look d)) (i : ℕ) (f : File) (e : look d .f
   mark-does m =
       kept-does 0 (b ∷ []) (omega arith) (ap (λ (a : ℕ). a % 64) (first-byte b) ∙ kind m (getD (f .bytes) 0 0))
       (λ v. was .named (sym (put-after (f .bytes) 0 (b ∷ []) 1 (omega arith)) ∙ v))
-      (λ j g l n v t. sound-apart (look d) w i j f g (own .here) l n e v .names (t ∙ part-put-after (f .bytes) 0 (b ∷ []) 1 10 (omega arith)))
+      (λ j g l n v t. sound-apart (look d) w i j f g (own .here) l n e v .names
+      (same-to (nameOf (g .bytes)) (part-put-after (f .bytes) 0 (b ∷ []) 1 10 (omega arith)) t))
     where
       b : ℕ
       b = marked m (getD (f .bytes) 0 0)
@@ -219,11 +219,11 @@ module _ (d : List ℕ) (w : Sound (look d)) (i : ℕ) (f : File) (e : look d .f
       kind protect x = omega arith
       kind release x = omega arith
 
-  pub rename-does : (new : List ℕ) → usable new ≡ true → find (slotsOf (look d)) new ≡ none → Does look Sound d (touchStep (look d) i f 1 (padded new))
+  pub rename-does : (new : List ℕ) → usable new ≡ true → FreshBut d i new → Does look Sound d (touchStep (look d) i f 1 (padded new))
   rename-does new u free =
       let a = usable-is new u in
       let z = long in
       let named : nameOf (put (f .bytes) 1 (padded new)) ≡ padded new = rw (a .1) at (part-put (f .bytes) 1 (padded new) (omega arith)) in
       kept-does 1 (padded new) (omega arith) (ap (λ (b : ℕ). b % 64) (put-before (f .bytes) 1 (padded new) 0 (omega arith)))
       (λ v. a .0 (sym (put-in (f .bytes) 1 (padded new) 0 (omega arith) (omega arith)) ∙ v))
-      (λ j g l n v t. find-none (slotsOf (look d)) new free j l (g .bytes) (slots-some (look d) j g v) (t ∙ named))
+      (λ j g l n v t. free j g n v (same-to (nameOf (g .bytes)) named t))

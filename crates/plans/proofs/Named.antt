@@ -1,11 +1,12 @@
 -- A name on a disk: the live slot that has it, and none other where the disk is sound.
 use Prim.Native.Nat.{ℕ, _<_}
-use mathlib.Core.Path.{_≡_, refl, sym, ap, _∙_, subst}
+use mathlib.Core.Path.{_≡_, sym, ap, subst}
 use mathlib.Core.List.{List}
-use mathlib.Core.Option.{Option, none, some, Option·some-ne-none, Option·some-injective}
+use mathlib.Core.Option.{none, some}
 use native.Mathlib.Omega.{arith}
 use Rattle.slots.specs.Slot.{nameOf}
-use Rattle.slots.specs.Name.{padded}
+use Rattle.slots.specs.Name.{Same, padded}
+use Rattle.slots.proofs.Names.{same-of, same-both}
 use Rattle.chains.specs.File.{File}
 use Rattle.directory.specs.Places.{slots}
 use Rattle.directory.specs.Directory.{held}
@@ -23,7 +24,7 @@ pub found-file : (d n : List ℕ) (i : ℕ) → find (slotsOf (look d)) n ≡ so
 found-file d n i e =
     let w : FoundBy (slotsOf (look d)) n i = find-some (slotsOf (look d)) n i e in
     let g = slot-file (look d) i (w .bytes) (w .here) in
-    subst (Named d n i) (sym (ap (held noFile (λ f. f)) (g .1))) (record { below = w .below; here = g .1; name = ap nameOf (g .2) ∙ w .name })
+    subst (Named d n i) (sym (ap (held noFile (λ f. f)) (g .1))) (record { below = w .below; here = g .1; name = same-of (ap nameOf (g .2)) (padded n) (w .name) })
 
 -- none is found exactly where no live slot has it
 pub fresh-find : (d n : List ℕ) → Fresh d n → find (slotsOf (look d)) n ≡ none
@@ -31,15 +32,15 @@ fresh-find d n h =
     none-find (slotsOf (look d)) n
     (λ k m s p q.
     let g = slot-file (look d) k s p in
-    h k (g .0) (g .1) (ap nameOf (g .2) ∙ q))
+    h k (g .0) (g .1) (same-of (ap nameOf (g .2)) (padded n) q))
 
 pub find-fresh : (d n : List ℕ) → find (slotsOf (look d)) n ≡ none → Fresh d n
 find-fresh d n e i f q = find-none (slotsOf (look d)) n e i (holds d i f q .here) (f .bytes) (slots-some (look d) i f q)
 
-module _ (l : Look) (w : Sound l) (n : List ℕ) (i : ℕ) (f : File) (h : i < slots) (e : l .files i ≡ some f) (q : nameOf (f .bytes) ≡ padded n) where
+module _ (l : Look) (w : Sound l) (n : List ℕ) (i : ℕ) (f : File) (h : i < slots) (e : l .files i ≡ some f) (q : Same (nameOf (f .bytes)) (padded n)) where
   -- no other slot has it
-  pub alone : (k : ℕ) (g : File) → k < slots → (k ≡ i → ⊥) → l .files k ≡ some g → nameOf (g .bytes) ≡ padded n → ⊥
-  alone k g m u p r = sound-apart l w i k f g h m u e p .names (r ∙ sym q)
+  pub alone : (k : ℕ) (g : File) → k < slots → (k ≡ i → ⊥) → l .files k ≡ some g → Same (nameOf (g .bytes)) (padded n) → ⊥
+  alone k g m u p r = sound-apart l w i k f g h m u e p .names (same-both (nameOf (g .bytes)) (nameOf (f .bytes)) (padded n) r q)
 
   -- the slot that has it is the one that is found
   pub found-here : find (slotsOf l) n ≡ some i
@@ -52,5 +53,5 @@ module _ (l : Look) (w : Sound l) (n : List ℕ) (i : ℕ) (f : File) (h : i < s
         name = q;
         before = λ k m s p r.
             let g = slot-file l k s p in
-            alone k (g .0) (omega arith) (omega arith) (g .1) (ap nameOf (g .2) ∙ r);
+            alone k (g .0) (omega arith) (omega arith) (g .1) (same-of (ap nameOf (g .2)) (padded n) r);
       })

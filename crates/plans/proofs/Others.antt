@@ -14,8 +14,8 @@ use Rattle.refusals.specs.Order.{refuse, _else_, row}
 use Rattle.refusals.specs.Answers.{Outcome, done, refused, unless, Out, out, filled}
 use Rattle.refusals.proofs.First.{sweep-cong}
 use Rattle.slots.specs.Slot.{kindOf, nameOf, facts, lengthOf, pageOf, offsetOf}
-use Rattle.slots.specs.Name.{sameName, askable, padded}
-use Rattle.slots.proofs.Names.{same-is}
+use Rattle.slots.specs.Name.{sameName, Same, askable, padded}
+use Rattle.slots.proofs.Names.{same-sym, same-via, same-of}
 use Rattle.chains.specs.File.{File}
 use Rattle.chains.specs.Chain.{body}
 use Rattle.directory.specs.Places.{slots}
@@ -110,17 +110,17 @@ unusable-same k l p q m u = (λ buf. reads k p buf ∙ sym (reads l q buf), begi
 
 -- what a slot holds, if anything, has not the name
 abbrev pub Unnamed : List ℕ → Option File → Type 0
-Unnamed m o = (f : File) → o ≡ some f → nameOf (f .bytes) ≡ padded m → ⊥
+Unnamed m o = (f : File) → o ≡ some f → Same (nameOf (f .bytes)) (padded m) → ⊥
 
-bytes-unnamed : (m : List ℕ) (o : Option File) → Unnamed m o → (s : List ℕ) → held none (λ f. some (f .bytes)) o ≡ some s → nameOf s ≡ padded m → ⊥
+bytes-unnamed : (m : List ℕ) (o : Option File) → Unnamed m o → (s : List ℕ) → held none (λ f. some (f .bytes)) o ≡ some s → Same (nameOf s) (padded m) → ⊥
 bytes-unnamed m none u s e q = Option·some-ne-none s (sym e)
-bytes-unnamed m (some f) u s e q = u f refl (ap nameOf (Option·some-injective (f .bytes) s e) ∙ q)
+bytes-unnamed m (some f) u s e q = u f refl (same-of (ap nameOf (Option·some-injective (f .bytes) s e)) (padded m) q)
 
-no-hit : (v : Directory) (m : List ℕ) (i : ℕ) → ((s : List ℕ) → v i ≡ some s → nameOf s ≡ padded m → ⊥) → hit v m i ≡ none
+no-hit : (v : Directory) (m : List ℕ) (i : ℕ) → ((s : List ℕ) → v i ≡ some s → Same (nameOf s) (padded m) → ⊥) → hit v m i ≡ none
 no-hit v m i u = by (v i) refl
   where
     named : (s : List ℕ) (t : Bool) → v i ≡ some s → sameName (nameOf s) (padded m) ≡ t → cond {A = Option ℕ} t (some i) none ≡ none
-    named s true p q = absurd (u s p (same-is (nameOf s) (padded m) q))
+    named s true p q = absurd (u s p q)
     named s false p q = refl
 
     by : (o : Option (List ℕ)) → v i ≡ o → held none (λ s. cond (sameName (nameOf s) (padded m)) (some i) none) o ≡ none
@@ -141,7 +141,7 @@ module _ (l : Look) (i : ℕ) (o : Option File) (m : List ℕ) where
       by j (no q) = ap (held none (λ s. cond (sameName (nameOf s) (padded m)) (some j) none)) (slots-other l i o j q)
 
   module _ (was : Unnamed m (l .files i)) (now : Unnamed m o) where
-    slot-unnamed : (s : List ℕ) → slotsOf l i ≡ some s → nameOf s ≡ padded m → ⊥
+    slot-unnamed : (s : List ℕ) → slotsOf l i ≡ some s → Same (nameOf s) (padded m) → ⊥
     unfolding slotsOf
     slot-unnamed = bytes-unnamed m (l .files i) was
 
@@ -185,10 +185,10 @@ module _ (d new : List ℕ) (i : ℕ) (o : Option File) (e : look new ≡ upd (l
 -- ---- each change
 
 -- the file in the slot that a change finds has the name it asks for, and no other
-pub found-unnamed : (d n : List ℕ) (i : ℕ) (f : File) → Named d n i f → (m : List ℕ) → (padded m ≡ padded n → ⊥) → Unnamed m (look d .files i)
+pub found-unnamed : (d n : List ℕ) (i : ℕ) (f : File) → Named d n i f → (m : List ℕ) → (Same (padded m) (padded n) → ⊥) → Unnamed m (look d .files i)
 found-unnamed d n i f w m u g e q =
     let z : f ≡ g = Option·some-injective f g (sym (w .here) ∙ e) in
-    u (sym q ∙ ap (λ (f : File). nameOf (f .bytes)) (sym z) ∙ w .name)
+    u (same-via (nameOf (f .bytes)) (padded m) (padded n) (same-of (ap (λ (f : File). nameOf (f .bytes)) z) (padded m) q) (w .name))
 
 -- another first byte leaves the name, and ten bytes from byte 1 are it
 pub first-name : (s : List ℕ) (b : ℕ) → nameOf (put s 0 (b ∷ [])) ≡ nameOf s
@@ -198,39 +198,40 @@ pub name-put : (s x : List ℕ) → length x ≡ 10 → 11 ≤ length s → name
 name-put s x l h = rw l at (part-put s 1 x (omega arith))
 
 -- a slot in which no file has the name that the change asks for stays
-pub touched-slots : (d n : List ℕ) (o : ℕ) (y : File → List ℕ) (Also : File → Type 0) (new ss : List ℕ) → Touched d n o y Also new ss
+pub touched-slots : (d n : List ℕ) (o : ℕ) (y : File → List ℕ) (Also : ℕ → File → Type 0) (new ss : List ℕ) → Touched d n o y Also new ss
     → (j : ℕ) → Unnamed n (look d .files j) → directory new j ≡ directory d j
 touched-slots d n o y Also new ss t j u =
     other-slots d new (t .slot) (entryOf (put (t .file .bytes) o (y (t .file))) (t .file .sectors)) (t .seen) j
     (λ q. u (t .file) (ap (look d .files) q ∙ t .found .here) (t .found .name))
 
 -- every name but n, where what the slot holds after the change has not that name either
-touched-others : (d n : List ℕ) (o : ℕ) (y : File → List ℕ) (Also : File → Type 0) (new ss : List ℕ) → checkDisk d ≡ none → checkDisk new ≡ none
-    → (t : Touched d n o y Also new ss) → (m : List ℕ) → (padded m ≡ padded n → ⊥) → (nameOf (put (t .file .bytes) o (y (t .file))) ≡ padded m → ⊥)
+touched-others : (d n : List ℕ) (o : ℕ) (y : File → List ℕ) (Also : ℕ → File → Type 0) (new ss : List ℕ) → checkDisk d ≡ none → checkDisk new ≡ none
+    → (t : Touched d n o y Also new ss) → (m : List ℕ) → (Same (padded m) (padded n) → ⊥) → (Same (nameOf (put (t .file .bytes) o (y (t .file)))) (padded m) → ⊥)
     → SameAnswers new m d m
 touched-others d n o y Also new ss ok now t m u v =
     let s : List ℕ = put (t .file .bytes) o (y (t .file)) in
     others d new (t .slot) (entryOf s (t .file .sectors)) (t .seen) ok now m (found-unnamed d n (t .slot) (t .file) (t .found) m u)
-    (λ f e q. v (ap (λ (f : File). nameOf (f .bytes)) (sym (entry-is s (t .file .sectors) f e)) ∙ q))
+    (λ f e q. v (same-of (ap (λ (f : File). nameOf (f .bytes)) (sym (entry-is s (t .file .sectors) f e))) (padded m) q))
 
 module _ (d : List ℕ) (ok : checkDisk d ≡ none) (room : ℕ) (new ss : List ℕ) where
   -- for every name but the one of an erase or a mark
-  pub erase-others : (n : List ℕ) → run (erase n) d room ≡ made new ss → (m : List ℕ) → (padded m ≡ padded n → ⊥) → SameAnswers new m d m
+  pub erase-others : (n : List ℕ) → run (erase n) d room ≡ made new ss → (m : List ℕ) → (Same (padded m) (padded n) → ⊥) → SameAnswers new m d m
   erase-others n e m u =
       let t = erased d ok room new ss n e in
-      touched-others d n 0 erasing Unprotected new ss ok (change-accepted (erase n) d room new ss ok e) t m u (λ q. u (sym q ∙ first-name (t .file .bytes) 0 ∙ t .found .name))
+      touched-others d n 0 erasing (λ i. Unprotected) new ss ok (change-accepted (erase n) d room new ss ok e) t m u
+      (λ q. u (same-via (nameOf (t .file .bytes)) (padded m) (padded n) (same-of (sym (first-name (t .file .bytes) 0)) (padded m) q) (t .found .name)))
 
-  pub mark-others : (k : Mark) (n : List ℕ) → run (mark k n) d room ≡ made new ss → (m : List ℕ) → (padded m ≡ padded n → ⊥) → SameAnswers new m d m
+  pub mark-others : (k : Mark) (n : List ℕ) → run (mark k n) d room ≡ made new ss → (m : List ℕ) → (Same (padded m) (padded n) → ⊥) → SameAnswers new m d m
   mark-others k n e m u =
       let t = marked-so d ok room new ss k n e in
-      touched-others d n 0 (marking k) (λ f. Unit {0}) new ss ok (change-accepted (mark k n) d room new ss ok e) t m u
-      (λ q. u (sym q ∙ first-name (t .file .bytes) (marked k (getD (t .file .bytes) 0 0)) ∙ t .found .name))
+      touched-others d n 0 (marking k) (λ i f. Unit {0}) new ss ok (change-accepted (mark k n) d room new ss ok e) t m u
+      (λ q. u (same-via (nameOf (t .file .bytes)) (padded m) (padded n) (same-of (sym (first-name (t .file .bytes) (marked k (getD (t .file .bytes) 0 0)))) (padded m) q) (t .found .name)))
 
   -- the two of a rename
-  pub rename-others : (n to : List ℕ) → run (rename n to) d room ≡ made new ss → (m : List ℕ) → (padded m ≡ padded n → ⊥) → (padded m ≡ padded to → ⊥)
+  pub rename-others : (n to : List ℕ) → run (rename n to) d room ≡ made new ss → (m : List ℕ) → (Same (padded m) (padded n) → ⊥) → (Same (padded m) (padded to) → ⊥)
       → SameAnswers new m d m
   rename-others n to e m u v =
       let t = renamed d ok room new ss n to e in
       let l = holds-long d (t .slot) (t .file) (t .found .here) (sound-long d (disk-sound d ok)) in
       touched-others d n 1 (λ f. padded to) (Renames d to) new ss ok (change-accepted (rename n to) d room new ss ok e) t m u
-      (λ q. v (sym q ∙ name-put (t .file .bytes) (padded to) (usable-is to (t .also .name) .1) (omega arith)))
+      (λ q. v (same-sym (padded to) (padded m) (same-of (sym (name-put (t .file .bytes) (padded to) (usable-is to (t .also .name) .1) (omega arith))) (padded m) q)))

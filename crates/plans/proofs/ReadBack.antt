@@ -15,6 +15,7 @@ use Rattle.refusals.specs.Order.{Reply, _else_, row}
 use Rattle.refusals.specs.Answers.{out, done}
 use Rattle.slots.specs.Slot.{kindOf, nameOf, carried, facts, lengthOf, pageOf, offsetOf}
 use Rattle.slots.specs.Name.{askable, padded}
+use Rattle.slots.proofs.Names.{same-eq}
 use Rattle.chains.specs.File.{File}
 use Rattle.chains.specs.Chain.{body}
 use Rattle.directory.specs.Places.{dirSector}
@@ -142,7 +143,7 @@ module _ (d : List ℕ) (ok : checkDisk d ≡ none) (room : ℕ) (w : Wish) (new
         below = k .lowest .below;
         bytes = newSlot (slotsOf (look d)) (k .slot) w (k .bits);
         here = slots-same (look d) (k .slot) (some saved);
-        name = named-so;
+        name = same-eq (nameOf (newSlot (slotsOf (look d)) (k .slot) w (k .bits))) (padded (w .name)) named-so;
         before = λ j h t p q.
             find-none (slotsOf (look d)) (w .name) (k .fresh) j (omega (arith, k .lowest .below)) t
             (sym (slots-other (look d) (k .slot) (some saved) j (omega arith)) ∙ p) q;

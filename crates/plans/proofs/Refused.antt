@@ -1,7 +1,7 @@
 -- A change is refused exactly when the check refuses the disk or a row holds that has none before it, and a refused call changes nothing lent.
 use Prim.Native.Nat.{ℕ, suc, _+_, _<_}
 use mathlib.Core.Path.{_≡_, refl, sym, ap, _∙_, subst}
-use mathlib.Core.Bool.{Bool, true, false, not, _&&_, _||_, true≢false}
+use mathlib.Core.Bool.{Bool, true, false, cond, not, _&&_, _||_, true≢false}
 use mathlib.Core.List.{List, [], _∷_, map}
 use mathlib.Core.Logic.{_⊎_, inl, inr, _≢_, _↔_}
 use mathlib.Core.Option.{Option, none, some, Option·some-ne-none}
@@ -16,7 +16,6 @@ use Rattle.refusals.specs.Answers.{done, refused, filled}
 use Rattle.refusals.proofs.First.{first-same, first-none}
 use Rattle.slots.specs.Slot.{protected, carried, nameOf, sectorsFor}
 use Rattle.slots.specs.Name.{sameName, askable, padded}
-use Rattle.slots.proofs.Names.{same-refl, same-is}
 use Rattle.chains.specs.File.{File}
 use Rattle.directory.specs.Places.{slotCount, slots, dirSector}
 use Rattle.directory.specs.Directory.{held}
@@ -32,8 +31,8 @@ use Rattle.steps.specs.Steps.{Step, enact, numbers}
 use Rattle.steps.proofs.Steps.{length-numbers}
 use Rattle.plans.specs.Change.{Wish, Mark, Change, save, erase, rename, mark, marked, between, usable}
 use Rattle.plans.specs.Saving.{taken, lowestSlot, slotTaken}
-use Rattle.plans.specs.Plan.{touch, saveSteps, Plan, no, go, orNo, byName, nameTaken, isProtected, saveReply, planOf, Result, stopped, made, settle, checked, run, changedBy, change}
-use Rattle.plans.specs.Refused.{someFree, row14, row16, row17, row18, row19, changeRows, Refuses, Passes, Accepts}
+use Rattle.plans.specs.Plan.{touch, saveSteps, Plan, no, go, orNo, byName, takenAt, nameTaken, respells, takenBy, renameTaken, isProtected, saveReply, planOf, Result, stopped, made, settle, checked, run, changedBy, change}
+use Rattle.plans.specs.Refused.{someFree, row14, row16, renameRow16, row17, row18, row19, changeRows, Refuses, Passes, Accepts}
 use Rattle.plans.specs.Accepted.{many}
 use Rattle.plans.proofs.Free.{lowest-slot, no-slot, taken-long}
 use Rattle.plans.proofs.Saved.{save-numbers}
@@ -137,6 +136,21 @@ module _ (d : List ℕ) (room : ℕ) where
         by none e = later 16 0 (someNamed l n) rs (settle d room q) (none-named l n e) k
         by (some i) e = here 16 (suc i) (someNamed l n) rs (some-named l n i e)
 
+    by-renamed : (n new : List ℕ) (i : ℕ) → find (slotsOf l) n ≡ some i → (rs : List SlotRow) (q : Plan) → By rs q
+        → By (renameRow16 l n new ∷ rs) (orNo (renameTaken (slotsOf l) i (fileAt l i) new) q)
+    unfolding slotNamed fileNamed takenBy
+    by-renamed n new i e rs q k = rw e (by (find (slotsOf l) new) refl)
+      where
+        at : (j : ℕ) (t : Bool) → By (rowAt 16 (suc j) (not t) ∷ rs) (orNo (takenAt (cond t none (some j))) q)
+        at j true = later 16 (suc j) false rs (settle d room q) refl k
+        at j false = here 16 (suc j) true rs refl
+
+        by : (o : Option ℕ) → find (slotsOf l) new ≡ o
+            → By (rowAt 16 (held 0 suc o) (someNamed l new && not (respells (suc i) (held 0 suc o) (fileAt l i) new)) ∷ rs)
+            (orNo (takenAt (held none (λ j. cond (respells (suc i) (suc j) (fileAt l i) new) none (some j)) o)) q)
+        by none z = later 16 0 _ rs (settle d room q) (ap (λ (t : Bool). t && not (respells (suc i) 0 (fileAt l i) new)) (none-named l new z)) k
+        by (some j) z = rw (some-named l new j z) (at j (respells (suc i) (suc j) (fileAt l i) new))
+
     by-protected : (n : List ℕ) (i : ℕ) → find (slotsOf l) n ≡ some i → (rs : List SlotRow) (q : Plan) → By rs q
         → By (row17 l n ∷ rs) (orNo (isProtected i (fileAt l i)) q)
     by-protected n i e rs q k =
@@ -211,9 +225,9 @@ module _ (d : List ℕ) (room : ℕ) where
     unfolding changeRows planOf
     by-rename n new =
         by-test 12 0 (not (askable n && usable new)) _ _
-        (λ a. by-found n (λ i f. orNo (nameTaken (slotsOf l) new else isProtected i f) (go (touch l i f 1 (padded new)))) _
-        (λ i e. by-else (nameTaken (slotsOf l) new) (isProtected i (fileAt l i)) _ (go (touch l i (fileAt l i) 1 (padded new)))
-        (by-taken new _ _ (by-protected n i e _ _ (by-touch i (fileAt l i) 1 (padded new))))))
+        (λ a. by-found n (λ i f. orNo (renameTaken (slotsOf l) i f new else isProtected i f) (go (touch l i f 1 (padded new)))) _
+        (λ i e. by-else (renameTaken (slotsOf l) i (fileAt l i) new) (isProtected i (fileAt l i)) _ (go (touch l i (fileAt l i) 1 (padded new)))
+        (by-renamed n new i e _ _ (by-protected n i e _ _ (by-touch i (fileAt l i) 1 (padded new))))))
 
     by-mark : (m : Mark) (n : List ℕ) → By (changeRows (mark m n) l room) (planOf (mark m n) l)
     unfolding changeRows planOf

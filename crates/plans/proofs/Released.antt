@@ -51,7 +51,7 @@ lean-upd l i o w h j f k q = by (ℕ-discrete j i)
     by (no z) = w j f k (sym (upd-other l i o j z) ∙ q)
 
 -- a change of the slot that it finds, if that slot is as lean as it was where it is still live
-touched-lean : (d n : List ℕ) (o : ℕ) (y : File → List ℕ) (Also : File → Type 0) (new ss : List ℕ) → Lean (look d) → (t : Touched d n o y Also new ss)
+touched-lean : (d n : List ℕ) (o : ℕ) (y : File → List ℕ) (Also : ℕ → File → Type 0) (new ss : List ℕ) → Lean (look d) → (t : Touched d n o y Also new ss)
     → (isLive (put (t .file .bytes) o (y (t .file))) ≡ true → LeanFile (t .file .bytes) → LeanFile (put (t .file .bytes) o (y (t .file)))) → Lean (look new)
 touched-lean d n o y Also new ss w t k =
     let now : List ℕ = put (t .file .bytes) o (y (t .file)) in
@@ -91,7 +91,7 @@ module _ (d : List ℕ) (ok : checkRelease d ≡ none) (room : ℕ) (new ss : Li
   change-lean (erase n) e =
       let t = erased d first room new ss n e in
       let z = holds-long d (t .slot) (t .file) (t .found .here) (sound-long d (disk-sound d first)) in
-      touched-lean d n 0 erasing Unprotected new ss lean t
+      touched-lean d n 0 erasing (λ i. Unprotected) new ss lean t
       (λ a. absurd (true≢false (sym a ∙ rw (first-byte (t .file .bytes) 0 (omega arith)))))
   change-lean (rename n to) e =
       let t = renamed d first room new ss n to e in
@@ -106,7 +106,7 @@ module _ (d : List ℕ) (ok : checkRelease d ≡ none) (room : ℕ) (new ss : Li
       let z = holds-long d (t .slot) (t .file) (t .found .here) (sound-long d (disk-sound d first)) in
       let s : List ℕ = t .file .bytes in
       let x : ℕ = getD s 0 0 in
-      touched-lean d n 0 (marking k) (λ f. Unit {0}) new ss lean t
+      touched-lean d n 0 (marking k) (λ i f. Unit {0}) new ss lean t
       (λ a.
       lean-kept s (put s 0 (marking k (t .file))) (ap (λ (x : ℕ). x % 64) (first-byte s (marked k x) (omega arith)) ∙ kind-bits k x)
       (λ j h. put-after s 0 (marking k (t .file)) j (omega arith)))

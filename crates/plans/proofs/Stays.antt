@@ -5,7 +5,8 @@ use mathlib.Core.Bool.{Bool, true, false, false≢true}
 use mathlib.Core.List.{List}
 use mathlib.Core.Option.{none, some, Option·some-ne-none, Option·some-injective}
 use Rattle.slots.specs.Slot.{nameOf}
-use Rattle.slots.specs.Name.{askable, padded}
+use Rattle.slots.specs.Name.{Same, askable, padded}
+use Rattle.slots.proofs.Names.{same-eq, same-of, same-via}
 use Rattle.chains.specs.File.{File}
 use Rattle.directory.specs.Directory.{directory}
 use Rattle.disk.specs.Look.{look, slotsOf}
@@ -23,18 +24,20 @@ use Rattle.plans.proofs.Others.{Unnamed, others, unusable-same, other-s
 use Rattle.plans.proofs.Finds.{finds-erase, finds-rename, finds-mark}
 
 module _ (d : List ℕ) (ok : checkDisk d ≡ none) (room : ℕ) (new ss : List ℕ) where
-  save-others : (w : Wish) → run (save w) d room ≡ made new ss → (m : List ℕ) → (padded m ≡ padded (w .name) → ⊥) → SameAnswers new m d m
+  save-others : (w : Wish) → run (save w) d room ≡ made new ss → (m : List ℕ) → (Same (padded m) (padded (w .name)) → ⊥) → SameAnswers new m d m
   save-others w e m u =
       let k = stored d ok room w new ss e in
       let f : File = newFile (slotsOf (look d)) (k .slot) w (k .bits) in
       others d new (k .slot) (some f) (k .seen) ok (change-accepted (save w) d room new ss ok e) m
       (λ g q p. Option·some-ne-none g (sym q ∙ k .lowest .empty))
       (λ g q p.
-      u (sym p ∙ ap (λ (f : File). nameOf (f .bytes)) (sym (Option·some-injective f g q))
-      ∙ name-is (slotsOf (look d)) (k .slot) w (k .bits) (usable-is (w .name) (k .ready .name) .1)))
+      u (same-via (nameOf (g .bytes)) (padded m) (padded (w .name)) p
+      (same-eq (nameOf (g .bytes)) (padded (w .name))
+      (ap (λ (f : File). nameOf (f .bytes)) (sym (Option·some-injective f g q))
+      ∙ name-is (slotsOf (look d)) (k .slot) w (k .bits) (usable-is (w .name) (k .ready .name) .1)))))
 
-  unfound : (j : ℕ) (f : File) (n : List ℕ) → look d .files j ≡ some f → (nameOf (f .bytes) ≡ padded n → ⊥) → Unnamed n (look d .files j)
-  unfound j f n h u g q p = u (ap (λ (f : File). nameOf (f .bytes)) (Option·some-injective f g (sym h ∙ q)) ∙ p)
+  unfound : (j : ℕ) (f : File) (n : List ℕ) → look d .files j ≡ some f → (Same (nameOf (f .bytes)) (padded n) → ⊥) → Unnamed n (look d .files j)
+  unfound j f n h u g q p = u (same-of (ap (λ (f : File). nameOf (f .bytes)) (Option·some-injective f g (sym h ∙ q))) (padded n) p)
 
   others-stay : (c : Change) → run c d room ≡ made new ss → (m : List ℕ) → Other c m → SameAnswers new m d m
   others-stay (save w) e m u = save-others w e m u
@@ -63,10 +66,10 @@ module _ (d : List ℕ) (ok : checkDisk d ≡ none) (room : ℕ) (new ss : List 
       other-slots d new (k .slot) (some (newFile (slotsOf (look d)) (k .slot) w (k .bits))) (k .seen) j
       (λ q. Option·some-ne-none f (sym h ∙ ap (look d .files) q ∙ k .lowest .empty))
   entries-stay (erase n) e j f h x =
-      touched-slots d n 0 erasing Unprotected new ss (erased d ok room new ss n e) j (unfound j f n h (λ p. false≢true (sym x ∙ finds-erase n f .1 p)))
+      touched-slots d n 0 erasing (λ i. Unprotected) new ss (erased d ok room new ss n e) j (unfound j f n h (λ p. false≢true (sym x ∙ finds-erase n f .1 p)))
   entries-stay (rename n to) e j f h x =
       touched-slots d n 1 (λ f. padded to) (Renames d to) new ss (renamed d ok room new ss n to e) j
       (unfound j f n h (λ p. false≢true (sym x ∙ finds-rename n to f .1 p)))
   entries-stay (mark k n) e j f h x =
-      touched-slots d n 0 (marking k) (λ f. Unit {0}) new ss (marked-so d ok room new ss k n e) j
+      touched-slots d n 0 (marking k) (λ i f. Unit {0}) new ss (marked-so d ok room new ss k n e) j
       (unfound j f n h (λ p. false≢true (sym x ∙ finds-mark k n f .1 p)))

@@ -13,7 +13,9 @@ use Rattle.buffers.proofs.Lists.{part-at, put-before, put-after}
 use Rattle.buffers.proofs.Counts.{none-any}
 use Rattle.geometry.specs.Disk.{bitNumber, bitPlace}
 use Rattle.maps.specs.Bits.{has}
-use Rattle.slots.specs.Slot.{mapOf}
+use Rattle.slots.specs.Slot.{nameOf, mapOf}
+use Rattle.slots.specs.Name.{padded}
+use Rattle.slots.proofs.Names.{same-eq}
 use Rattle.slots.proofs.Least.{sectors-least}
 use Rattle.chains.specs.File.{File}
 use Rattle.directory.specs.Places.{slots, slotAt}
@@ -168,6 +170,6 @@ module _ (d : List ℕ) (w : Wish) (room : ℕ) (new ss : List ℕ) (e : run (sa
     now = record {
       below = k .lowest .below;
       here = here;
-      name = name-is (slotsOf (look d)) (k .slot) w (k .bits) (usable-is (w .name) (k .ready .name) .1);
+      name = same-eq (nameOf (saved .bytes)) (padded (w .name)) (name-is (slotsOf (look d)) (k .slot) w (k .bits) (usable-is (w .name) (k .ready .name) .1));
     };
   }

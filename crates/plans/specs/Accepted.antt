@@ -3,12 +3,13 @@ use Prim.Native.Nat.{ℕ, _+_, _-_, _*_, _≤_, _<_}
 use mathlib.Core.Path.{_≡_}
 use mathlib.Core.Bool.{true, false}
 use mathlib.Core.List.{List, [], _∷_, _++_, map}
+use mathlib.Core.Logic.{_⊎_}
 use mathlib.Core.Option.{none, some}
 use lib.ListN.{length, getD}
 use Rattle.geometry.specs.Disk.{bitNumber}
 use Rattle.maps.specs.Bits.{has}
 use Rattle.slots.specs.Slot.{protected, nameOf, mapOf, sectorsFor}
-use Rattle.slots.specs.Name.{askable, padded}
+use Rattle.slots.specs.Name.{Same, askable, padded}
 use Rattle.chains.specs.File.{File}
 use Rattle.directory.specs.Places.{slots, slotBytes, dirSector}
 use Rattle.directory.specs.Directory.{directory}
@@ -23,31 +24,41 @@ use Rattle.plans.specs.Change.{Wish, usable}
 pub record Named (d n : List ℕ) (i : ℕ) (f : File) : Type 0 where
   pub below : i < slots
   pub here : look d .files i ≡ some f
-  pub name : nameOf (f .bytes) ≡ padded n
+  pub name : Same (nameOf (f .bytes)) (padded n)
 
 -- no live slot has the name
 abbrev pub Fresh : List ℕ → List ℕ → Type 0
-Fresh d n = (i : ℕ) (f : File) → look d .files i ≡ some f → nameOf (f .bytes) ≡ padded n → ⊥
+Fresh d n = (i : ℕ) (f : File) → look d .files i ≡ some f → Same (nameOf (f .bytes)) (padded n) → ⊥
 
 -- bit 6 is clear
 abbrev pub Unprotected : File → Type 0
 Unprotected f = protected (f .bytes) ≡ false
 
 -- the disk is accepted, the name can be asked for, a live slot has it, more holds of its file, and the list has room for one number
-pub record Allowed (d n : List ℕ) (Also : File → Type 0) (room : ℕ) : Type 0 where
+pub record Allowed (d n : List ℕ) (Also : ℕ → File → Type 0) (room : ℕ) : Type 0 where
   pub disk : checkDisk d ≡ none
   pub name : askable n ≡ true
   pub slot : ℕ
   pub file : File
   pub found : Named d n slot file
-  pub also : Also file
+  pub also : Also slot file
   pub list : 1 ≤ room
 
--- for a rename: the new name is usable, no live slot has it, and the file is not protected
-pub record Renames (d new : List ℕ) (f : File) : Type 0 where
+-- no live slot but slot i has the name
+abbrev pub FreshBut : List ℕ → ℕ → List ℕ → Type 0
+FreshBut d i n = (j : ℕ) (g : File) → (j ≡ i → ⊥) → look d .files j ≡ some g → Same (nameOf (g .bytes)) (padded n) → ⊥
+
+-- for a rename of the file in slot i: the new name is usable, no other live slot has it, and the file is not protected. "A rename
+-- that alters only the case of its own name is allowed; a new name equal to the stored bytes stays refused."
+pub record Renames (d new : List ℕ) (i : ℕ) (f : File) : Type 0 where
   pub name : usable new ≡ true
-  pub fresh : Fresh d new
+  pub fresh : FreshBut d i new
+  pub other : nameOf (f .bytes) ≡ padded new → ⊥
   pub unprotected : Unprotected f
+
+-- the new name of the file in slot i is refused at slot j: its own, which stores these bytes, or another that has the name
+abbrev pub Bars : List ℕ → List ℕ → ℕ → File → ℕ → Type 0
+Bars d new i f j = ((j ≡ i) × (nameOf (f .bytes) ≡ padded new)) ⊎ ((j ≡ i → ⊥) × (g : File) × Named d new j g)
 
 -- a slot whose byte 0 is zero
 abbrev pub Empty : List ℕ → ℕ → Type 0

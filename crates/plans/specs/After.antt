@@ -12,7 +12,7 @@ use Rattle.refusals.specs.Order.{refuse}
 use Rattle.refusals.specs.Answers.{refused, out}
 use Rattle.maps.specs.Bits.{has}
 use Rattle.slots.specs.Slot.{hidden, protected, kindOf, countOf, mapOf}
-use Rattle.slots.specs.Name.{askable, padded}
+use Rattle.slots.specs.Name.{Same, askable, padded}
 use Rattle.chains.specs.File.{File}
 use Rattle.directory.specs.Places.{slotAt, dirSector}
 use Rattle.directory.specs.Directory.{directory}
@@ -29,14 +29,14 @@ pub record SameAnswers (new m old n : List ℕ) : Type 0 where
   pub readings : (buf : List ℕ) → reading new m buf ≡ reading old n buf
   pub starts : starting new m ≡ starting old n
 
--- a name with other bytes than those that the change names
+-- another name than those that the change names
 abbrev pub Other : Change → List ℕ → Type 0
-Other (save w) m = padded m ≡ padded (w .name) → ⊥
-Other (erase n) m = padded m ≡ padded n → ⊥
-Other (rename n to) m = (padded m ≡ padded n → ⊥) × (padded m ≡ padded to → ⊥)
-Other (mark k n) m = padded m ≡ padded n → ⊥
+Other (save w) m = Same (padded m) (padded (w .name)) → ⊥
+Other (erase n) m = Same (padded m) (padded n) → ⊥
+Other (rename n to) m = (Same (padded m) (padded n) → ⊥) × (Same (padded m) (padded to) → ⊥)
+Other (mark k n) m = Same (padded m) (padded n) → ⊥
 
--- every name but those the change names: one that cannot be asked for is none of them, whatever its bytes
+-- every name but those the change names: one that cannot be asked for is none of them, however it is spelt
 abbrev pub Unasked : Change → List ℕ → Type 0
 Unasked c m = askable m ≡ true → Other c m
 
@@ -73,9 +73,11 @@ pub record AfterRename (d n to new ss : List ℕ) : Type 0 where
   pub sectors : ss ≡ dirSector slot ∷ []
   -- the file in the slot has the new name, and its sectors
   pub now : Named new to slot (record { bytes = put (file .bytes) 1 (padded to); sectors = file .sectors })
-  -- reading and the start address give for the new name what they gave for the old one, and refuse that 15
+  -- reading and the start address give for the new name what they gave for the old one
   pub answers : SameAnswers new to d n
-  pub gone : Gone new n
+  -- the old one is refused 15 where the new one is another name; where it "alters only the case" the old spelling finds the file
+  pub gone : (Same (padded n) (padded to) → ⊥) → Gone new n
+  pub respelt : Same (padded n) (padded to) → SameAnswers new n d n
 
 -- what a mark makes of bit 7, and of bit 6
 abbrev pub hiddenBy : Mark → Bool → Bool

@@ -10,7 +10,7 @@ use Rattle.geometry.specs.Disk.{bitNumber, bitPlace}
 use Rattle.refusals.specs.Order.{Refusal, refuse, Reply, _else_, row}
 use Rattle.refusals.specs.Answers.{Outcome, done, refused}
 use Rattle.slots.specs.Slot.{isLive, protected, carried, nameOf, sectorsFor}
-use Rattle.slots.specs.Name.{sameName, askable, padded}
+use Rattle.slots.specs.Name.{sameBytes, sameName, askable, padded}
 use Rattle.chains.specs.File.{File}
 use Rattle.directory.specs.Places.{slotAt, dirSector}
 use Rattle.directory.specs.Directory.{held, Directory}
@@ -72,9 +72,24 @@ orNo none p = p
 abbrev pub byName : Look → List ℕ → (ℕ → File → Plan) → Plan
 byName l n at = held (no (refuse 15 0)) (λ i. at i (fileAt l i)) (find (slotsOf l) n)
 
--- 16, at the live slot that has the new name
+-- 16, at the slot that has the new name
+abbrev pub takenAt : Option ℕ → Reply
+takenAt o = held none (λ i. some (refuse 16 (suc i))) o
+
 abbrev pub nameTaken : Directory → List ℕ → Reply
-nameTaken v n = held none (λ i. some (refuse 16 (suc i))) (find v n)
+nameTaken v n = takenAt (find v n)
+
+-- "A rename that alters only the case of its own name": the name is found at the file's own slot, and the ten bytes stored are others
+abbrev pub respells : ℕ → ℕ → File → List ℕ → Bool
+respells own at f new = eqb at own && not (sameBytes (nameOf (f .bytes)) (padded new))
+
+-- the slot that has the new name of the file in slot i, but none where the rename alters only the case of its own name, which "is
+-- allowed; a new name equal to the stored bytes stays refused."
+unfoldable pub takenBy : Directory → ℕ → File → List ℕ → Option ℕ
+takenBy v i f new = held none (λ j. cond (respells (suc i) (suc j) f new) none (some j)) (find v new)
+
+abbrev pub renameTaken : Directory → ℕ → File → List ℕ → Reply
+renameTaken v i f new = takenAt (takenBy v i f new)
 
 -- 17
 abbrev pub isProtected : ℕ → File → Reply
@@ -91,10 +106,10 @@ unfoldable pub planOf : Change → Look → Plan
 -- "Erase sets byte 0 to 0 and changes no other byte."
 planOf (erase n) l =
     orNo (row 12 0 (not (askable n))) (byName l n (λ i f. orNo (isProtected i f) (go (touch l i f 0 (0 ∷ [])))))
--- "Rename changes bytes 1 to 10; a new name equal to the old is refused (16)."
+-- "Rename changes bytes 1 to 10"
 planOf (rename n new) l =
     orNo (row 12 0 (not (askable n && usable new)))
-    (byName l n (λ i f. orNo (nameTaken (slotsOf l) new else isProtected i f) (go (touch l i f 1 (padded new)))))
+    (byName l n (λ i f. orNo (renameTaken (slotsOf l) i f new else isProtected i f) (go (touch l i f 1 (padded new)))))
 -- "Hide, show, protect, release set or clear one bit; where it is so already the call is accepted."
 planOf (mark m n) l =
     orNo (row 12 0 (not (askable n))) (byName l n (λ i f. go (touch l i f 0 (marked m (getD (f .bytes) 0 0) ∷ []))))

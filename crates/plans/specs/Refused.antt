@@ -18,7 +18,7 @@ use Rattle.disk.specs.Check.{checkDisk}
 use Rattle.files.specs.Calls.{fileNamed}
 use Rattle.files.specs.Asked.{someNamed, slotNamed, startOutside, row12, row15, row20, RefusesBy}
 use Rattle.plans.specs.Change.{Wish, Change, save, erase, rename, mark, usable}
-use Rattle.plans.specs.Plan.{made, run}
+use Rattle.plans.specs.Plan.{respells, made, run}
 
 -- ---- the tests
 
@@ -40,6 +40,10 @@ row14 w = rowAt 14 0 (startOutside (w .page) (w .offset))
 abbrev pub row16 : Look → List ℕ → SlotRow
 row16 l n = rowAt 16 (slotNamed l n) (someNamed l n)
 
+-- the same for a rename, but where it "alters only the case of its own name"
+abbrev pub renameRow16 : Look → List ℕ → List ℕ → SlotRow
+renameRow16 l n new = rowAt 16 (slotNamed l new) (someNamed l new && not (respells (slotNamed l n) (slotNamed l new) (fileNamed l n) new))
+
 -- protected
 abbrev pub row17 : Look → List ℕ → SlotRow
 row17 l n = rowAt 17 (slotNamed l n) (protected (fileNamed l n .bytes))
@@ -57,7 +61,7 @@ unfoldable pub changeRows : Change → Look → ℕ → List SlotRow
 changeRows (save w) l room =
     row12 (usable (w .name)) ∷ row13 w ∷ row14 w ∷ row16 l (w .name) ∷ row18 l ∷ row19 l w ∷ row20 room (sectorsFor (length (w .body)) + 1) ∷ []
 changeRows (erase n) l room = row12 (askable n) ∷ row15 l n ∷ row17 l n ∷ row20 room 1 ∷ []
-changeRows (rename n new) l room = row12 (askable n && usable new) ∷ row15 l n ∷ row16 l new ∷ row17 l n ∷ row20 room 1 ∷ []
+changeRows (rename n new) l room = row12 (askable n && usable new) ∷ row15 l n ∷ renameRow16 l n new ∷ row17 l n ∷ row20 room 1 ∷ []
 changeRows (mark m n) l room = row12 (askable n) ∷ row15 l n ∷ row20 room 1 ∷ []
 
 -- ---- refused, and accepted

@@ -9,7 +9,7 @@ use lib.Dec.{ltb}
 use Rattle.geometry.specs.Disk.{placeOrEnd}
 use Rattle.refusals.specs.Order.{Refusal, refuse, Reply, _else_, row}
 use Rattle.slots.specs.Slot.{kindOf, carried, firstOf, facts, lengthOf}
-use Rattle.slots.specs.Name.{askable}
+use Rattle.slots.specs.Name.{Same, askable}
 use Rattle.chains.specs.File.{File, fileOf}
 use Rattle.directory.specs.Directory.{held, slotOr}
 use Rattle.directory.specs.Find.{find}
@@ -17,6 +17,7 @@ use Rattle.disk.specs.Look.{Look, look, slotsOf}
 use Rattle.disk.specs.Check.{checkLook}
 use Rattle.files.specs.Calls.{Sought, at as found, barred, lookup, noFile, fileAt, fileNamed, notCarried, readReply}
 use Rattle.files.proofs.Named.{lookup-named, named-by, bySought, named-slot}
+use Rattle.files.proofs.Spelling.{spelt-asked, spelt-found}
 use Rattle.readers.specs.Pieces.{placeOf}
 use Rattle.readers.specs.Opening.{beginOf, Begin, at, refused, beginBy, openReply, beginLook, beginning, beginAt}
 
@@ -74,3 +75,8 @@ read-replies l n room = by (checkLook l) (row 12 0 (not (askable n))) (find (slo
 -- two disks with one look get one answer
 pub same-opening : (d e : List ℕ) → look d ≡ look e → (n : List ℕ) → beginning d n ≡ beginning e n
 same-opening d e q n = ap (λ (l : Look). beginLook l n) q
+
+-- each spelling of a name opens what every other does
+pub spelt-opening : (d m n : List ℕ) → Same m n → beginning d m ≡ beginning d n
+unfolding beginLook openReply fileNamed
+spelt-opening d m n e = rw (spelt-asked d m n e, spelt-found d m n e)

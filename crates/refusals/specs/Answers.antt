@@ -30,7 +30,7 @@ numberOf FirstNotOwn = 6
 numberOf LengthTooGreat = 7
 -- the map shares a bit with an earlier live slot
 numberOf SectorShared = 8
--- the ten name bytes equal an earlier live slot's
+-- the name is an earlier live slot's
 numberOf NameTwice = 9
 -- the chain is broken
 numberOf ChainBroken = 10

@@ -1,3 +1,5 @@
+pub mod Letters
 pub mod Names
+pub mod Keys
 pub mod Rows
 pub mod Least

@@ -5,7 +5,7 @@ ghost use Prim.Native.Nat.{_+_, _*_, _≤_, _<_};
 ghost use Rattle.buffers.specs.Bytes.{part};
 ghost use Rattle.refusals.specs.Answers.{replyOf};
 ghost use Rattle.slots.specs.Slot.{isLive, hidden, protected, kindOf, known, carried, nameOf, countOf, firstOf, mapOf, pageOf, offsetOf, pagesOf, remainderOf, facts, lengthOf};
-ghost use Rattle.slots.specs.Name.{sameName, askable, padded, keyOf};
+ghost use Rattle.slots.specs.Name.{sameName, sameBytes, lower, askable, padded, keyOf};
 ghost use Rattle.slots.specs.Rows.{ownReply, wasteful};
 use refusals::Reason;
 use refusals::Verdict;
@@ -114,9 +114,9 @@ pub fn length_of(s: &[u8]) -> usize
     pages_of(s) * 16384 + remainder_of(s)
 }
 
-// Whether two names are the same.
-pub fn same_name(a: &[u8], b: &[u8]) -> bool
-    ensures { λ r. ⌜ r ≡ sameName (now (a .entry)) (now (b .entry)) ⌝ }
+// Whether two runs of bytes are the same, byte for byte.
+pub fn same_bytes(a: &[u8], b: &[u8]) -> bool
+    ensures { λ r. ⌜ r ≡ sameBytes (now (a .entry)) (now (b .entry)) ⌝ }
 {
     if a.len() != b.len() {
         return false;
@@ -131,11 +131,48 @@ pub fn same_name(a: &[u8], b: &[u8]) -> bool
     true
 }
 
-// A number that two equal names share, of the first eight bytes and the last; it tells most other names apart.
+// A capital letter as its small one, every other byte as it is.
+fn lower(b: u8) -> u8
+    ensures { λ r. ⌜ r ≡ lower b ⌝ }
+{
+    if b < 65 {
+        return b;
+    }
+    if 90 < b {
+        return b;
+    }
+    b + 32
+}
+
+// Whether two names are the same, capitals or not. Case is looked at only where two bytes differ.
+pub fn same_name(a: &[u8], b: &[u8]) -> bool
+    ensures { λ r. ⌜ r ≡ sameName (now (a .entry)) (now (b .entry)) ⌝ }
+{
+    if a.len() != b.len() {
+        return false;
+    }
+    let mut i: usize = 0;
+    while i < a.len() {
+        let k = i;
+        i += 1;
+        if a[k] != b[k] {
+            if lower(a[k]) != lower(b[k]) {
+                return false;
+            }
+        }
+    }
+    true
+}
+
+// Bit 5 of each of eight bytes, in which alone the two cases of a letter differ.
+const CASE_BITS: u64 = 2314885530818453536;
+
+// A number that all spellings of a name share, and that tells most names apart: the first eight bytes and the last, with no
+// regard to case.
 pub fn key_of(name: &[u8]) -> u64
     ensures { λ r. ⌜ r ≡ keyOf (now (name .entry)) ⌝ }
 {
-    buffers::word_at(name, 0) ^ buffers::word_at(name, 2)
+    (buffers::word_at(name, 0) | CASE_BITS) ^ (buffers::word_at(name, 2) | CASE_BITS)
 }
 
 // Whether a name can be asked for.

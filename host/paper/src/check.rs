@@ -3,7 +3,7 @@
 
 use crate::geometry::{Address, DATA_SECTORS, Image, PAYLOAD_BYTES, SLOTS, sector};
 use crate::map::Map;
-use crate::name::Name;
+use crate::name::{Name, folded};
 use crate::refusal::{Reason, Refused};
 use crate::slot::{HEADER_BYTES, Slot, live_slots, remainder, sectors_for};
 
@@ -23,7 +23,7 @@ pub struct Survey {
     /// Every data sector that a live slot has.
     pub used: Map,
     used_count: usize,
-    /// The names of the live slots, in front.
+    /// The names of the live slots, in front, each with its letters as capitals.
     names: [Name; SLOTS as usize],
 }
 
@@ -43,7 +43,7 @@ impl Survey {
     /// Joins in a slot, or says the first of 2 to 9 that it gives beside the slots before it; before a release 22 stands
     /// directly after 7.
     fn join(&mut self, slot: &Slot, purpose: Purpose) -> Result<(), Reason> {
-        let (name, count) = (slot.name(), slot.count());
+        let count = slot.count();
         own_rules(slot)?;
         let map = slot.map();
         if map.count() != count {
@@ -61,12 +61,13 @@ impl Survey {
         if self.used.meets(&map) {
             return Err(Reason::MapShared);
         }
-        if self.names[..self.files].contains(name) {
+        let name = folded(slot.name());
+        if self.names[..self.files].contains(&name) {
             return Err(Reason::NameTwice);
         }
         self.used.join(&map);
         self.used_count += count;
-        self.names[self.files] = *name;
+        self.names[self.files] = name;
         self.files += 1;
         Ok(())
     }
@@ -206,5 +207,7 @@ mod tests {
         assert_eq!(with(3, MAP_AT + 2, &[24]), Some(Reason::MapShared.at(3)));
         assert_eq!(with(3, NAME_AT, b"SAMDOS2   "), Some(Reason::NameTwice.at(3)));
         assert_eq!(with(1, NAME_AT, b"TUNES     "), Some(Reason::NameTwice.at(3)));
+        assert_eq!(with(1, NAME_AT, b"tunes     "), Some(Reason::NameTwice.at(3)));
+        assert_eq!(with(3, NAME_AT, b"SamDos2   "), Some(Reason::NameTwice.at(3)));
     }
 }

@@ -2,7 +2,7 @@
 
 use crate::geometry::{Address, Image, PAYLOAD_BYTES, SLOT_BYTES, SLOTS, slot_place};
 use crate::map::{MAP_BYTES, Map};
-use crate::name::Name;
+use crate::name::{Name, folded};
 
 pub const HIDDEN: u8 = 0x80;
 pub const PROTECTED: u8 = 0x40;
@@ -55,9 +55,10 @@ pub fn live_slots(image: &Image) -> impl Iterator<Item = Slot<'_>> {
     slots(image).filter(Slot::is_live)
 }
 
-/// The live slot of that name. A checked disk has one at most.
+/// The live slot of that name, capitals or not. A checked disk has one at most.
 pub fn find<'a>(image: &'a Image, name: &Name) -> Option<Slot<'a>> {
-    live_slots(image).find(|slot| slot.name() == name)
+    let name = folded(name);
+    live_slots(image).find(|slot| folded(slot.name()) == name)
 }
 
 impl<'a> Slot<'a> {

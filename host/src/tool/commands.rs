@@ -97,9 +97,9 @@ it is loaded)",
 const INFO: Choice = valued(&["--info"], "HEX", "up to 11 bytes of kind information (all zero)");
 
 /// What is said of names wherever a command takes one.
-const NAMES: &str = r"A name has 1 to 10 bytes. `\xHH` stands for the byte with that hexadecimal
-number and `\\` for a backslash, as `list` prints them. Before a name that
-begins with `-` write `--`.";
+const NAMES: &str = r"A name has 1 to 10 bytes; capitals or not, it is the same name. `\xHH` stands
+for the byte with that hexadecimal number and `\\` for a backslash, as `list`
+prints them. Before a name that begins with `-` write `--`.";
 
 /// What is said of every change.
 const SAFE: &str = "The sectors are written in the order that keeps the disk sound, each flushed
@@ -193,7 +193,7 @@ second. Each file has a sign, and the signs are named below.",
         places: &["IMAGE", "NAME", "NEW"],
         options: &[&DRY_RUN, &NO_WAIT],
         brief: "give a file another name",
-        more: &[SAFE, NAMES],
+        more: &["NEW may be the old name with other capitals.", SAFE, NAMES],
         run: change::rename,
     },
     on_name("hide", "hide a file", change::hide),

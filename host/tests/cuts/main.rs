@@ -27,6 +27,8 @@ use support::shapes::Shape;
 #[derive(Default)]
 struct Counts {
     changes: [usize; 7],
+    /// The renames among them that alter the case of the file's own name alone.
+    turned: usize,
     cuts: usize,
     answers: usize,
 }
@@ -46,11 +48,11 @@ fn every_change_cut_anywhere() {
         }
     }
     println!(
-        "{:?}: {:?} changes, {} cuts, {} answers",
-        CHANGES, counts.changes, counts.cuts, counts.answers
+        "{:?}: {:?} changes, {} renames of case alone, {} cuts, {} answers",
+        CHANGES, counts.changes, counts.turned, counts.cuts, counts.answers
     );
     assert!(
-        !rounds.enough() || counts.changes.iter().all(|&changes| changes >= 20),
+        !rounds.enough() || counts.changes.iter().chain([&counts.turned]).all(|&changes| changes >= 20),
         "too few changes were accepted"
     );
 }
@@ -84,6 +86,7 @@ fn cut(change: &Change, counts: &mut Counts, random: &mut Random) {
     }
     let sort = CHANGES.iter().position(|&call| call == change.asked.call).expect("a change");
     counts.changes[sort] += 1;
+    counts.turned += usize::from(change.turns_letters());
 }
 
 /// None, the first, all but the last, all, and some between.

@@ -49,12 +49,12 @@ impl Facts {
         }
     }
 
-    /// The live slot that a name asked for finds.
+    /// The live slot that a name asked for finds, capitals or not.
     pub fn find(&self, given: &[u8]) -> Option<&Live> {
         let usable = (1..=10).contains(&given.len()) && given[0] != 0;
         usable
             .then(|| names::filled(given))
-            .and_then(|name| self.live.iter().find(|live| live.name == name))
+            .and_then(|name| self.live.iter().find(|live| names::same(&live.name, &name)))
     }
 }
 

@@ -1,4 +1,5 @@
-/// The words of document 01's table, from number 1 on, copied from it; and those of the rows that document 02 adds.
+/// The words of document 01's table, from number 1 on, copied from it; and those of the rows that document 02 moves
+/// or adds.
 pub const TABLE: [&str; 22] = [
     "the image is not 819,200 bytes",
     "the kind is not known",
@@ -8,14 +9,14 @@ pub const TABLE: [&str; 22] = [
     "the first address is not a data sector, or its bit is clear",
     "carried kind, and 510 × count is below 9 + length",
     "the map shares a bit with an earlier live slot",
-    "the ten name bytes equal an earlier live slot's",
+    "the name is an earlier live slot's, capitals or not",
     "the chain is broken",
     "carried kind, and the header's first byte (whole), remainder (mod 16,384) or pages differ from the slot's kind, remainder, pages",
     "the name is not usable",
     "the kind asked for (save) or found (read, start address) is not carried",
     "start page above 31, or offset outside 32,768 to 49,151 (save, start address)",
-    "no live slot has the name",
-    "a live slot has the new name",
+    "no live slot has the name, capitals or not",
+    "a live slot has the new name, capitals or not",
     "protected (erase, rename)",
     "no slot has byte 0 zero (save)",
     "fewer free sectors than the save takes",

@@ -148,7 +148,7 @@ fn read_gives_the_body() {
     assert!(run.out == body(100_000));
     let run = on("read", &image, ["LONG", "-o", "-"]);
     assert!(run.out == body(100_000));
-    on("read", &image, ["NONE"]).fails(1, "disk.mgt: NONE: refusal 15: no live slot has the name\n");
+    on("read", &image, ["NONE"]).fails(1, "disk.mgt: NONE: refusal 15: no live slot has the name, capitals or not\n");
     on("read", &image, [""]).fails(1, "refusal 12: the name is not usable: it has ");
     on("read", &image, ["ELEVEN BYTE"]).fails(1, "refusal 12: the name is not usable: it has ");
 }
@@ -296,8 +296,10 @@ fn save_is_refused_in_the_papers_order() {
         )
         .fails(1, "TAKEN: refusal 14: ");
     }
-    on("save", &image, ["TAKEN".into(), long.clone()])
-        .fails(1, "TAKEN: refusal 16 at slot 1: a live slot has the new name\n");
+    on("save", &image, ["TAKEN".into(), long.clone()]).fails(
+        1,
+        "TAKEN: refusal 16 at slot 1: a live slot has the new name, capitals or not\n",
+    );
     on("save", &image, ["FREE".into(), long]).fails(1, "refusal 19: fewer free sectors than the save takes\n");
     assert!(fs::read(&image).unwrap() == before);
     let full: Vec<(String, usize)> = (1..=80).map(|number| (format!("FILE{number}"), 0)).collect();
@@ -325,7 +327,10 @@ fn the_other_changes() {
     assert_eq!(on("show", &image, ["ONE"]).done(), "showed ONE: 1 sector written\n");
     assert_eq!(on("release", &image, ["ONE"]).done(), "released ONE: 1 sector written\n");
     assert_eq!(marks(), [(false, false), (false, false)]);
-    on("rename", &image, ["ONE", "TWO"]).fails(1, "ONE to TWO: refusal 16 at slot 2: a live slot has the new name\n");
+    on("rename", &image, ["ONE", "TWO"]).fails(
+        1,
+        "ONE to TWO: refusal 16 at slot 2: a live slot has the new name, capitals or not\n",
+    );
     on("rename", &image, ["ONE", "ONE"]).fails(1, "refusal 16 at slot 1: ");
     on("rename", &image, ["ONE", ""]).fails(1, "refusal 12: ");
     assert_eq!(
@@ -334,7 +339,7 @@ fn the_other_changes() {
     );
     assert_eq!(on("erase", &image, ["NEW"]).done(), "erased NEW: 1 sector written\n");
     for command in ["erase", "hide", "show", "protect", "release"] {
-        on(command, &image, ["NEW"]).fails(1, "NEW: refusal 15: no live slot has the name\n");
+        on(command, &image, ["NEW"]).fails(1, "NEW: refusal 15: no live slot has the name, capitals or not\n");
     }
     assert_eq!(held(&image).listing().entries().len(), 1);
     assert_eq!(on("read", &image, ["TWO"]).out, body(600));

@@ -3,26 +3,24 @@ use mathlib.Core.Path.{_≡_, sym, ap, _∙_}
 use mathlib.Core.Option.{some}
 use native.Mathlib.Omega.{arith}
 use denote.Ref.{now}
-use Rattle.directory.specs.Directory.{directory}
-use Rattle.directory.specs.Find.{find, foundAt}
-use Rattle.directory.proofs.Search.{find-some}
+use Rattle.directory.specs.Find.{foundAt}
 use Rattle.changes.proofs.Usable.{usable-padded}
-use Rattle.changes.proofs.Laws.{settled-no, settled-as, plan-taken, plan-new}
+use Rattle.changes.proofs.Laws.{settled-no, settled-as, barring, taken-below, plan-taken, plan-new}
 use borrow.Author.Needs.{needs}
 use Rattle.changes.proofs.rename_at.Statement.{statement}
 use Rattle.changes.proofs.rename_at.Tie as tie
 
-found : (c : tie.After-j) → find (directory (now (c .before .before .before .before .before .before .before .args .image))) (now (c .before .before .before .before .before .before .before .args .new)) ≡ some (c .j .given .0 .0)
-found c = sym (c .before .before .find .ensures) ∙ ap foundAt (c .j .given .1)
+found : (c : tie.After-j) → barring (now (c .before .before .before .before .before .before .before .args .image)) (c .before .before .before .before .before .before .before .args .i) (now (c .before .before .before .before .before .before .before .args .new)) ≡ some (c .j .given .0 .0)
+found c = sym (c .before .before .taken-by .ensures) ∙ ap foundAt (c .j .given .1)
 
-find-requires : tie.Need-find-requires
-find-requires c κs = search needs
+taken-by-requires : tie.Need-taken-by-requires
+taken-by-requires c κs = search needs
 
 enum-known-j : tie.Need-enum-known-j
 enum-known-j c = search needs
 
 add-no : tie.Need-add-no
-add-no c = omega (arith, find-some _ _ _ (found (c .before)) .below)
+add-no c = omega (arith, taken-below _ _ _ _ (found (c .before)))
 
 no-requires : tie.Need-no-requires
 no-requires c κs = search needs
@@ -58,14 +56,14 @@ returns-2 c =
     let e = n .before .before in
     let f = e .before .before in
     settled-as _ _ _ _
-    (plan-new _ _ _ (sym (f .find .ensures) ∙ ap foundAt (e .enum-told .given .1)) _ (usable-padded _ _ (f .before .before .before .before .before .pre .fit) (n .padded-name .ensures)))
+    (plan-new _ _ _ (sym (f .taken-by .ensures) ∙ ap foundAt (e .enum-told .given .1)) _ (usable-padded _ _ (f .before .before .before .before .before .pre .fit) (n .padded-name .ensures)))
     _ (t .touch-unprotected .ensures)
 
 pub rename-at-spec : {M : Type 1} → statement M
 rename-at-spec =
     tie.close
     (tie.spec
-    find-requires
+    taken-by-requires
     enum-known-j
     add-no
     no-requires

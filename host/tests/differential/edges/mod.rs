@@ -4,6 +4,7 @@
 mod arguments;
 mod bodies;
 mod buffers;
+mod letters;
 mod names;
 mod order;
 mod release;

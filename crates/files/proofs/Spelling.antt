@@ -1,0 +1,26 @@
+-- "Users type `tunes` and get 15 for `TUNES`": now each spelling of a name reads and starts what every other does.
+use Prim.Native.Nat.{ℕ}
+use mathlib.Core.Path.{_≡_}
+use mathlib.Core.List.{List}
+use Rattle.slots.specs.Name.{Same, askable}
+use Rattle.slots.proofs.Names.{same-padded, same-askable}
+use Rattle.directory.specs.Find.{find}
+use Rattle.directory.proofs.Search.{find-same}
+use Rattle.disk.specs.Look.{look, slotsOf}
+use Rattle.files.specs.Calls.{fileNamed, readReply, readLook, reading, startReply, startLook, starting}
+
+-- on every disk, accepted or not, for every two spellings, usable or not
+module _ (d m n : List ℕ) (e : Same m n) where
+  pub spelt-found : find (slotsOf (look d)) m ≡ find (slotsOf (look d)) n
+  spelt-found = find-same (slotsOf (look d)) m n (same-padded m n e)
+
+  pub spelt-asked : askable m ≡ askable n
+  spelt-asked = same-askable m n e
+
+  pub spelt-reading : (buf : List ℕ) → reading d m buf ≡ reading d n buf
+  unfolding readLook readReply fileNamed
+  spelt-reading buf = rw (spelt-asked, spelt-found)
+
+  pub spelt-starting : starting d m ≡ starting d n
+  unfolding startLook startReply fileNamed
+  spelt-starting = rw (spelt-asked, spelt-found)
