@@ -26,7 +26,7 @@ module _ (d : List ℕ) where
   unfolding checkDisk checkLook
   length-first h = rw (look-long d, ne-eqb (length d) imageSize h)
 
-  -- of an image of the right length: rows 2 to 9, and then rows 10 and 11
+  -- of an image of the right length: rows 2 to 9, and then rows 10, 11 and 25
   passes : length d ≡ imageSize → checkDisk d ≡ (survey 0 (directory d) else sweep slots (chainAt (look d)))
   unfolding checkDisk checkLook extra
   passes h =

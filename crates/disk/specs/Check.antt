@@ -1,4 +1,4 @@
--- The disk check: the first refusal of the table in its order. The words of document 01 stand above what they define.
+-- The disk check: the first refusal of the table in its order. The words of documents 01 and 02 stand above what they define.
 use Prim.Native.Nat.{ℕ, suc}
 use mathlib.Core.Bool.{not}
 use mathlib.Core.List.{List}
@@ -15,11 +15,12 @@ use Rattle.directory.specs.Survey.{survey, usedOr, filesOr}
 use Rattle.directory.specs.declared.Survey.{Survey}
 use Rattle.disk.specs.Look.{Look, look, slotsOf, extra}
 
--- rows 10 and 11 at slot i
+-- rows 10, 11 and 25 at slot i
 unfoldable pub chainAt : Look → ℕ → Reply
 chainAt l i = held none (laterReply (suc i)) (l .files i)
 
--- "Order: 1; then all slots for 2 to 9, lowest slot first, at a slot the lowest number; then all slots for 10, 11 likewise;"
+-- "Order: 1; then all slots for 2 to 9, lowest slot first, at a slot the lowest number; then all slots for 10, 11 likewise;" and
+-- 25, "in the chain pass after 11"
 unfoldable pub checkLook : Look → Reply
 checkLook l = row 1 0 (not (eqb (l .long) imageSize)) else survey (extra l) (slotsOf l) else sweep slots (chainAt l)
 
