@@ -158,29 +158,29 @@ module _ (d s : List ℕ) (n : ℕ) where
   pub later-broken : broken (facts s) (sectorsOf d s) ≡ true → some (refuse 10 n) ≡ laterReply n (fileOf d s)
   later-broken e = rw (later-is, e)
 
--- the chain is not broken, k is the kind, and h the first sector
-module _
-    (d s : List ℕ) (n k : ℕ) (h : List ℕ) (sound : broken (facts s) (sectorsOf d s) ≡ false) (kind : k ≡ kindOf s)
-    (first : h ≡ firstSector (fileOf d s)) where
-  pub later-differs : carried k ≡ true → headerDiffers (facts s) h ≡ true → some (refuse 11 n) ≡ laterReply n (fileOf d s)
-  later-differs e f = rw (later-is d s n, sound, ← kind, e, ← first, f)
-
-  -- no carried kind has row 25
-  pub later-same : carried k ≡ true → headerDiffers (facts s) h ≡ false → none ≡ laterReply n (fileOf d s)
-  later-same e f = rw (later-is d s n, sound, ← kind, carried-not k e, ← first, f, and-false)
-
-  over : (c l : ℕ) → c ≡ countOf s → l ≡ headerLength h → ltb (510 * c) (9 + l) ≡ overlong d s
-  unfolding overlong
-  over c l e f = ap₂ (λ (x y : ℕ). ltb (510 * x) (9 + y)) e (f ∙ ap headerLength first)
-
-  pub later-long : (c l : ℕ) → carried k ≡ false → spectrum k ≡ true → c ≡ countOf s → l ≡ headerLength h → 510 * c < 9 + l → some (refuse 25 n) ≡ laterReply n (fileOf d s)
-  later-long c l e f g i j = rw (later-is d s n, sound, ← kind, e, f, sym (over c l g i) ∙ lt-ltb (510 * c) (9 + l) j)
-
-  pub later-fits : (c l : ℕ) → carried k ≡ false → c ≡ countOf s → l ≡ headerLength h → 9 + l ≤ 510 * c → none ≡ laterReply n (fileOf d s)
-  later-fits c l e g i j = rw (later-is d s n, sound, ← kind, e, sym (over c l g i) ∙ le-ltb (510 * c) (9 + l) j, and-false)
-
+-- the chain is not broken, and k is the kind
+module _ (d s : List ℕ) (n k : ℕ) (sound : broken (facts s) (sectorsOf d s) ≡ false) (kind : k ≡ kindOf s) where
   pub later-other : carried k ≡ false → spectrum k ≡ false → none ≡ laterReply n (fileOf d s)
   later-other e f = rw (later-is d s n, sound, ← kind, e, f)
+
+  -- h is the first sector
+  module _ (h : List ℕ) (first : h ≡ firstSector (fileOf d s)) where
+    pub later-differs : carried k ≡ true → headerDiffers (facts s) h ≡ true → some (refuse 11 n) ≡ laterReply n (fileOf d s)
+    later-differs e f = rw (later-is d s n, sound, ← kind, e, ← first, f)
+
+    -- no carried kind has row 25
+    pub later-same : carried k ≡ true → headerDiffers (facts s) h ≡ false → none ≡ laterReply n (fileOf d s)
+    later-same e f = rw (later-is d s n, sound, ← kind, carried-not k e, ← first, f, and-false)
+
+    over : (c l : ℕ) → c ≡ countOf s → l ≡ headerLength h → ltb (510 * c) (9 + l) ≡ overlong d s
+    unfolding overlong
+    over c l e f = ap₂ (λ (x y : ℕ). ltb (510 * x) (9 + y)) e (f ∙ ap headerLength first)
+
+    pub later-long : (c l : ℕ) → carried k ≡ false → spectrum k ≡ true → c ≡ countOf s → l ≡ headerLength h → 510 * c < 9 + l → some (refuse 25 n) ≡ laterReply n (fileOf d s)
+    later-long c l e f g i j = rw (later-is d s n, sound, ← kind, e, f, sym (over c l g i) ∙ lt-ltb (510 * c) (9 + l) j)
+
+    pub later-fits : (c l : ℕ) → carried k ≡ false → c ≡ countOf s → l ≡ headerLength h → 9 + l ≤ 510 * c → none ≡ laterReply n (fileOf d s)
+    later-fits c l e g i j = rw (later-is d s n, sound, ← kind, e, sym (over c l g i) ∙ le-ltb (510 * c) (9 + l) j, and-false)
 
 -- "likewise": rows 10, 11 and 25 stand in the order of their numbers
 pub later-rises : (x : Facts) (sec : ℕ → List ℕ) → rises (later x sec) ≡ true

@@ -138,16 +138,15 @@ pub fn later_rows(image: &[u8], s: &[u8], slot: usize) -> Verdict
     if chain_broken(image, s) {
         return refusals::unsound(Reason::ChainBroken, slot);
     }
-    let first = own_first(image, s);
     let kind = slots::kind_of(s);
     if slots::is_carried(kind) {
-        if header_differs(first, s) {
+        if header_differs(own_first(image, s), s) {
             return refusals::unsound(Reason::HeaderDiffers, slot);
         }
         return Verdict::Sound;
     }
     if slots::is_spectrum(kind) {
-        if 510 * slots::count_of(s) < 9 + header_length(first) {
+        if 510 * slots::count_of(s) < 9 + header_length(own_first(image, s)) {
             return refusals::unsound(Reason::BodyTooLong, slot);
         }
     }

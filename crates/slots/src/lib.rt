@@ -62,10 +62,10 @@ pub fn is_carried(kind: usize) -> bool
 pub fn is_spectrum(kind: usize) -> bool
     ensures { λ r. ⌜ r ≡ spectrum kind ⌝ }
 {
-    if kind < 1 {
+    if 4 < kind {
         return false;
     }
-    kind <= 4
+    1 <= kind
 }
 
 // Whether a body of this kind can be read.
