@@ -53,7 +53,7 @@ fn kinds(image: &mut [u8]) {
     kind(b"kind 5", image, 5);
 }
 
-// A carried kind there, which the slot's own length is tested of.
+// A carried kind there: then the length that the slot has is tested.
 fn carried_kind(image: &mut [u8]) {
     disks::set(image, 256, 16);
     points::checked(b"kind 16", image);
