@@ -75,8 +75,8 @@ enum varnucht_size {
 
 /* 3. REFUSALS, in the words of the rules (document 01), in the order in which they are tested: 1 first; then 2 to 9 at every
  * live slot, the lowest slot first and at a slot the lowest number; then 10, 11 and 25 likewise; then the lowest that applies
- * of 12 to 20. So 12 to 20 say that the disk itself is good. varnucht_check_release alone tests 22 too, at a slot directly after
- * 7. varnucht_sector tests 1 and then 21, and looks at no directory. varnucht_next refuses nothing.
+ * of 12 to 20. So 12 to 20 say that the disk itself is good. varnucht_check_release alone tests 22 too, directly after 7 at a
+ * slot. varnucht_sector tests 1 and then 21, and looks at no directory. varnucht_next refuses nothing.
  *
  * The slot comes with 2 to 11, 22 and 25; with 13 and 14 of varnucht_read, varnucht_open and varnucht_start, where it is the
  * file's; with 16, where it is that of the file which has the new name; and with 17. With all others, 13 and 14 of
@@ -163,9 +163,9 @@ static inline const char *varnucht_words(unsigned refusal) {
  * Refusals: 1 to 11, 25. */
 uint64_t varnucht_check(const uint8_t *image, size_t image_len);
 
-/* Whether the disk is good and fit to go out: no file of a carried kind has waste sectors behind it, which is where old texts
- * hide. A file has them where its count is above the least that its length needs. Every other call accepts such a disk.
- * Value: 0. Refusals: 1 to 11, 22, 25. Stack: 1,224 bytes. */
+/* Whether the disk is good and fit to go out: no file of a carried kind has waste sectors behind it, where old texts hide. A
+ * file has them where its count is above the least that its length needs. Every other call accepts such a disk still.
+ * Value: 0. Refusals: 1 to 11, 22, 25. Stack: 1,288 bytes. */
 uint64_t varnucht_check_release(const uint8_t *image, size_t image_len);
 
 /* Every file, hidden ones too, by rising slot, at 258 bytes each from the front of `out`; section 6 says how to read them.
@@ -201,7 +201,8 @@ uint64_t varnucht_read(const uint8_t *image, size_t image_len, const uint8_t *na
  * than that the call answers and touches nothing but `out`. */
 
 /* Finds a file. Value: the length of its body in bytes, 0 to 795,591. Slot: the sector that the body begins in, 0 to 1,599.
- * Free: the place of its first byte there, 9. Refusals: 1 to 11, 25, 12, 13, 15, as varnucht_read has them. Stack: 1,304 bytes. */
+ * Free: the place of its first byte there, 9. Refusals: 1 to 11, 25, 12, 13, 15, as varnucht_read has them.
+ * Stack: 1,368 bytes. */
 uint64_t varnucht_open(const uint8_t *image, size_t image_len, const uint8_t *name, size_t name_len);
 
 /* The next bytes, to the front of `out`: as many as it holds or as are left.

@@ -97,18 +97,23 @@ pub fn less_one(disk: &Disk, title: &'static str) -> Disk {
     }
 }
 
-/// Ten bytes that differ from file to file in the first byte.
+/// Ten bytes that differ from file to file in the first two bytes.
 fn unlike(file: u8) -> [u8; 10] {
-    let mut name = *b"-disk file";
-    name[0] = b'!' + file;
+    let mut name = *b"--disk one";
+    name[..2].copy_from_slice(&sign(file));
     name
 }
 
-/// Ten bytes that differ from file to file in the last byte alone.
+/// Ten bytes that differ from file to file in the last two bytes alone.
 fn alike(file: u8) -> [u8; 10] {
-    let mut name = *b"disk file-";
-    name[9] = b'!' + file;
+    let mut name = *b"disk one--";
+    name[8..].copy_from_slice(&sign(file));
     name
+}
+
+/// Two bytes for each file. The first are not enough alone, because capitals or not a letter is the same.
+fn sign(file: u8) -> [u8; 2] {
+    [b'!' + file / 2, b'0' + file % 2]
 }
 
 /// Bytes without a short period, so that no sector is like the next.

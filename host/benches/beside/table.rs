@@ -15,13 +15,9 @@ pub fn print_head(timer: Duration) {
     );
     println!("region; the changed sectors are put back after each call, untimed.");
     println!("No buffer is cleared between calls, and both sides use the same image and buffer: the caches are warm.");
-    println!(
-        "read, open and erase take the last file. Files have kind 19, but the last of a disk 'kind 4', and names of ten bytes"
-    );
-    println!(
-        "that differ in the first byte; with 'names alike' in the tenth alone. 'less one', 'erased': the last file was erased"
-    );
-    println!("before, so the save takes its slot and sectors.");
+    println!("read, open and erase take the last file. Files have kind 19, but the last of a disk 'kind 4'. Their names have ten");
+    println!("bytes that differ in the first two; with 'names alike' in the last two alone. 'less one', 'erased': the last file");
+    println!("was erased before, so the save takes its slot and sectors.");
     println!();
     println!(
         "{:<13} {:<22} {:<10} {:>10} {:>10} {:>10} {:>10} {:>7} {:>7} {:>6}",

@@ -1,7 +1,7 @@
 //! An accepted change: the old disk, the new one, and the sectors that it names.
 
 use crate::support::asking::Asked;
-use crate::support::calls::{self, BODY, Call, NAME, NEW, OUT};
+use crate::support::calls::{self, BODY, Call, NAME, NEW, OUT, Request};
 use crate::support::compare;
 use crate::support::facts::{Facts, Live};
 use crate::support::fields;
@@ -97,6 +97,15 @@ impl Change<'_> {
             self.named
         );
         assert!(self.asked.call == Call::Save || data.is_empty(), "{:?}", self.named);
+    }
+
+    /// Where no file had waste sectors none has any now: the new disk may go out where the old one might.
+    pub fn leaves_no_waste(&self) {
+        let [old, new] = [self.old, &self.new].map(|disk| {
+            let request = Request::new(Call::CheckRelease, disk);
+            calls::refusal(compare::ask(&request, &mut Margins::default()).answer)
+        });
+        assert!(old != 0 || new == 0, "{:?} leaves waste sectors", self.asked.call);
     }
 
     /// The old disk with the first k named sectors taken from the new one.
