@@ -1,5 +1,5 @@
-//! The disks of the benchmark, made by `paper::save` and `paper::erase`; in one the sectors of the file are then shuffled, and in
-//! one the last file is made one of the Spectrum.
+//! The disks of the benchmark, made by `paper::save` and `paper::erase`; in one the sectors of the file are then shuffled,
+//! and in one the last file is made one of the Spectrum.
 
 use crate::geometry::{address, bit_place};
 use crate::random::Random;
@@ -42,8 +42,8 @@ pub fn one() -> Disk {
     made("1 x 795,591", 1, LONGEST, unlike)
 }
 
-/// The disk of one file of the Spectrum, kind 4, with the longest body that its header can say. Eight files of code stand
-/// before it.
+/// A disk whose last file is one of the Spectrum, kind 4, with the longest body that a header can say. Eight files of code
+/// stand before it.
 pub fn spectrum() -> Disk {
     let mut disk = made("9 x 65,535, kind 4", 9, 65_535, unlike);
     let mut image = disk.image.to_vec();

@@ -15,8 +15,12 @@ pub fn print_head(timer: Duration) {
     );
     println!("region; the changed sectors are put back after each call, untimed.");
     println!("No buffer is cleared between calls, and both sides use the same image and buffer: the caches are warm.");
-    println!("read, open and erase take the last file. Files have kind 19, but the last of a disk 'kind 4'. Their names have ten");
-    println!("bytes that differ in the first two; with 'names alike' in the last two alone. 'less one', 'erased': the last file");
+    println!(
+        "read, open and erase take the last file. Files have kind 19, but the last of a disk 'kind 4'. Their names have ten"
+    );
+    println!(
+        "bytes that differ in the first two; with 'names alike' in the last two alone. 'less one', 'erased': the last file"
+    );
     println!("was erased before, so the save takes its slot and sectors.");
     println!();
     println!(

@@ -1,5 +1,5 @@
-//! The check of a disk: refusals 2 to 11 and 25. Every call but the raw sector begins with it. The check before a release has
-//! one row more, 22.
+//! The check of a disk: refusals 2 to 11 and 25. Every call but the raw sector begins with it. The check before a release
+//! has one row more, 22.
 
 use crate::geometry::{Address, DATA_SECTORS, Image, PAYLOAD_BYTES, SLOTS, sector};
 use crate::map::Map;
