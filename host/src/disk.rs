@@ -1,6 +1,7 @@
 //! Accepted disks.
 use crate::calls;
 use crate::change::{Change, NewFile};
+use crate::entry::Entry;
 use crate::image::Image;
 use crate::listing::Listing;
 use crate::name::{Name, NewName};
@@ -13,7 +14,7 @@ use std::fmt;
 
 /// A disk that the library has accepted, with its listing.
 ///
-/// Every change of an accepted disk leaves an accepted disk, which is proved. So no call here is refused 1 to 11.
+/// Every change of an accepted disk leaves an accepted disk, which is proved. So no call here is refused 1 to 11 or 25.
 ///
 /// Two disks are equal where their images are. A clone copies the image: 819,200 bytes.
 #[derive(Clone, Debug)]
@@ -33,7 +34,7 @@ impl PartialEq for Disk {
 impl Eq for Disk {}
 
 impl Disk {
-    /// Opens a disk: checks the image and lists it. Refused 2 to 11 with the slot; the error hands the image back.
+    /// Opens a disk: checks the image and lists it. Refused 2 to 11 and 25 with the slot; the error hands the image back.
     ///
     /// Every slot is looked at, and every sector of every file. The image is not copied.
     ///
@@ -96,18 +97,18 @@ impl Disk {
     /// assert_eq!((entry.sector_count(), entry.least_sectors()), (2, Some(1)));
     /// # Ok::<(), varnucht::Refused>(())
     /// ```
-    ///
-    /// [`Entry::least_sectors`]: crate::Entry::least_sectors
     pub fn check_release(&self) -> Result<(), Refused> {
         self.image.check_release()
     }
 
-    /// A file's body. Refused 15 where there is no such file, 13 with the slot where its kind is not carried.
+    /// A file's body. Refused 15 where there is no such file, 13 with the slot where its kind cannot be read: it is neither
+    /// carried nor [one of the Spectrum's](crate::Kind::is_spectrum).
     ///
     /// The whole disk is looked at, and the body is copied into a new vector of its length.
     pub fn read(&self, name: &Name) -> Result<Vec<u8>, Refused> {
-        // The listing gives the room that is needed. Where it gives none the library refuses for another reason.
-        let room = self.listing.find(name).and_then(|entry| entry.length()).unwrap_or(0);
+        // The listing gives the room that is needed, but for kinds that have their length elsewhere.
+        let listed = self.listing.find(name).and_then(Entry::length);
+        let room = listed.map_or_else(|| self.length(name), Ok)?;
         let mut body = vec![0; room as usize];
         let done = calls::read(self.image.as_bytes(), name.as_bytes(), &mut body).decode()?;
         body.truncate(done.value as usize);
@@ -121,8 +122,16 @@ impl Disk {
         Reader::open(&self.image, name)
     }
 
-    /// A file's start address. Refused 15 where there is no such file; with the slot 13 where its kind is not carried, and
-    /// 14 where its offset is out of range.
+    /// The length of a file's body, of every kind that can be read. Refused as [`read`](Disk::read) is. [`Entry::length`]
+    /// gives it too, but not for the kinds of the Spectrum, whose length stands in the file itself.
+    pub fn length(&self, name: &Name) -> Result<u32, Refused> {
+        let found = calls::open(self.image.as_bytes(), name.as_bytes()).decode()?;
+        Ok(found.value)
+    }
+
+    /// A file's start address; of a Spectrum kind, 1 to 4, the start in its header as it stands, 0 to 65,535. Refused 15
+    /// where there is no such file; with the slot 13 where its kind cannot be read, and 14 where a carried kind's offset is
+    /// out of range.
     pub fn start(&self, name: &Name) -> Result<u32, Refused> {
         calls::start(self.image.as_bytes(), name.as_bytes())
             .decode()

@@ -5,7 +5,7 @@
 //! | type | what its values have already passed |
 //! |---|---|
 //! | [`Image`] | it is 819,200 bytes: refusal 1 is ruled out |
-//! | [`Disk`] | the library has accepted it: refusals 1 to 11 are ruled out |
+//! | [`Disk`] | the library has accepted it: refusals 1 to 11 and 25 are ruled out |
 //! | [`Name`], [`NewName`] | usable as a name asked for, as a new name: refusal 12 is ruled out |
 //! | [`CarriedKind`], [`Start`] | a save takes them: refusals 13 and 14 of a save are ruled out |
 //! | [`Drive`], [`Track`], [`Sector`] | they are there: refusal 21 is ruled out |
@@ -79,6 +79,12 @@
 //! }
 //! # Ok::<(), Box<dyn std::error::Error>>(())
 //! ```
+//!
+//! # Spectrum files
+//!
+//! The same disks hold files of the Spectrum. Those of kinds 1 to 4 have a header of the Plus D, and can be read whole or
+//! piece by piece; they cannot be saved. Their length and start stand in that header and not in the listing:
+//! [`Disk::length`] and [`Disk::start`] give them.
 //!
 //! # Before a compilation goes out
 //!

@@ -31,8 +31,8 @@ pub enum Refusal {
     Header,
     /// 12: the name is not usable.
     UnusableName,
-    /// 13: the kind asked for or found is not carried.
-    NotCarried,
+    /// 13: the kind asked for or found is not one that this call takes.
+    WrongKind,
     /// 14: start page above 31, or offset outside 32,768 to 49,151.
     StartOutside,
     /// 15: no live slot has the name, capitals or not.
@@ -52,57 +52,69 @@ pub enum Refusal {
     NoSuchSector,
     /// 22: carried kind, and the file has more sectors than its length needs. The check before a release alone gives it.
     WasteSectors,
+    /// 25: a kind of the Spectrum, 1 to 4, and its sectors are too few for the length in its header.
+    BodyTooLong,
     /// A number that this table does not have. No call of today's library gives one.
     Unlisted(u8),
 }
 
-/// The table of document 01 with the rows that document 02 adds, row by row: row 1 is the first.
-const TABLE: [(Refusal, &str); 22] = [
-    (Refusal::ImageLength, "the image is not 819,200 bytes"),
-    (Refusal::UnknownKind, "the kind is not known"),
-    (Refusal::NoFirstNameByte, "the first name byte is 0"),
-    (Refusal::Count, "the count is not 1 to 1,560"),
-    (Refusal::MapCount, "the map's set bits are not as many as the count"),
+/// The table of document 01 with the rows that document 02 adds, by rising number.
+const TABLE: [(u8, Refusal, &str); 23] = [
+    (1, Refusal::ImageLength, "the image is not 819,200 bytes"),
+    (2, Refusal::UnknownKind, "the kind is not known"),
+    (3, Refusal::NoFirstNameByte, "the first name byte is 0"),
+    (4, Refusal::Count, "the count is not 1 to 1,560"),
+    (5, Refusal::MapCount, "the map's set bits are not as many as the count"),
     (
+        6,
         Refusal::FirstAddress,
         "the first address is not a data sector, or its bit is clear",
     ),
-    (Refusal::TooFewSectors, "carried kind, and 510 × count is below 9 + length"),
-    (Refusal::SharedSector, "the map shares a bit with an earlier live slot"),
-    (Refusal::SharedName, "the name is an earlier live slot's, capitals or not"),
-    (Refusal::BrokenChain, "the chain is broken"),
+    (7, Refusal::TooFewSectors, "carried kind, and 510 × count is below 9 + length"),
+    (8, Refusal::SharedSector, "the map shares a bit with an earlier live slot"),
+    (9, Refusal::SharedName, "the name is an earlier live slot's, capitals or not"),
+    (10, Refusal::BrokenChain, "the chain is broken"),
     (
+        11,
         Refusal::Header,
         "carried kind, and the header's first byte (whole), remainder (mod 16,384) or pages differ from the slot's kind, \
          remainder, pages",
     ),
-    (Refusal::UnusableName, "the name is not usable"),
+    (12, Refusal::UnusableName, "the name is not usable"),
     (
-        Refusal::NotCarried,
-        "the kind asked for (save) or found (read, start address) is not carried",
+        13,
+        Refusal::WrongKind,
+        "the kind asked for (save) or found (read, start address) is not one that this call takes",
     ),
     (
+        14,
         Refusal::StartOutside,
         "start page above 31, or offset outside 32,768 to 49,151 (save, start address)",
     ),
-    (Refusal::NotFound, "no live slot has the name, capitals or not"),
-    (Refusal::NameTaken, "a live slot has the new name, capitals or not"),
-    (Refusal::Protected, "protected (erase, rename)"),
-    (Refusal::NoFreeSlot, "no slot has byte 0 zero (save)"),
-    (Refusal::NoRoom, "fewer free sectors than the save takes"),
-    (Refusal::ShortBuffer, "a lent output buffer is too short"),
-    (Refusal::NoSuchSector, "no such drive, track or sector"),
+    (15, Refusal::NotFound, "no live slot has the name, capitals or not"),
+    (16, Refusal::NameTaken, "a live slot has the new name, capitals or not"),
+    (17, Refusal::Protected, "protected (erase, rename)"),
+    (18, Refusal::NoFreeSlot, "no slot has byte 0 zero (save)"),
+    (19, Refusal::NoRoom, "fewer free sectors than the save takes"),
+    (20, Refusal::ShortBuffer, "a lent output buffer is too short"),
+    (21, Refusal::NoSuchSector, "no such drive, track or sector"),
     (
+        22,
         Refusal::WasteSectors,
         "carried kind, and the count is above the least that its length needs (waste sectors behind the file)",
+    ),
+    (
+        25,
+        Refusal::BodyTooLong,
+        "kind 1 to 4, and 510 × count is below 9 + the length in the header",
     ),
 ];
 
 impl Refusal {
     /// The refusal with this number; none for 0, which stands for "accepted".
     pub fn from_number(number: u8) -> Option<Refusal> {
-        let row = usize::from(number).checked_sub(1)?;
-        Some(TABLE.get(row).map_or(Refusal::Unlisted(number), |(refusal, _)| *refusal))
+        let row = TABLE.iter().find(|(listed, _, _)| *listed == number);
+        (number != 0).then(|| row.map_or(Refusal::Unlisted(number), |(_, refusal, _)| *refusal))
     }
 
     /// The number of this refusal.
@@ -113,11 +125,7 @@ impl Refusal {
     pub fn number(self) -> u8 {
         match self {
             Refusal::Unlisted(number) => number,
-            listed => TABLE
-                .iter()
-                .zip(1..)
-                .find(|((refusal, _), _)| *refusal == listed)
-                .map_or(0, |(_, number)| number),
+            listed => listed.row().map_or(0, |(number, _, _)| *number),
         }
     }
 
@@ -127,10 +135,12 @@ impl Refusal {
     /// assert_eq!(varnucht::Refusal::NotFound.words(), "no live slot has the name, capitals or not");
     /// ```
     pub fn words(self) -> &'static str {
-        TABLE
-            .iter()
-            .find(|(refusal, _)| *refusal == self)
-            .map_or("a refusal that is not in the table", |(_, words)| words)
+        self.row().map_or("a refusal that is not in the table", |(_, _, words)| words)
+    }
+
+    /// Its row of the table.
+    fn row(self) -> Option<&'static (u8, Refusal, &'static str)> {
+        TABLE.iter().find(|(_, refusal, _)| *refusal == self)
     }
 }
 

@@ -78,6 +78,14 @@ fn shortened(length: u16) -> Disk {
     Disk::open(image).expect("it is sound")
 }
 
+/// The pair with a file of the Spectrum in slot 2: its header has this length and this start, and it has two sectors.
+fn spectrum(kind: u8, length: u16, start: u16) -> Image {
+    let mut image = damaged(&[(0, kind)]);
+    let ([low, high], [start_low, start_high]) = (length.to_le_bytes(), start.to_le_bytes());
+    image.as_bytes_mut()[82 * 512..][..9].copy_from_slice(&[9, low, high, start_low, start_high, 9, 9, 9, 9]);
+    image
+}
+
 /// The number, the slot and the words of a refusal.
 fn parts(refused: Refused) -> (u8, u16, String) {
     (

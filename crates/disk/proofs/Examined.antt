@@ -35,7 +35,7 @@ module _ (release : Bool) (d : List ℕ) where
   unfolding checkBy
   length-first h = rw (look-long d, ne-eqb (length d) imageSize h)
 
-  -- of an image of the right length: rows 2 to 9, and then rows 10 and 11
+  -- of an image of the right length: rows 2 to 9, and then rows 10, 11 and 25
   passes : length d ≡ imageSize → checkBy release (look d) ≡ (surveyBy release 0 (directory d) else sweep slots (chainAt (look d)))
   unfolding checkBy extra
   passes h =

@@ -41,7 +41,7 @@ pub look-long : (d : List ℕ) → look d .long ≡ length d
 unfolding look
 look-long d = refl
 
--- rows 10 and 11 at a slot of a disk
+-- rows 10, 11 and 25 at a slot of a disk
 pub chain-some : (d : List ℕ) (i : ℕ) (s : List ℕ) → directory d i ≡ some s → chainAt (look d) i ≡ laterReply (suc i) (fileOf d s)
 unfolding chainAt
 chain-some d i s e = ap (held none (laterReply (suc i))) (look-some d i s e)

@@ -10,10 +10,10 @@ use lib.ListN.{getD}
 use Rattle.buffers.proofs.Tests.{and-both, both-and, or-either, either-or}
 use Rattle.maps.specs.Bits.{has, bitsOf}
 use Rattle.refusals.specs.Order.{Row, Clear}
-use Rattle.slots.specs.Slot.{facts, known, carried, kindOf, countOf, mapOf, firstOf, pagesOf, remainderOf, lengthOf}
+use Rattle.slots.specs.Slot.{facts, known, carried, spectrum, kindOf, countOf, mapOf, firstOf, pagesOf, remainderOf, lengthOf}
 use Rattle.slots.specs.Rows.{own, dataCount}
-use Rattle.chains.specs.Chain.{broken, headerDiffers, later}
-use Rattle.disk.specs.Sound.{Known, Carried, Agrees}
+use Rattle.chains.specs.Chain.{broken, headerDiffers, headerLength, later}
+use Rattle.disk.specs.Sound.{Known, Carried, Spectrum, Agrees}
 
 -- ---- Booleans
 
@@ -51,6 +51,14 @@ carried-is k e = range 16 k 20 e
 pub is-carried : (k : ℕ) → Carried k → carried k ≡ true
 unfolding carried
 is-carried k h = in-range 16 k 20 h
+
+pub spectrum-is : (k : ℕ) → spectrum k ≡ true → Spectrum k
+unfolding spectrum
+spectrum-is k e = range 1 k 4 e
+
+pub is-spectrum : (k : ℕ) → Spectrum k → spectrum k ≡ true
+unfolding spectrum
+is-spectrum k h = in-range 1 k 4 h
 
 -- ---- rows 2 to 7
 
@@ -125,25 +133,32 @@ agree-same s h w =
     (both-and (eqb ((getD h 1 0 + 256 * getD h 2 0) % 16384) (remainderOf s)) (eqb (getD h 7 0) (pagesOf s))
     (eq-eqb ((getD h 1 0 + 256 * getD h 2 0) % 16384) (remainderOf s) (w .remainder)) (eq-eqb (getD h 7 0) (pagesOf s) (w .pages))))
 
--- rows 10 and 11 of a file: its chain is not broken, and a carried header agrees
+-- rows 10, 11 and 25 of a file: its chain is not broken, a carried header agrees, and a Spectrum's body has its sectors
 pub later-clear : (s : List ℕ) (sec : ℕ → List ℕ) → Clear (later (facts s) sec)
     → (broken (facts s) sec ≡ false) × (Carried (kindOf s) → Agrees s (sec (facts s .first)))
+    × (Spectrum (kindOf s) → 9 + headerLength (sec (facts s .first)) ≤ 510 * countOf s)
 unfolding facts
 later-clear s sec c = (
   c .0,
   λ h. agrees s (sec (facts s .first))
       (guard (carried (kindOf s)) (headerDiffers (facts s) (sec (facts s .first))) (c .1 .0) (is-carried (kindOf s) h)),
+  λ h. ltb-false (510 * countOf s) (9 + headerLength (sec (facts s .first)))
+      (guard (spectrum (kindOf s)) (ltb (510 * countOf s) (9 + headerLength (sec (facts s .first)))) (c .1 .1 .0) (is-spectrum (kindOf s) h)),
 )
 
 pub clear-later : (s : List ℕ) (sec : ℕ → List ℕ) → broken (facts s) sec ≡ false → (Carried (kindOf s) → Agrees s (sec (facts s .first)))
-    → Clear (later (facts s) sec)
+    → (Spectrum (kindOf s) → 9 + headerLength (sec (facts s .first)) ≤ 510 * countOf s) → Clear (later (facts s) sec)
 unfolding facts
-clear-later s sec b w = (
+clear-later s sec b w v = (
   b,
   (
     guarded (carried (kindOf s)) (headerDiffers (facts s) (sec (facts s .first)))
         (λ e. agree-same s (sec (facts s .first)) (w (carried-is (kindOf s) e))),
-    tt,
+    (
+      guarded (spectrum (kindOf s)) (ltb (510 * countOf s) (9 + headerLength (sec (facts s .first))))
+          (λ e. le-ltb (510 * countOf s) (9 + headerLength (sec (facts s .first))) (v (spectrum-is (kindOf s) e))),
+      tt,
+    ),
   ),
 )
 

@@ -1,8 +1,9 @@
 -- The check accepts exactly the sound disks.
-use Prim.Native.Nat.{ℕ, _-_, _≤_, _<_}
+use Prim.Native.Nat.{ℕ, _+_, _-_, _*_, _≤_, _<_}
 use mathlib.Core.Path.{_≡_, refl, sym, ap, _∙_}
 use mathlib.Core.Bool.{Bool, true, false, false≢true}
 use mathlib.Core.List.{List}
+use mathlib.Core.Logic.{⊎-elim}
 use mathlib.Core.Option.{Option, none, some}
 use native.Mathlib.Omega.{arith}
 use lib.ListN.{getD, length}
@@ -12,13 +13,14 @@ use Rattle.geometry.proofs.Laws.{bit-data}
 use Rattle.maps.specs.Bits.{share}
 use Rattle.maps.proofs.Laws.{share-none, none-share}
 use Rattle.refusals.specs.Order.{Clear}
-use Rattle.slots.specs.Slot.{facts, mapOf, nameOf, firstOf}
+use Rattle.slots.specs.Slot.{kindOf, readable, facts, mapOf, nameOf, countOf, firstOf}
 use Rattle.slots.specs.Name.{sameName, Same}
 use Rattle.slots.specs.Rows.{own}
+use Rattle.slots.proofs.KindLaws.{carried-not, read-either}
 use Rattle.slots.proofs.Names.{not-same}
 use Rattle.chains.specs.File.{File}
-use Rattle.chains.specs.Chain.{later}
-use Rattle.chains.proofs.Laws.{map-small}
+use Rattle.chains.specs.Chain.{later, fileLength}
+use Rattle.chains.proofs.Laws.{map-small, length-header, length-slot}
 use Rattle.chains.proofs.Whole.{whole, of-whole}
 use Rattle.directory.specs.Places.{slots}
 use Rattle.directory.specs.Directory.{held}
@@ -27,7 +29,7 @@ use Rattle.disk.specs.Look.{Look, slotsOf, extra}
 use Rattle.disk.specs.Check.{checkLook}
 use Rattle.disk.specs.Sound.{GoodFile, Sound}
 use Rattle.disk.proofs.Order.{Accepted, accepted, accepted-only}
-use Rattle.disk.proofs.Rows.{Own, own-clear, clear-own, later-clear, clear-later, clear-parts, parts-clear}
+use Rattle.disk.proofs.Rows.{carried-is, spectrum-is, Own, own-clear, clear-own, later-clear, clear-later, clear-parts, parts-clear}
 
 map-few : (s : List ℕ) → length (facts s .map) ≤ 195
 unfolding facts
@@ -50,6 +52,7 @@ good n f o c =
       fits = o .fits;
       chain = whole (facts (f .bytes)) (f .sectors) (map-few (f .bytes)) (o .some-sectors) (h .0);
       header = h .1;
+      spectrum-fits = h .2;
     }
 
 good-own : (n : ℕ) (f : File) → GoodFile n f → Own n (f .bytes)
@@ -66,7 +69,15 @@ good-own n f g = record {
 good-later : (n : ℕ) (f : File) → GoodFile n f → Clear (later (facts (f .bytes)) (f .sectors))
 unfolding facts
 good-later n f g =
-    clear-later (f .bytes) (f .sectors) (of-whole (facts (f .bytes)) (f .sectors) (map-few (f .bytes)) (g .some-sectors) (g .chain)) (g .header)
+    clear-later (f .bytes) (f .sectors) (of-whole (facts (f .bytes)) (f .sectors) (map-few (f .bytes)) (g .some-sectors) (g .chain)) (g .header) (g .spectrum-fits)
+
+-- the sectors of a file that can be read hold its nine bytes and its body
+pub body-fits : (n : ℕ) (f : File) → GoodFile n f → readable (kindOf (f .bytes)) ≡ true → 9 + fileLength f ≤ 510 * countOf (f .bytes)
+body-fits n f g r =
+    ⊎-elim
+    (λ e. rw (length-slot f (carried-not (kindOf (f .bytes)) e)) (g .fits (carried-is (kindOf (f .bytes)) e)))
+    (λ e. rw (length-header f e) (g .spectrum-fits (spectrum-is (kindOf (f .bytes)) e)))
+    (read-either (kindOf (f .bytes)) r)
 
 -- ---- two files
 

@@ -15,12 +15,12 @@ use Rattle.directory.specs.Steps.{Surveyed}
 use Rattle.directory.specs.declared.Survey.{Survey}
 use Rattle.disk.specs.Look.{Look, look, slotsOf, extra}
 
--- rows 10 and 11 at slot i
+-- rows 10, 11 and 25 at slot i
 unfoldable pub chainAt : Look → ℕ → Reply
 chainAt l i = held none (laterReply (suc i)) (l .files i)
 
 -- "Order: 1; then all slots for 2 to 9, lowest slot first, at a slot the lowest number; then all slots for 10, 11 likewise;"
--- with 22 after 7 where it is the release check
+-- with 22 after 7 where it is the release check, and 25 "in the chain pass after 11"
 unfoldable pub checkBy : Bool → Look → Reply
 checkBy release l = row 1 0 (not (eqb (l .long) imageSize)) else surveyBy release (extra l) (slotsOf l) else sweep slots (chainAt l)
 

@@ -12,6 +12,7 @@ use Rattle.slots.specs.Slot.{kindOf, nameOf, countOf, mapOf, pagesOf, remainder
 use Rattle.slots.specs.Name.{Same}
 use Rattle.slots.specs.Rows.{dataCount}
 use Rattle.chains.specs.File.{File}
+use Rattle.chains.specs.Chain.{headerLength, firstSector}
 use Rattle.chains.specs.Whole.{Whole}
 use Rattle.directory.specs.Places.{slots}
 use Rattle.disk.specs.Look.{Look, extra}
@@ -24,13 +25,17 @@ Known k = ((1 ≤ k) × (k ≤ 12)) ⊎ ((16 ≤ k) × (k ≤ 23))
 abbrev pub Carried : ℕ → Type 0
 Carried k = (16 ≤ k) × (k ≤ 20)
 
+-- "Kinds 1 to 4 have the Plus D header"
+abbrev pub Spectrum : ℕ → Type 0
+Spectrum k = (1 ≤ k) × (k ≤ 4)
+
 -- the first sector's header agrees with the slot: kind, remainder (mod 16,384) and pages
 pub record Agrees (s h : List ℕ) : Type 0 where
   pub kind : getD h 0 0 ≡ kindOf s
   pub remainder : (getD h 1 0 + 256 * getD h 2 0) % 16384 ≡ remainderOf s
   pub pages : getD h 7 0 ≡ pagesOf s
 
--- a file whose slot and sectors are as document 01 says, with n directory tracks beyond the four
+-- a file whose slot and sectors are as documents 01 and 02 say, with n directory tracks beyond the four
 pub record GoodFile (n : ℕ) (f : File) : Type 0 where
   pub kind : Known (kindOf (f .bytes))
   pub named : getD (f .bytes) 1 0 ≡ 0 → ⊥
@@ -42,6 +47,7 @@ pub record GoodFile (n : ℕ) (f : File) : Type 0 where
   pub fits : Carried (kindOf (f .bytes)) → 9 + lengthOf (facts (f .bytes)) ≤ 510 * countOf (f .bytes)
   pub chain : Whole (facts (f .bytes)) (f .sectors)
   pub header : Carried (kindOf (f .bytes)) → Agrees (f .bytes) (f .sectors (facts (f .bytes) .first))
+  pub spectrum-fits : Spectrum (kindOf (f .bytes)) → 9 + headerLength (firstSector f) ≤ 510 * countOf (f .bytes)
 
 -- an accepted disk: the size, each live file good, and no two that share a sector or a name; two names that "differ only in a to z
 -- against A to Z are the same name"

@@ -12,7 +12,7 @@ use directory::Survey;
 use refusals::Reason;
 use refusals::Verdict;
 
-// Rows 10 and 11 at all slots, of which `files` are live: past the last of these there is none to look at.
+// Rows 10, 11 and 25 at all slots, of which `files` are live: past the last of these there is none to look at.
 fn all_chains(image: &[u8], files: usize) -> Verdict
     requires { ⌜ files ≡ liveAmong (directory (now image)) slots ⌝ }
     ensures { λ r. ⌜ replyOf r ≡ sweep slots (chainAt (look (now (image .entry)))) ⌝ }

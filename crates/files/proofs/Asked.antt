@@ -15,10 +15,11 @@ use Rattle.refusals.specs.Order.{Refusal, refuse, Reply, _else_, row, SlotRow, 
 use Rattle.refusals.specs.Answers.{Outcome, done, refused, unless, filled}
 use Rattle.refusals.proofs.First.{else-some, firstRow, row-else, row-first, first-row}
 use Rattle.refusals.proofs.Lowest.{slot-lowest, slot-positive}
-use Rattle.slots.specs.Slot.{kindOf, carried, facts, lengthOf, nameOf, pageOf, offsetOf}
+use Rattle.slots.specs.Slot.{kindOf, spectrum, readable, nameOf, pageOf, offsetOf}
 use Rattle.slots.specs.Name.{sameName, askable, padded}
 use Rattle.slots.proofs.Names.{not-same}
 use Rattle.chains.specs.File.{File}
+use Rattle.chains.specs.Chain.{fileLength}
 use Rattle.directory.specs.Places.{slots}
 use Rattle.directory.specs.Directory.{held, Directory, liveAmong}
 use Rattle.directory.specs.Find.{find}
@@ -28,7 +29,7 @@ use Rattle.disk.specs.Check.{checkLook, checkDisk}
 use Rattle.disk.proofs.Look.{look-slots}
 use Rattle.disk.proofs.Examined.{accepted-size}
 use Rattle.disk.proofs.Order.{check-positive}
-use Rattle.files.specs.Calls.{noFile, fileAt, fileNamed, entries, notCarried, outOfRange, listLook, readReply, readLook, startReply, startLook, listing, reading, starting}
+use Rattle.files.specs.Calls.{noFile, fileAt, fileNamed, entries, notReadable, outOfRange, listLook, readReply, readLook, startReply, startLook, listing, reading, starting}
 use Rattle.files.specs.Asked.{someNamed, slotNamed, startOutside, row12, row15, row20, foundRow13, foundRow14, listRows, readRows, startRows, RefusesBy, by-check, by-row}
 use Rattle.files.proofs.Listed.{entries-long}
 
@@ -150,22 +151,22 @@ module _ (l : Look) (n : List ℕ) where
       by (some i) e = one-has i (some-named l n i e) (slot-found i e) (file-found i e)
 
   read-rows : (room : ℕ)
-      → row 12 0 (not (askable n)) else sought (λ slot f. notCarried slot f else row 20 0 (ltb room (lengthOf (facts (f .bytes))))) (find (slotsOf l) n)
+      → row 12 0 (not (askable n)) else sought (λ slot f. notReadable slot f else row 20 0 (ltb room (fileLength f))) (find (slotsOf l) n)
       ≡ firstRow (readRows l n room)
   unfolding readRows
   read-rows room =
-      by-name (λ slot f. notCarried slot f else row 20 0 (ltb room (lengthOf (facts (f .bytes)))))
-      (foundRow13 l n ∷ row15 l n ∷ row20 room (lengthOf (facts (fileNamed l n .bytes))) ∷ []) (λ e. rw e)
-      (λ i e p q. rw (e, p, q) (row-else 13 (suc i) (not (carried (kindOf (fileAt l i .bytes)))) _))
+      by-name (λ slot f. notReadable slot f else row 20 0 (ltb room (fileLength f)))
+      (foundRow13 l n ∷ row15 l n ∷ row20 room (fileLength (fileNamed l n)) ∷ []) (λ e. rw e)
+      (λ i e p q. rw (e, p, q) (row-else 13 (suc i) (not (readable (kindOf (fileAt l i .bytes)))) _))
 
   start-rows :
-      row 12 0 (not (askable n)) else sought (λ slot f. notCarried slot f else outOfRange slot f) (find (slotsOf l) n) ≡ firstRow (startRows l n)
+      row 12 0 (not (askable n)) else sought (λ slot f. notReadable slot f else outOfRange slot f) (find (slotsOf l) n) ≡ firstRow (startRows l n)
   unfolding startRows
   start-rows =
-      by-name (λ slot f. notCarried slot f else outOfRange slot f) (foundRow13 l n ∷ foundRow14 l n ∷ row15 l n ∷ []) (λ e. rw e)
+      by-name (λ slot f. notReadable slot f else outOfRange slot f) (foundRow13 l n ∷ foundRow14 l n ∷ row15 l n ∷ []) (λ e. rw e)
       (λ i e p q. rw (e, p, q)
-      (row-else 13 (suc i) (not (carried (kindOf (fileAt l i .bytes)))) _
-      ∙ ap (λ (t : Bool). cond {A = Reply} (not (carried (kindOf (fileAt l i .bytes)))) (some (refuse 13 (suc i))) (row 14 (suc i) t))
+      (row-else 13 (suc i) (not (readable (kindOf (fileAt l i .bytes)))) _
+      ∙ ap (λ (t : Bool). cond {A = Reply} (not (readable (kindOf (fileAt l i .bytes)))) (some (refuse 13 (suc i))) (row 14 (suc i) (not (spectrum (kindOf (fileAt l i .bytes))) && t)))
       (start-is (fileAt l i .bytes))))
 
 -- demand 1, of a read

@@ -10,9 +10,9 @@ use Rattle.buffers.proofs.Lists.{length-tab, tab-of, part-long, part-at, part-p
 use Rattle.geometry.specs.Disk.{imageSize, bitOf, placeOrEnd}
 use Rattle.geometry.proofs.Laws.{place-inside, place-or-end}
 use Rattle.maps.specs.Bits.{has}
-use Rattle.slots.specs.Slot.{mapOf, firstOf, facts, lengthOf}
+use Rattle.slots.specs.Slot.{mapOf, firstOf, facts}
 use Rattle.chains.specs.File.{sectorsOf, fileOf}
-use Rattle.chains.specs.Chain.{nextOf, linked, bodyByte, body}
+use Rattle.chains.specs.Chain.{fileLength, nextOf, linked, bodyByte, body}
 use Rattle.chains.proofs.Laws.{sectors-own, map-small, link-at, linked-own}
 use Rattle.files.specs.Steps.{Readable}
 
@@ -30,14 +30,14 @@ put-run d a n f e q =
 -- after some sectors: `done` of the body's `len` bytes are put to the front of buf, and the next is byte `from` of the sector at `at`
 pub record Copied (d s buf : List ℕ) (len at from done : ℕ) (e : List ℕ) : Type 0 where
   pub turns : ℕ
-  pub long : len ≡ lengthOf (facts s)
+  pub long : len ≡ fileLength (fileOf d s)
   pub far : done ≤ len
   pub inside : from < 510
   pub next : done < len → 9 + done ≡ 510 * turns + from
   pub place : at ≡ placeOrEnd (linked (sectorsOf d s) (facts s .first) turns)
   pub copied : e ≡ put buf 0 (tab done (bodyByte (fileOf d s)))
 
-pub nothing-yet : (d s buf : List ℕ) (len b at : ℕ) → len ≡ lengthOf (facts s) → b ≡ firstOf s → at ≡ placeOrEnd b → Copied d s buf len at 9 0 buf
+pub nothing-yet : (d s buf : List ℕ) (len b at : ℕ) → len ≡ fileLength (fileOf d s) → b ≡ firstOf s → at ≡ placeOrEnd b → Copied d s buf len at 9 0 buf
 unfolding linked tab facts
 nothing-yet d s buf len b at l f p = record {
   turns = 0;
@@ -55,7 +55,7 @@ same-long {d} {s} {buf} {len} {at} {from} {done} w = ap length (w .copied) ∙ l
 pub all-of-it : (d s buf : List ℕ) (len at from done : ℕ) (e : List ℕ) → Copied d s buf len at from done e → len ≤ done → e ≡ put buf 0 (body (fileOf d s))
 unfolding body fileOf
 all-of-it d s buf len at from done e w h =
-    let q : done ≡ lengthOf (facts s) = omega arith in
+    let q : done ≡ fileLength (fileOf d s) = omega (arith, w .long) in
     w .copied ∙ ap (λ (n : ℕ). put buf 0 (tab n (bodyByte (fileOf d s)))) q
 
 module _ (d s : List ℕ) (r : Readable d s) where

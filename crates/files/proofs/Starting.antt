@@ -6,42 +6,52 @@ use lib.Dec.{leb}
 use mathlib.Core.List.{List}
 use native.Mathlib.Numerals.{add-one}
 use Rattle.refusals.specs.Order.{Refusal, refuse, Reply, _else_}
-use Rattle.refusals.specs.Answers.{done, refused, unless}
-use Rattle.slots.specs.Slot.{kindOf, carried, offsetOf}
+use Rattle.refusals.specs.Answers.{Outcome, done, refused, unless}
+use Rattle.slots.specs.Slot.{kindOf, carried, spectrum, pageOf, offsetOf}
+use Rattle.slots.proofs.KindLaws.{carried-read, spectrum-read, uncarried-read, carried-not}
+use Rattle.chains.specs.Chain.{headerStart, firstSector}
 use Rattle.chains.specs.File.{File, fileOf}
 use Rattle.directory.specs.Directory.{slotOr}
 use Rattle.disk.specs.Look.{look}
-use Rattle.files.specs.Calls.{Sought, at, barred, lookup, fileAt, fileNamed, notCarried, outOfRange, startReply, startOf, startAt, startLook, starting}
+use Rattle.files.specs.Calls.{Sought, at, barred, lookup, fileAt, fileNamed, notReadable, outOfRange, startReply, address, startOf, startAt, startLook, starting}
 use Rattle.files.proofs.Named.{lookup-named, named-by, bySought, named-slot}
 
 module _ (d n : List ℕ) where
   pub start-barred : (r : Refusal) → barred r ≡ lookup (look d) n → refused r ≡ starting d n
   unfolding startLook startReply
   start-barred r e =
-      sym (ap (λ (q : Reply). unless q (done (startOf (fileNamed (look d) n .bytes)) 0))
-      (named-by (look d) n (λ slot f. notCarried slot f else outOfRange slot f)
-      ∙ ap (λ (x : Sought). bySought x (λ i. notCarried (suc i) (fileAt (look d) i) else outOfRange (suc i) (fileAt (look d) i))) (sym e)))
+      sym (ap (λ (q : Reply). unless q (done (startOf (fileNamed (look d) n)) 0))
+      (named-by (look d) n (λ slot f. notReadable slot f else outOfRange slot f)
+      ∙ ap (λ (x : Sought). bySought x (λ i. notReadable (suc i) (fileAt (look d) i) else outOfRange (suc i) (fileAt (look d) i))) (sym e)))
 
-  pub start-found : (i : ℕ) → at i ≡ lookup (look d) n → startAt (i + 1) (slotOr d i) ≡ starting d n
-  unfolding startLook startReply startAt fileOf
+  pub start-found : (i : ℕ) → at i ≡ lookup (look d) n → startAt (i + 1) (fileOf d (slotOr d i)) ≡ starting d n
+  unfolding startLook startReply startAt
   start-found i e =
       let w = named-slot d n i (lookup-named d n i e) in
-      sym (ap₂ (λ (q : Reply) (f : File). unless q (done (startOf (f .bytes)) 0))
-      (named-by (look d) n (λ slot f. notCarried slot f else outOfRange slot f)
-      ∙ ap (λ (x : Sought). bySought x (λ i. notCarried (suc i) (fileAt (look d) i) else outOfRange (suc i) (fileAt (look d) i))) (sym e)
-      ∙ ap₂ (λ (k : ℕ) (f : File). notCarried k f else outOfRange k f) (sym (add-one i)) (w .same))
+      sym (ap₂ (λ (q : Reply) (f : File). unless q (done (startOf f) 0))
+      (named-by (look d) n (λ slot f. notReadable slot f else outOfRange slot f)
+      ∙ ap (λ (x : Sought). bySought x (λ i. notReadable (suc i) (fileAt (look d) i) else outOfRange (suc i) (fileAt (look d) i))) (sym e)
+      ∙ ap₂ (λ (k : ℕ) (f : File). notReadable k f else outOfRange k f) (sym (add-one i)) (w .same))
       (w .file))
 
+-- with the slot's bytes as the code has them
+pub start-met : (d n : List ℕ) (i : ℕ) (s : List ℕ) → s ≡ slotOr d i → at i ≡ lookup (look d) n → (x : Outcome) → x ≡ startAt (i + 1) (fileOf d s) → x ≡ starting d n
+start-met d n i s e w x p = p ∙ ap (λ (s : List ℕ). startAt (i + 1) (fileOf d s)) e ∙ start-found d n i w
+
 -- at a slot, by the tests that lead to it
-module _ (slot : ℕ) (s : List ℕ) where
-  pub at-not-carried : carried (kindOf s) ≡ false → refused (refuse 13 slot) ≡ startAt slot s
-  unfolding startAt
-  at-not-carried a = rw a
+module _ (slot : ℕ) (d s : List ℕ) where
+  pub at-header : spectrum (kindOf s) ≡ true → (h : List ℕ) → h ≡ firstSector (fileOf d s) → (n : ℕ) → n ≡ headerStart h → done n 0 ≡ startAt slot (fileOf d s)
+  unfolding startAt startOf fileOf
+  at-header a h e n p = rw (spectrum-read (kindOf s) a, a) (ap (λ (x : ℕ). done x 0) (p ∙ ap headerStart e))
 
-  pub at-out : carried (kindOf s) ≡ true → (leb 32768 (offsetOf s) && leb (offsetOf s) 49151) ≡ false → refused (refuse 14 slot) ≡ startAt slot s
-  unfolding startAt
-  at-out a b = rw (a, b)
+  pub at-not-carried : spectrum (kindOf s) ≡ false → carried (kindOf s) ≡ false → refused (refuse 13 slot) ≡ startAt slot (fileOf d s)
+  unfolding startAt fileOf
+  at-not-carried z a = rw (uncarried-read (kindOf s) a, z)
 
-  pub at-address : carried (kindOf s) ≡ true → (leb 32768 (offsetOf s) && leb (offsetOf s) 49151) ≡ true → done (startOf s) 0 ≡ startAt slot s
-  unfolding startAt
-  at-address a b = rw (a, b)
+  pub at-out : carried (kindOf s) ≡ true → (leb 32768 (offsetOf s) && leb (offsetOf s) 49151) ≡ false → refused (refuse 14 slot) ≡ startAt slot (fileOf d s)
+  unfolding startAt fileOf
+  at-out a b = rw (carried-read (kindOf s) a, carried-not (kindOf s) a, b)
+
+  pub at-address : carried (kindOf s) ≡ true → (leb 32768 (offsetOf s) && leb (offsetOf s) 49151) ≡ true → done (address (pageOf s) (offsetOf s)) 0 ≡ startAt slot (fileOf d s)
+  unfolding startAt startOf fileOf
+  at-address a b = rw (carried-read (kindOf s) a, carried-not (kindOf s) a, b)

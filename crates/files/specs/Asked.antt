@@ -7,8 +7,9 @@ use mathlib.Core.Path.{_≡_}
 use lib.Dec.{ltb}
 use Rattle.buffers.specs.Bytes.{any}
 use Rattle.refusals.specs.Order.{Refusal, SlotRow, rowAt, FirstOf}
-use Rattle.slots.specs.Slot.{kindOf, carried, facts, lengthOf, nameOf, pageOf, offsetOf}
+use Rattle.slots.specs.Slot.{kindOf, spectrum, readable, nameOf, pageOf, offsetOf}
 use Rattle.slots.specs.Name.{sameName, askable, padded}
+use Rattle.chains.specs.Chain.{fileLength}
 use Rattle.directory.specs.Places.{slots}
 use Rattle.directory.specs.Directory.{held, liveAmong}
 use Rattle.directory.specs.Find.{find}
@@ -50,13 +51,14 @@ row20 room many = rowAt 20 0 (ltb room many)
 abbrev pub rowFound : ℕ → Look → List ℕ → (List ℕ → Bool) → SlotRow
 rowFound number l n test = rowAt number (slotNamed l n) (someNamed l n && test (fileNamed l n .bytes))
 
--- "the kind .. found (read, start address) is not carried"
+-- "the kind .. found (read, start address) is not carried", nor one of kinds 1 to 4
 abbrev pub foundRow13 : Look → List ℕ → SlotRow
-foundRow13 l n = rowFound 13 l n (λ s. not (carried (kindOf s)))
+foundRow13 l n = rowFound 13 l n (λ s. not (readable (kindOf s)))
 
--- "start page above 31, or offset outside 32,768 to 49,151 (save, start address)", "both taken from the slot"
+-- "start page above 31, or offset outside 32,768 to 49,151 (save, start address)", "both taken from the slot", where
+-- "13 and 14 are not given for kinds 1 to 4"
 abbrev pub foundRow14 : Look → List ℕ → SlotRow
-foundRow14 l n = rowFound 14 l n (λ s. startOutside (pageOf s) (offsetOf s))
+foundRow14 l n = rowFound 14 l n (λ s. not (spectrum (kindOf s)) && startOutside (pageOf s) (offsetOf s))
 
 -- ---- "then the lowest that applies of 12 to 20"
 
@@ -66,7 +68,7 @@ listRows l room = row20 room (258 * liveAmong (slotsOf l) slots) ∷ []
 
 -- "the name is not usable", the kind found, "no live slot has the name", and a buffer shorter than the body
 unfoldable pub readRows : Look → List ℕ → ℕ → List SlotRow
-readRows l n room = row12 (askable n) ∷ foundRow13 l n ∷ row15 l n ∷ row20 room (lengthOf (facts (fileNamed l n .bytes))) ∷ []
+readRows l n room = row12 (askable n) ∷ foundRow13 l n ∷ row15 l n ∷ row20 room (fileLength (fileNamed l n)) ∷ []
 
 -- "the name is not usable", the kind and the start found, "no live slot has the name"
 unfoldable pub startRows : Look → List ℕ → List SlotRow

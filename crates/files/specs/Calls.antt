@@ -1,16 +1,16 @@
--- Listing, reading and start addresses, as functions of the look. The words of document 01 stand above what they define.
+-- Listing, reading and start addresses, as functions of the look. The words of documents 01 and 02 stand above what they define.
 use Prim.Native.Nat.{ℕ, zero, suc, _+_, _-_, _*_, _/_, _%_}
-use mathlib.Core.Bool.{not, _&&_}
+use mathlib.Core.Bool.{cond, not, _&&_}
 use mathlib.Core.List.{List, [], _∷_, _++_}
 use mathlib.Core.Option.{Option, none, some}
 use lib.Dec.{leb, ltb}
 use lib.ListN.{length}
 use Rattle.refusals.specs.Order.{Refusal, refuse, Reply, _else_, row}
 use Rattle.refusals.specs.Answers.{Outcome, done, unless, Out, filled, refusalOf}
-use Rattle.slots.specs.Slot.{kindOf, carried, facts, lengthOf, pageOf, offsetOf}
+use Rattle.slots.specs.Slot.{kindOf, spectrum, readable, pageOf, offsetOf}
 use Rattle.slots.specs.Name.{askable}
 use Rattle.chains.specs.File.{File}
-use Rattle.chains.specs.Chain.{body}
+use Rattle.chains.specs.Chain.{headerStart, firstSector, fileLength, body}
 use Rattle.directory.specs.Places.{slots}
 use Rattle.directory.specs.Directory.{held, Directory, liveAmong}
 use Rattle.directory.specs.Survey.{free}
@@ -73,47 +73,48 @@ abbrev pub soughtOf : Lookup → Sought
 soughtOf (At i) = at i
 soughtOf (Barred r) = barred (refusalOf r)
 
--- the kind found is not carried
-abbrev pub notCarried : ℕ → File → Reply
-notCarried slot f = row 13 slot (not (carried (kindOf (f .bytes))))
+-- the kind found cannot be read: it is not carried, nor one of kinds 1 to 4
+abbrev pub notReadable : ℕ → File → Reply
+notReadable slot f = row 13 slot (not (readable (kindOf (f .bytes))))
 
 -- ---- reading
 
 unfoldable pub readReply : Look → List ℕ → ℕ → Reply
-readReply l n room = named l n (λ slot f. notCarried slot f else row 20 0 (ltb room (lengthOf (facts (f .bytes)))))
+readReply l n room = named l n (λ slot f. notReadable slot f else row 20 0 (ltb room (fileLength f)))
 
 -- what a read answers at the slot that holds a file
 unfoldable pub readAt : ℕ → File → List ℕ → Out
 readAt slot f buf =
-    filled (notCarried slot f else row 20 0 (ltb (length buf) (lengthOf (facts (f .bytes))))) (done (lengthOf (facts (f .bytes))) 0) (body f) buf
+    filled (notReadable slot f else row 20 0 (ltb (length buf) (fileLength f))) (done (fileLength f) 0) (body f) buf
 
 -- "Reading copies the body to the front of a lent buffer and answers its length; the rest stays."
 unfoldable pub readLook : Look → List ℕ → List ℕ → Out
 readLook l n buf =
-    filled (readReply l n (length buf)) (done (lengthOf (facts (fileNamed l n .bytes))) 0) (body (fileNamed l n)) buf
+    filled (readReply l n (length buf)) (done (fileLength (fileNamed l n)) 0) (body (fileNamed l n)) buf
 
 -- ---- the start address
 
--- offset outside 32,768 to 49,151 (a start page of five bits is not above 31)
+-- offset outside 32,768 to 49,151 (a start page of five bits is not above 31), but "not given for kinds 1 to 4"
 abbrev pub outOfRange : ℕ → File → Reply
-outOfRange slot f = row 14 slot (not (leb 32768 (offsetOf (f .bytes)) && leb (offsetOf (f .bytes)) 49151))
+outOfRange slot f = row 14 slot (not (spectrum (kindOf (f .bytes))) && not (leb 32768 (offsetOf (f .bytes)) && leb (offsetOf (f .bytes)) 49151))
 
 unfoldable pub startReply : Look → List ℕ → Reply
-startReply l n = named l n (λ slot f. notCarried slot f else outOfRange slot f)
+startReply l n = named l n (λ slot f. notReadable slot f else outOfRange slot f)
 
 -- "The start address is page × 16,384 + offset − 16,384, for offsets 32,768 to 49,151, both taken from the slot;"
 unfoldable pub address : ℕ → ℕ → ℕ
 address page offset = page * 16384 + offset - 16384
 
-abbrev pub startOf : List ℕ → ℕ
-startOf s = address (pageOf s) (offsetOf s)
+-- of kinds 1 to 4 the header's: "give that start as it stands"
+unfoldable pub startOf : File → ℕ
+startOf f = cond (spectrum (kindOf (f .bytes))) (headerStart (firstSector f)) (address (pageOf (f .bytes)) (offsetOf (f .bytes)))
 
--- what a start address answers at the slot with these bytes
-unfoldable pub startAt : ℕ → List ℕ → Outcome
-startAt slot s = unless (notCarried slot (record { bytes = s; sectors = λ b. [] }) else outOfRange slot (record { bytes = s; sectors = λ b. [] })) (done (startOf s) 0)
+-- what a start address answers at the slot that holds a file
+unfoldable pub startAt : ℕ → File → Outcome
+startAt slot f = unless (notReadable slot f else outOfRange slot f) (done (startOf f) 0)
 
 unfoldable pub startLook : Look → List ℕ → Outcome
-startLook l n = unless (startReply l n) (done (startOf (fileNamed l n .bytes)) 0)
+startLook l n = unless (startReply l n) (done (startOf (fileNamed l n)) 0)
 
 -- ---- the calls on a disk
 

@@ -6,7 +6,7 @@ ghost use lib.ListN.{length};
 ghost use Rattle.buffers.specs.Bytes.{put};
 ghost use Rattle.refusals.specs.Order.{refuse};
 ghost use Rattle.refusals.specs.Answers.{numberOf, outcomeOf, out, refused};
-ghost use Rattle.slots.specs.Slot.{kindOf, carried};
+ghost use Rattle.slots.specs.Slot.{kindOf, readable};
 ghost use Rattle.chains.specs.File.{fileOf};
 ghost use Rattle.chains.specs.Chain.{body};
 ghost use Rattle.directory.specs.Places.{slots};
@@ -110,11 +110,15 @@ pub fn look_up(image: &[u8], name: &[u8]) -> Lookup
 }
 
 // The start address of the file in a slot, whose number is `slot`.
-fn start_at(s: &[u8], slot: usize) -> Answer
-    ensures { λ r. ⌜ outcomeOf r ≡ startAt slot (now (s .entry)) ⌝ }
+fn start_at(image: &[u8], s: &[u8], slot: usize) -> Answer
+    ensures { λ r. ⌜ outcomeOf r ≡ startAt slot (fileOf (now (image .entry)) (now (s .entry))) ⌝ }
 {
-    if !slots::is_carried(slots::kind_of(s)) {
-        return refusals::no(Reason::KindNotCarried, slot);
+    let kind = slots::kind_of(s);
+    if slots::is_spectrum(kind) {
+        return Answer::Done(chains::header_start(chains::first_sector(image, s)), 0);
+    }
+    if !slots::is_carried(kind) {
+        return refusals::no(Reason::WrongKind, slot);
     }
     let offset = slots::offset_of(s);
     if offset < 32768 {
@@ -132,7 +136,7 @@ pub fn start(image: &[u8], name: &[u8]) -> Answer
 {
     match look_up(image, name) {
         Lookup::Barred(r) => Answer::No(r),
-        Lookup::At(i) => start_at(directory::slot_at(image, i), i + 1),
+        Lookup::At(i) => start_at(image, directory::slot_at(image, i), i + 1),
     }
 }
 
@@ -142,7 +146,7 @@ fn copy_body(image: &[u8], s: &[u8], buf: &mut [u8])
     requires { ⌜ Readable (now image) (now s) ⌝ }
     ensures { λ _. ⌜ now (buf .exit) ≡ put (now (buf .entry)) 0 (body (fileOf (now (image .entry)) (now (s .entry)))) ⌝ }
 {
-    let len = slots::length_of(s);
+    let len = chains::file_length(image, s);
     let mut at = geometry::bit_place(slots::first_of(s));
     let mut from: usize = 9;
     let mut done: usize = 0;
@@ -159,13 +163,13 @@ fn copy_body(image: &[u8], s: &[u8], buf: &mut [u8])
 
 // Reads the file of an accepted disk in a slot, whose number is `slot`.
 fn read_at(image: &[u8], s: &[u8], slot: usize, buf: &mut [u8]) -> Answer
-    requires { ⌜ (carried (kindOf (now s)) ≡ true → Readable (now image) (now s)) ⌝ }
+    requires { ⌜ (readable (kindOf (now s)) ≡ true → Readable (now image) (now s)) ⌝ }
     ensures { λ r. ⌜ out (outcomeOf r) (now (buf .exit)) ≡ readAt slot (fileOf (now (image .entry)) (now (s .entry))) (now (buf .entry)) ⌝ }
 {
-    if !slots::is_carried(slots::kind_of(s)) {
-        return refusals::no(Reason::KindNotCarried, slot);
+    if !slots::is_readable(slots::kind_of(s)) {
+        return refusals::no(Reason::WrongKind, slot);
     }
-    let len = slots::length_of(s);
+    let len = chains::file_length(image, s);
     if buf.len() < len {
         return refusals::no(Reason::BufferTooShort, 0);
     }

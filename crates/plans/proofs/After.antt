@@ -19,12 +19,12 @@ use Rattle.geometry.specs.Disk.{bitOf}
 use Rattle.refusals.specs.Order.{refuse}
 use Rattle.maps.specs.Bits.{has, bitsOf, join}
 use Rattle.maps.proofs.Laws.{bits-le, bits-join, has-join, none-share}
-use Rattle.slots.specs.Slot.{isLive, hidden, protected, kindOf, nameOf, countOf, mapOf, facts, lengthOf}
+use Rattle.slots.specs.Slot.{isLive, hidden, protected, kindOf, spectrum, nameOf, countOf, firstOf, mapOf, pageOf, offsetOf, facts, lengthOf}
 use Rattle.slots.specs.Name.{sameName, Same, askable, padded}
 use Rattle.slots.proofs.Names.{same-sym, same-eq, same-of}
 use Rattle.slots.specs.Rows.{dataCount}
 use Rattle.chains.specs.File.{File}
-use Rattle.chains.specs.Chain.{linked, bodyByte, body}
+use Rattle.chains.specs.Chain.{headerLength, headerStart, fileLength, linked, bodyByte, body}
 use Rattle.chains.proofs.Laws.{map-small}
 use Rattle.directory.specs.Places.{slots, slotAt}
 use Rattle.directory.specs.Directory.{held, Directory}
@@ -37,7 +37,7 @@ use Rattle.disk.specs.Look.{Look, look, slotsOf, extra}
 use Rattle.disk.specs.Check.{checkDisk}
 use Rattle.disk.specs.Sound.{Known, Sound}
 use Rattle.disk.proofs.Look.{look-slots}
-use Rattle.files.specs.Calls.{noFile, fileAt}
+use Rattle.files.specs.Calls.{noFile, fileAt, address, startOf}
 use Rattle.files.proofs.Named.{lookup-none}
 use Rattle.files.proofs.Reading.{read-barred}
 use Rattle.files.proofs.Starting.{start-barred}
@@ -165,18 +165,25 @@ module _ (l : Look) (w : Sound l) (i : ℕ) (f : File) (h : i < slots) (e : l .f
 
 -- ---- a file whose name or marks are other
 
+picked : (a b : Bool) (x y z w : ℕ) → a ≡ b → x ≡ y → z ≡ w → cond a x z ≡ cond b y w
+picked a b x y z w p q r = rw (p, q, r)
+
 -- with the kind and every byte from 11 on as they were
 alike-by : (f : File) (s : List ℕ) → kindOf s ≡ kindOf (f .bytes) → ((j : ℕ) → 11 ≤ j → getD s j 0 ≡ getD (f .bytes) j 0) → Alike (record { bytes = s; sectors = f .sectors }) f
-unfolding facts lengthOf body bodyByte
+unfolding facts lengthOf fileLength startOf body bodyByte
 alike-by f s p r =
     let n : lengthOf (facts s) ≡ lengthOf (facts (f .bytes)) = rw (r 239 (omega arith), r 240 (omega arith), r 241 (omega arith)) in
+    let b : firstOf s ≡ firstOf (f .bytes) = ap₂ bitOf (r 13 (omega arith)) (r 14 (omega arith)) in
+    let o : offsetOf s ≡ offsetOf (f .bytes) = rw (r 237 (omega arith), r 238 (omega arith)) in
+    let g : pageOf s ≡ pageOf (f .bytes) = rw (r 236 (omega arith)) in
+    let m : fileLength (record { bytes = s; sectors = f .sectors }) ≡ fileLength f =
+    picked (spectrum (kindOf s)) (spectrum (kindOf (f .bytes))) _ _ _ _ (ap spectrum p) (ap (λ (b : ℕ). headerLength (f .sectors b)) b) n in
     record {
       kind = p;
-      long = n;
-      bodies = ap₂ (λ (n b : ℕ). tab n (λ k. getD (f .sectors (linked (f .sectors) b ((9 + k) / 510))) ((9 + k) % 510) 0)) n
-          (ap₂ bitOf (r 13 (omega arith)) (r 14 (omega arith)));
-      page = rw (r 236 (omega arith));
-      offset = rw (r 237 (omega arith), r 238 (omega arith));
+      long = m;
+      bodies = ap₂ (λ (n b : ℕ). tab n (λ k. getD (f .sectors (linked (f .sectors) b ((9 + k) / 510))) ((9 + k) % 510) 0)) m b;
+      offset = o;
+      start = picked (spectrum (kindOf s)) (spectrum (kindOf (f .bytes))) _ _ _ _ (ap spectrum p) (ap (λ (b : ℕ). headerStart (f .sectors b)) b) (ap₂ address g o);
     }
 
 -- slot i holds g in place of f

@@ -181,6 +181,7 @@ module _ (d : List ℕ) (w : Sound (look d)) (i : ℕ) (f : File) (e : look d .f
                   remainder = rw (rest 240 (omega arith), rest 241 (omega arith)) (a .remainder);
                   pages = a .pages ∙ sym (rest 239 (omega arith));
                 });
+            spectrum-fits = rw (p, facts-kept, c) (was .spectrum-fits);
           }
 
       -- and a name that no other file has

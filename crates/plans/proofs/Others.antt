@@ -13,11 +13,11 @@ use Rattle.buffers.proofs.Lists.{part-put, part-put-after}
 use Rattle.refusals.specs.Order.{refuse, _else_, row}
 use Rattle.refusals.specs.Answers.{Outcome, done, refused, unless, Out, out, filled}
 use Rattle.refusals.proofs.First.{sweep-cong}
-use Rattle.slots.specs.Slot.{kindOf, nameOf, facts, lengthOf, pageOf, offsetOf}
+use Rattle.slots.specs.Slot.{kindOf, nameOf, offsetOf}
 use Rattle.slots.specs.Name.{sameName, Same, askable, padded}
 use Rattle.slots.proofs.Names.{same-sym, same-via, same-of}
 use Rattle.chains.specs.File.{File}
-use Rattle.chains.specs.Chain.{body}
+use Rattle.chains.specs.Chain.{fileLength, body}
 use Rattle.directory.specs.Places.{slots}
 use Rattle.directory.specs.Directory.{held, Directory, directory}
 use Rattle.directory.specs.Find.{hit, find}
@@ -25,7 +25,7 @@ use Rattle.directory.proofs.Search.{find-some}
 use Rattle.disk.specs.Look.{Look, look, slotsOf}
 use Rattle.disk.specs.Check.{checkLook, checkDisk}
 use Rattle.disk.proofs.Look.{look-slots}
-use Rattle.files.specs.Calls.{noFile, fileAt, fileNamed, notCarried, outOfRange, readReply, readLook, startReply, startOf, startLook}
+use Rattle.files.specs.Calls.{noFile, fileAt, fileNamed, notReadable, outOfRange, readReply, readLook, startReply, startOf, startLook}
 use Rattle.plans.specs.Change.{Mark, erase, rename, mark, marked}
 use Rattle.plans.specs.Plan.{upd, entryOf, made, run}
 use Rattle.plans.specs.Accepted.{Named, Unprotected, Renames}
@@ -40,31 +40,31 @@ use Rattle.plans.proofs.Effect.{Touched, erasing, erased, marked-so, re
 -- two files of which reading and the start address say the same
 pub record Alike (f g : File) : Type 0 where
   pub kind : kindOf (f .bytes) ≡ kindOf (g .bytes)
-  pub long : lengthOf (facts (f .bytes)) ≡ lengthOf (facts (g .bytes))
+  pub long : fileLength f ≡ fileLength g
   pub bodies : body f ≡ body g
-  pub page : pageOf (f .bytes) ≡ pageOf (g .bytes)
   pub offset : offsetOf (f .bytes) ≡ offsetOf (g .bytes)
+  pub start : startOf f ≡ startOf g
 
 pub alike-same : (f g : File) → f ≡ g → Alike f g
 alike-same f g e = record {
   kind = ap (λ (f : File). kindOf (f .bytes)) e;
-  long = ap (λ (f : File). lengthOf (facts (f .bytes))) e;
+  long = ap fileLength e;
   bodies = ap body e;
-  page = ap (λ (f : File). pageOf (f .bytes)) e;
   offset = ap (λ (f : File). offsetOf (f .bytes)) e;
+  start = ap startOf e;
 }
 
 -- the answers on an accepted disk: whether the name can be asked for, the slot found, and the files in the slots
 abbrev readBy : List ℕ → Bool → Option ℕ → (ℕ → File) → Out
 readBy buf t o at =
     filled
-    (row 12 0 (not t) else held (some (refuse 15 0)) (λ i. notCarried (suc i) (at i) else row 20 0 (ltb (length buf) (lengthOf (facts (at i .bytes))))) o)
-    (done (lengthOf (facts (held noFile at o .bytes))) 0) (body (held noFile at o)) buf
+    (row 12 0 (not t) else held (some (refuse 15 0)) (λ i. notReadable (suc i) (at i) else row 20 0 (ltb (length buf) (fileLength (at i)))) o)
+    (done (fileLength (held noFile at o)) 0) (body (held noFile at o)) buf
 
 abbrev startBy : Bool → Option ℕ → (ℕ → File) → Outcome
 startBy t o at =
-    unless (row 12 0 (not t) else held (some (refuse 15 0)) (λ i. notCarried (suc i) (at i) else outOfRange (suc i) (at i)) o)
-    (done (startOf (held noFile at o .bytes)) 0)
+    unless (row 12 0 (not t) else held (some (refuse 15 0)) (λ i. notReadable (suc i) (at i) else outOfRange (suc i) (at i)) o)
+    (done (startOf (held noFile at o)) 0)
 
 pub read-by : (l : Look) → checkLook l ≡ none → (n buf : List ℕ) → readLook l n buf ≡ readBy buf (askable n) (find (slotsOf l) n) (fileAt l)
 unfolding readLook readReply fileNamed
@@ -81,7 +81,7 @@ module _ (t : Bool) (f g : ℕ → File) where
 
   start-alike : (o : Option ℕ) → ((i : ℕ) → o ≡ some i → Alike (f i) (g i)) → startBy t o f ≡ startBy t o g
   start-alike none a = refl
-  start-alike (some i) a = let w = a i refl in rw (w .kind, w .page, w .offset)
+  start-alike (some i) a = let w = a i refl in rw (w .kind, w .offset, w .start)
 
 -- two accepted looks, and a name of each: where the slot found is one and its files are alike, so are the whole answers
 pub same-answers : (k l : Look) → checkLook k ≡ none → checkLook l ≡ none → (m n : List ℕ) → askable m ≡ askable n → find (slotsOf k) m ≡ find (slotsOf l) n

@@ -13,11 +13,12 @@ use Rattle.buffers.proofs.Tests.{and-both}
 use Rattle.geometry.specs.Disk.{bitNumber}
 use Rattle.refusals.specs.Order.{Reply, _else_, row}
 use Rattle.refusals.specs.Answers.{out, done}
-use Rattle.slots.specs.Slot.{kindOf, nameOf, carried, facts, lengthOf, pageOf, offsetOf}
+use Rattle.slots.specs.Slot.{kindOf, nameOf, carried, readable, pageOf, offsetOf}
+use Rattle.slots.proofs.KindLaws.{carried-not, carried-read}
 use Rattle.slots.specs.Name.{askable, padded}
 use Rattle.slots.proofs.Names.{same-eq}
 use Rattle.chains.specs.File.{File}
-use Rattle.chains.specs.Chain.{body}
+use Rattle.chains.specs.Chain.{fileLength, body}
 use Rattle.directory.specs.Places.{dirSector}
 use Rattle.directory.specs.Directory.{held}
 use Rattle.directory.specs.Find.{find}
@@ -25,7 +26,7 @@ use Rattle.directory.proofs.Search.{some-find, find-none}
 use Rattle.disk.specs.Look.{Look, look, slotsOf, extra}
 use Rattle.disk.specs.Check.{checkLook, checkDisk}
 use Rattle.disk.proofs.Rows.{is-carried}
-use Rattle.files.specs.Calls.{noFile, fileAt, fileNamed, named, notCarried, outOfRange, readReply, readLook, reading, startReply, startLook, starting, startOf, address}
+use Rattle.files.specs.Calls.{noFile, fileAt, fileNamed, named, notReadable, outOfRange, readReply, readLook, reading, startReply, startLook, starting, startOf, address}
 use Rattle.steps.specs.Steps.{enact, numbers}
 use Rattle.plans.specs.Change.{Wish, save, usable, between}
 use Rattle.plans.specs.Saving.{freeBit, taken, slotTaken, newSlot}
@@ -33,7 +34,7 @@ use Rattle.plans.specs.Plan.{upd, saveSteps, made, run}
 use Rattle.plans.proofs.Frame.{disk-sound, upd-same, slots-same, slots-other}
 use Rattle.plans.proofs.Kept.{usable-is}
 use Rattle.plans.proofs.Free.{FreeSlot, free-slot}
-use Rattle.plans.proofs.NewFile.{newFile, Ready, taken-ready, name-is, kind-is, length-is, page-is, offset-is}
+use Rattle.plans.proofs.NewFile.{newFile, Ready, taken-ready, name-is, kind-is, new-length, page-is, offset-is}
 use Rattle.plans.proofs.Saved.{save-numbers, save-look, reads-back}
 use Rattle.plans.proofs.Crash.{run-made}
 use Rattle.plans.proofs.Sure.{saves}
@@ -45,27 +46,27 @@ module _ (l : Look) (ok : checkLook l ≡ none) (n : List ℕ) (u : askable n �
   file-here : fileAt l i ≡ f
   file-here = ap (held noFile (λ f. f)) e
 
-  named-here : (rest : ℕ → File → Reply) → named l n rest ≡ rest (suc i) f
+  pub named-here : (rest : ℕ → File → Reply) → named l n rest ≡ rest (suc i) f
   named-here rest = rw (ok, u, h) (ap (rest (suc i)) file-here)
 
-  file-named : fileNamed l n ≡ f
+  pub file-named : fileNamed l n ≡ f
   unfolding fileNamed
   file-named = rw h file-here
 
-  pub read-here : carried (kindOf (f .bytes)) ≡ true → (buf : List ℕ) → lengthOf (facts (f .bytes)) ≤ length buf
-      → readLook l n buf ≡ out (done (lengthOf (facts (f .bytes))) 0) (put buf 0 (body f))
+  pub read-here : readable (kindOf (f .bytes)) ≡ true → (buf : List ℕ) → fileLength f ≤ length buf
+      → readLook l n buf ≡ out (done (fileLength f) 0) (put buf 0 (body f))
   unfolding readLook readReply
   read-here c buf k =
       let q : readReply l n (length buf) ≡ none =
-      named-here (λ slot f. notCarried slot f else row 20 0 (ltb (length buf) (lengthOf (facts (f .bytes)))))
-      ∙ rw (c, le-ltb (length buf) (lengthOf (facts (f .bytes))) k) in
+      named-here (λ slot f. notReadable slot f else row 20 0 (ltb (length buf) (fileLength f)))
+      ∙ rw (c, le-ltb (length buf) (fileLength f) k) in
       rw (q, file-named)
 
-  pub start-here : carried (kindOf (f .bytes)) ≡ true → (leb 32768 (offsetOf (f .bytes)) && leb (offsetOf (f .bytes)) 49151) ≡ true → startLook l n ≡ done (startOf (f .bytes)) 0
-  unfolding startLook startReply
+  pub start-here : carried (kindOf (f .bytes)) ≡ true → (leb 32768 (offsetOf (f .bytes)) && leb (offsetOf (f .bytes)) 49151) ≡ true → startLook l n ≡ done (address (pageOf (f .bytes)) (offsetOf (f .bytes))) 0
+  unfolding startLook startReply startOf
   start-here c r =
-      let q : startReply l n ≡ none = named-here (λ slot f. notCarried slot f else outOfRange slot f) ∙ rw (c, r) in
-      rw (q, file-named)
+      let q : startReply l n ≡ none = named-here (λ slot f. notReadable slot f else outOfRange slot f) ∙ rw (carried-read (kindOf (f .bytes)) c, carried-not (kindOf (f .bytes)) c, r) in
+      rw (q, file-named, carried-not (kindOf (f .bytes)) c)
 
 -- ---- what an accepted save has done
 
@@ -152,9 +153,9 @@ module _ (d : List ℕ) (ok : checkDisk d ≡ none) (room : ℕ) (w : Wish) (new
   -- a saved file reads back byte for byte: the body and its length, into any buffer long enough
   pub read-back : (buf : List ℕ) → length (w .body) ≤ length buf → reading new (w .name) buf ≡ out (done (length (w .body)) 0) (put buf 0 (w .body))
   read-back buf h =
-      let n : lengthOf (facts (newSlot (slotsOf (look d)) (k .slot) w (k .bits))) ≡ length (w .body) = length-is (slotsOf (look d)) (k .slot) w (k .bits) in
+      let n : fileLength saved ≡ length (w .body) = new-length (slotsOf (look d)) (k .slot) (extra (look d)) (freeBit (extra (look d)) (slotsOf (look d))) w (k .bits) (k .ready) in
       ap (λ (l : Look). readLook l (w .name) buf) (k .seen)
-      ∙ read-here l accepted (w .name) askable-so (k .slot) saved found (upd-same (look d) (k .slot) (some saved)) carried-new buf (subst (λ (m : ℕ). m ≤ length buf) (sym n) h)
+      ∙ read-here l accepted (w .name) askable-so (k .slot) saved found (upd-same (look d) (k .slot) (some saved)) (carried-read _ carried-new) buf (subst (λ (m : ℕ). m ≤ length buf) (sym n) h)
       ∙ ap₂ (λ (m : ℕ) (x : List ℕ). out (done m 0) (put buf 0 x)) n (reads-back (slotsOf (look d)) (k .slot) (extra (look d)) (freeBit (extra (look d)) (slotsOf (look d))) w (k .bits) (k .ready))
 
   -- and the start address is the one of the page and offset given

@@ -64,7 +64,7 @@ pub(crate) fn file_b(image: &mut [u8]) {
     buffers::copy_into(image, 41984, b"LOW!");
 }
 
-// Slot 21, of kind 5, which is not carried: track 128, sector 1, which is map bit 760. Its bytes stand at 5,120.
+// Slot 21, of kind 5, which cannot be read: track 128, sector 1, which is map bit 760. Its bytes stand at 5,120.
 pub(crate) fn file_c(image: &mut [u8]) {
     let rest = [0, 1, 128, 1, 0];
     entry(image, 10240, 5, b"FILE C    ", &rest);

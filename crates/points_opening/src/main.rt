@@ -65,10 +65,10 @@ fn names(image: &[u8]) {
     read_dots(b"a name no slot has", image, b"FILE D");
     read_dots(b"a part of a name", image, b"FILE");
     read_dots(b"a name in small letters", image, b"file a");
-    read_dots(b"a kind not carried", image, b"FILE C");
+    read_dots(b"a kind that cannot be read", image, b"FILE C");
     points::started(b"a name of 11 bytes", image, b"FILE A     ");
     points::started(b"a name no slot has", image, b"FILE D");
-    points::started(b"a kind not carried", image, b"FILE C");
+    points::started(b"a kind that cannot be read", image, b"FILE C");
 }
 
 // Buffers that are one byte short, and those that are just long enough.

@@ -83,7 +83,7 @@ fn rubbish(image: &[u8]) {
 pub(crate) fn played(image: &[u8]) {
     opened(b"one file of 2 sectors", image, b"FILE A");
     opened(b"a name of 0 bytes", image, b"");
-    opened(b"a kind not carried", image, b"FILE C");
+    opened(b"a kind that cannot be read", image, b"FILE C");
     opened(b"a name no slot has", image, b"FILE D");
     opened(
         b"an image one byte short",

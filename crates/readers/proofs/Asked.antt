@@ -11,7 +11,7 @@ use Rattle.buffers.specs.Bytes.{tab}
 use Rattle.buffers.proofs.Lists.{length-tab}
 use Rattle.refusals.specs.Order.{Refusal, SlotRow, FirstOf, bare, rises}
 use Rattle.refusals.specs.Answers.{Out}
-use Rattle.slots.specs.Slot.{facts, lengthOf}
+use Rattle.chains.specs.Chain.{fileLength}
 use Rattle.disk.specs.Look.{Look, look}
 use Rattle.files.specs.Calls.{fileNamed}
 use Rattle.files.specs.Asked.{row20, readRows, RefusesBy, by-check, by-row}
@@ -20,7 +20,7 @@ use Rattle.readers.specs.Opening.{refused, openRows, beginning}
 use Rattle.readers.proofs.OneRead.{open-refused, refused-roomy}
 
 -- "those of reading but 20"
-pub read-rows : (l : Look) (n : List ℕ) (room : ℕ) → readRows l n room ≡ openRows l n ++ (row20 room (lengthOf (facts (fileNamed l n .bytes))) ∷ [])
+pub read-rows : (l : Look) (n : List ℕ) (room : ℕ) → readRows l n room ≡ openRows l n ++ (row20 room (fileLength (fileNamed l n)) ∷ [])
 unfolding readRows openRows
 read-rows l n room = refl
 
@@ -34,7 +34,7 @@ first-but (s ∷ rs) x h r = (
 
 module _ (d n : List ℕ) where
   abbrev len : ℕ
-  len = lengthOf (facts (fileNamed (look d) n .bytes))
+  len = fileLength (fileNamed (look d) n)
 
   -- a buffer that the body just fills
   abbrev buf : List ℕ

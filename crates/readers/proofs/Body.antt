@@ -11,9 +11,9 @@ use Rattle.buffers.specs.Bytes.{tab, part}
 use Rattle.buffers.proofs.Lists.{below-or-not, part-at, tab-cong}
 use Rattle.geometry.proofs.Laws.{number-small}
 use Rattle.maps.specs.Bits.{has}
-use Rattle.slots.specs.Slot.{mapOf, facts, lengthOf}
+use Rattle.slots.specs.Slot.{mapOf, facts}
 use Rattle.chains.specs.File.{File, sectorsOf, fileOf}
-use Rattle.chains.specs.Chain.{nextOf, linked, bodyByte}
+use Rattle.chains.specs.Chain.{nextOf, linked, fileLength, bodyByte}
 use Rattle.chains.proofs.Laws.{sectors-own, map-small, link-at, linked-own}
 use Rattle.files.specs.Steps.{Readable}
 use Rattle.readers.specs.declared.Position.{Position}
@@ -37,7 +37,7 @@ module _ (d s : List ℕ) (r : Readable d s) where
   start = positionOf (numberOrEnd (facts s .first)) 9
 
   abbrev len : ℕ
-  len = lengthOf (facts s)
+  len = fileLength (fileOf d s)
 
   own : (t : ℕ) → t < facts s .count → has (mapOf s) (bit t) ≡ true
   unfolding facts
@@ -99,22 +99,23 @@ module _ (d s : List ℕ) (r : Readable d s) where
   -- ---- a reader of it
 
   module _ (few : len ≤ longest) where
-    pub begins : Placed d (beginOf s)
-    unfolding linked
+    pub begins : Placed d (beginOf (fileOf d s))
+    unfolding linked fileOf
     begins = record { long = r .long; sector-small = on-disk 0 (omega (arith, r .fits)); offset-small = omega arith; left-small = few }
 
     -- from c bytes on
-    stands : (c : ℕ) → standing d (placeAfter d (beginOf s) c) ≡ further d start c
-    stands c = settled d (beginOf s) c ∙ ap (λ (q : Position). further d q c) (standing-at d (beginOf s) begins)
+    stands : (c : ℕ) → standing d (placeAfter d (beginOf (fileOf d s)) c) ≡ further d start c
+    unfolding fileOf
+    stands c = settled d (beginOf (fileOf d s)) c ∙ ap (λ (q : Position). further d q c) (standing-at d (beginOf (fileOf d s)) begins)
 
-    pub piece-came : (c room : ℕ) → c ≤ len → cameOf d (placeAfter d (beginOf s) c) room ≡ min (len - c) room
+    pub piece-came : (c room : ℕ) → c ≤ len → cameOf d (placeAfter d (beginOf (fileOf d s)) c) room ≡ min (len - c) room
     unfolding cameOf placeAfter
     piece-came c room h =
         ap (λ (q : Position). coming d q (min (len - c) room)) (stands c)
         ∙ all-come d (further d start c) (min (len - c) room)
         (λ (j : ℕ) (l : j < min (len - c) room). ap isByte (sym (further-add d start c j)) ∙ body-stands (c + j) (omega arith))
 
-    pub piece-is : (c room : ℕ) → c ≤ len → pieceBytes d (placeAfter d (beginOf s) c) room ≡ tab (min (len - c) room) (λ j. bodyByte (fileOf d s) (c + j))
+    pub piece-is : (c room : ℕ) → c ≤ len → pieceBytes d (placeAfter d (beginOf (fileOf d s)) c) room ≡ tab (min (len - c) room) (λ j. bodyByte (fileOf d s) (c + j))
     unfolding pieceBytes
     piece-is c room h =
         rw (piece-came c room h, stands c)
@@ -122,16 +123,16 @@ module _ (d s : List ℕ) (r : Readable d s) where
         (λ (j : ℕ) (l : j < min (len - c) room). ap (byteAt d) (sym (further-add d start c j)) ∙ body-byte (c + j) (omega arith)))
 
     -- all that came before decides where it is: as many bytes as the buffers held, or all of them
-    pub past-is : (rooms : List ℕ) → placePast d (beginOf s) rooms ≡ placeAfter d (beginOf s) (min len (total rooms))
+    pub past-is : (rooms : List ℕ) → placePast d (beginOf (fileOf d s)) rooms ≡ placeAfter d (beginOf (fileOf d s)) (min len (total rooms))
     past-is rooms =
-        past-all d rooms (beginOf s) begins
-        ∙ ap (placeAfter d (beginOf s)) (ap (λ (p : Place). cameOf d p (total rooms)) (sym (after-none d (beginOf s) begins)) ∙ piece-came 0 (total rooms) (omega arith) ∙ less len)
+        past-all d rooms (beginOf (fileOf d s)) begins
+        ∙ ap (placeAfter d (beginOf (fileOf d s))) (ap (λ (p : Place). cameOf d p (total rooms)) (sym (after-none d (beginOf (fileOf d s)) begins)) ∙ piece-came 0 (total rooms) (omega arith) ∙ less len)
       where
         less : (m : ℕ) → min (m - 0) (total rooms) ≡ min m (total rooms)
         less m = omega arith
 
-    pub place-is : (c : ℕ) → c ≤ len → placeAfter d (beginOf s) c ≡ placeOf (bodyPosition (fileOf d s) c .sector) (bodyPosition (fileOf d s) c .offset) (len - c)
-    unfolding placeAfter
+    pub place-is : (c : ℕ) → c ≤ len → placeAfter d (beginOf (fileOf d s)) c ≡ placeOf (bodyPosition (fileOf d s) c .sector) (bodyPosition (fileOf d s) c .offset) (len - c)
+    unfolding placeAfter fileOf
     place-is c h =
         ap (λ (q : Position). placeOf (q .sector) (q .offset) (len - c))
-        (ap (λ (q : Position). further d q c) (standing-at d (beginOf s) begins) ∙ body-position c h)
+        (ap (λ (q : Position). further d q c) (standing-at d (beginOf (fileOf d s)) begins) ∙ body-position c h)

@@ -10,20 +10,19 @@ use lib.Seq.{take-all}
 use Rattle.buffers.specs.Bytes.{tab, part}
 use Rattle.buffers.proofs.Lists.{length-tab, getD-tab, tab-of, tab-cong, length-part, part-at}
 use Rattle.refusals.specs.Order.{Reply, _else_, row}
-use Rattle.slots.specs.Slot.{kindOf, carried, facts, lengthOf}
+use Rattle.slots.specs.Slot.{kindOf, readable, facts}
 use Rattle.slots.specs.Rows.{dataCount}
 use Rattle.chains.specs.File.{File, fileOf}
-use Rattle.chains.specs.Chain.{bodyByte, body}
+use Rattle.chains.specs.Chain.{fileLength, bodyByte, body}
 use Rattle.directory.specs.Directory.{slotOr}
-use Rattle.disk.specs.Look.{Look, look}
+use Rattle.disk.specs.Look.{Look, look, extra}
 use Rattle.disk.specs.Check.{checkDisk}
 use Rattle.disk.proofs.Look.{look-some}
-use Rattle.disk.proofs.Rows.{carried-is}
-use Rattle.disk.proofs.Sound.{sound}
-use Rattle.files.specs.Calls.{Sought, at as found, barred, lookup, fileNamed, notCarried}
+use Rattle.disk.proofs.Sound.{sound, body-fits}
+use Rattle.files.specs.Calls.{Sought, at as found, barred, lookup, fileNamed, notReadable}
 use Rattle.files.specs.Steps.{Readable}
 use Rattle.files.proofs.Named.{lookup-named, Named, named-slot}
-use Rattle.files.proofs.Reading.{readable}
+use Rattle.files.proofs.Reading.{can-read}
 use Rattle.readers.specs.declared.Place.{Place}
 use Rattle.readers.specs.Pieces.{placeOf, longest, cameOf, pieceBytes, placeAfter, joined, placePast, total}
 use Rattle.readers.specs.Opening.{beginOf, at, beginBy, beginLook, beginning}
@@ -43,46 +42,46 @@ part-tab a n m f =
 pub record FileOpened (d n : List ℕ) (p : Place) : Type 0 where
   pub slot : ℕ
   pub readable : Readable d (slotOr d slot)
-  pub few : lengthOf (facts (slotOr d slot)) ≤ longest
+  pub few : fileLength (fileOf d (slotOr d slot)) ≤ longest
   pub file : fileNamed (look d) n ≡ fileOf d (slotOr d slot)
-  pub place : p ≡ beginOf (slotOr d slot)
+  pub place : p ≡ beginOf (fileOf d (slotOr d slot))
 
 -- 510 × 1,560 less the nine bytes of the header
-pub length-few : (d n : List ℕ) (i : ℕ) → Named d n i → carried (kindOf (slotOr d i)) ≡ true → lengthOf (facts (slotOr d i)) ≤ longest
+pub length-few : (d n : List ℕ) (i : ℕ) → Named d n i → readable (kindOf (slotOr d i)) ≡ true → fileLength (fileOf d (slotOr d i)) ≤ longest
 unfolding checkDisk facts fileOf dataCount
 length-few d n i w c =
     let f = named-slot d n i w in
     let g = sound (look d) (w .accepted) .good i (fileOf d (slotOr d i)) (f .below) (look-some d i (slotOr d i) (f .here)) in
-    omega (arith, g .fits (carried-is (kindOf (slotOr d i)) c), g .few-sectors)
+    omega (arith, body-fits (extra (look d)) (fileOf d (slotOr d i)) g c, g .few-sectors)
 
 -- the place of a file's reader past the first t bytes of the body, or past all of them
 abbrev pastOf : File → ℕ → Place
 pastOf f t =
-    let c = min (lengthOf (facts (f .bytes))) t in
-    placeOf (bodyPosition f c .sector) (bodyPosition f c .offset) (lengthOf (facts (f .bytes)) - c)
+    let c = min (fileLength f) t in
+    placeOf (bodyPosition f c .sector) (bodyPosition f c .offset) (fileLength f - c)
 
 module _ (d n : List ℕ) (p : Place) where
   pub opened : beginning d n ≡ at p → FileOpened d n p
   unfolding beginLook fileOf
   opened e = by (lookup (look d) n) refl
     where
-      opens : (i : ℕ) → found i ≡ lookup (look d) n → (t : Bool) → carried (kindOf (slotOr d i)) ≡ t
-          → beginBy (row 13 (suc i) (not t)) (beginOf (slotOr d i)) ≡ at p → FileOpened d n p
+      opens : (i : ℕ) → found i ≡ lookup (look d) n → (t : Bool) → readable (kindOf (slotOr d i)) ≡ t
+          → beginBy (row 13 (suc i) (not t)) (beginOf (fileOf d (slotOr d i))) ≡ at p → FileOpened d n p
       opens i q false c w = let z : _≡_ {A = ℕ} 0 1 = cc in absurd (omega arith)
       opens i q true c w =
           let m = lookup-named d n i q in
-          let z : beginOf (slotOr d i) ≡ p = cc in
-          record { slot = i; readable = readable d n i m c; few = length-few d n i m c; file = named-slot d n i m .file; place = sym z }
+          let z : beginOf (fileOf d (slotOr d i)) ≡ p = cc in
+          record { slot = i; readable = can-read d n i m c; few = length-few d n i m c; file = named-slot d n i m .file; place = sym z }
 
       by : (x : Sought) → x ≡ lookup (look d) n → FileOpened d n p
       by (barred r) q =
-          let w : beginBy (some r) (beginOf (fileNamed (look d) n .bytes)) ≡ at p
-          = ap (λ (x : Reply). beginBy x (beginOf (fileNamed (look d) n .bytes))) (sym (open-reply d n (barred r) q)) ∙ e in
+          let w : beginBy (some r) (beginOf (fileNamed (look d) n)) ≡ at p
+          = ap (λ (x : Reply). beginBy x (beginOf (fileNamed (look d) n))) (sym (open-reply d n (barred r) q)) ∙ e in
           let z : _≡_ {A = ℕ} 0 1 = cc in absurd (omega arith)
       by (found i) q =
           let m = named-slot d n i (lookup-named d n i q) in
-          opens i q (carried (kindOf (slotOr d i))) refl
-          (sym (ap₂ (λ (x : Reply) (f : File). beginBy x (beginOf (f .bytes))) (open-reply d n (found i) q ∙ ap (notCarried (suc i)) (m .same)) (m .file)) ∙ e)
+          opens i q (readable (kindOf (slotOr d i))) refl
+          (sym (ap₂ (λ (x : Reply) (f : File). beginBy x (beginOf f)) (open-reply d n (found i) q ∙ ap (notReadable (suc i)) (m .same)) (m .file)) ∙ e)
 
   module _ (e : beginning d n ≡ at p) where
     abbrev w : FileOpened d n p
@@ -92,7 +91,7 @@ module _ (d n : List ℕ) (p : Place) where
     s = slotOr d (w .slot)
 
     abbrev len : ℕ
-    len = lengthOf (facts s)
+    len = fileLength (fileOf d s)
 
     body-is : body (fileNamed (look d) n) ≡ tab len (bodyByte (fileOf d s))
     unfolding body fileOf
@@ -102,7 +101,7 @@ module _ (d n : List ℕ) (p : Place) where
     body-long = ap length body-is ∙ length-tab len (bodyByte (fileOf d s))
 
     -- where a reader is: as many bytes further as the buffers held, or at the body's end
-    after : (rooms : List ℕ) → placePast d p rooms ≡ placeAfter d (beginOf s) (min len (total rooms))
+    after : (rooms : List ℕ) → placePast d p rooms ≡ placeAfter d (beginOf (fileOf d s)) (min len (total rooms))
     after rooms = ap (λ (q : Place). placePast d q rooms) (w .place) ∙ past-is d s (w .readable) (w .few) rooms
 
     -- which its file decides, and what else lies on the disk does not

@@ -13,9 +13,8 @@ use Rattle.buffers.specs.Bytes.{part, put}
 use Rattle.buffers.proofs.Lists.{length-tab, part-put}
 use Rattle.refusals.specs.Order.{Refusal, refuse, Reply, _else_, row}
 use Rattle.refusals.specs.Answers.{done, refused, Out, out, filled}
-use Rattle.slots.specs.Slot.{facts, lengthOf}
 use Rattle.chains.specs.File.{File}
-use Rattle.chains.specs.Chain.{bodyByte, body}
+use Rattle.chains.specs.Chain.{fileLength, bodyByte, body}
 use Rattle.disk.specs.Look.{look}
 use Rattle.files.specs.Calls.{fileNamed, readLook, reading}
 use Rattle.readers.specs.declared.Place.{Place}
@@ -27,7 +26,7 @@ module _ (d n buf : List ℕ) where
   file = fileNamed (look d) n
 
   abbrev len : ℕ
-  len = lengthOf (facts (file .bytes))
+  len = fileLength file
 
   -- a read that opening refuses q before it, and then 20 where t holds
   abbrev readBy : Reply → Bool → Out
@@ -37,7 +36,7 @@ module _ (d n buf : List ℕ) where
   unfolding readLook
   read-by = ap (λ (q : Reply). filled q (done len 0) (body file) buf) (read-replies (look d) n (length buf))
 
-  begin-by : beginning d n ≡ beginBy (openReply (look d) n) (beginOf (file .bytes))
+  begin-by : beginning d n ≡ beginBy (openReply (look d) n) (beginOf file)
   unfolding beginLook
   begin-by = refl
 
@@ -47,7 +46,7 @@ module _ (d n buf : List ℕ) where
   pub open-refused : (r : Refusal) → beginning d n ≡ barred r → reading d n buf ≡ out (refused r) buf
   open-refused r e = read-by ∙ by (openReply (look d) n) (sym begin-by ∙ e)
     where
-      by : (q : Reply) → beginBy q (beginOf (file .bytes)) ≡ barred r → readBy q (ltb (length buf) len) ≡ out (refused r) buf
+      by : (q : Reply) → beginBy q (beginOf file) ≡ barred r → readBy q (ltb (length buf) len) ≡ out (refused r) buf
       by none w = let z : _≡_ {A = ℕ} 0 1 = cc in absurd (omega arith)
       by (some x) w = let z : x ≡ r = cc in ap (λ (r : Refusal). out (refused r) buf) z
 
@@ -55,7 +54,7 @@ module _ (d n buf : List ℕ) where
   read-refused : (r : Refusal) → (r .number ≡ 20 → ltb (length buf) len ≡ false) → reading d n buf .outcome ≡ refused r → beginning d n ≡ barred r
   read-refused r h e = begin-by ∙ by (openReply (look d) n) (ltb (length buf) len) refl (sym (ap (λ (o : Out). o .outcome) read-by) ∙ e)
     where
-      by : (q : Reply) (t : Bool) → ltb (length buf) len ≡ t → readBy q t .outcome ≡ refused r → beginBy q (beginOf (file .bytes)) ≡ barred r
+      by : (q : Reply) (t : Bool) → ltb (length buf) len ≡ t → readBy q t .outcome ≡ refused r → beginBy q (beginOf file) ≡ barred r
       by (some x) t f w = let z : x ≡ r = cc in ap barred z
       by none true f w =
           let z : refuse 20 0 ≡ r = cc in
@@ -75,10 +74,10 @@ module _ (d n buf : List ℕ) where
   pub read-whole : (p : Place) → beginning d n ≡ at p → p .left ≤ length buf → reading d n buf ≡ out (done (p .left) 0) (put buf 0 (body file))
   read-whole p e h = read-by ∙ by (openReply (look d) n) (sym begin-by ∙ e)
     where
-      by : (q : Reply) → beginBy q (beginOf (file .bytes)) ≡ at p → readBy q (ltb (length buf) len) ≡ out (done (p .left) 0) (put buf 0 (body file))
+      by : (q : Reply) → beginBy q (beginOf file) ≡ at p → readBy q (ltb (length buf) len) ≡ out (done (p .left) 0) (put buf 0 (body file))
       by (some r) w = let z : _≡_ {A = ℕ} 0 1 = cc w in absurd (omega arith)
       by none w =
-          let z : beginOf (file .bytes) ≡ p = cc w in
+          let z : beginOf file ≡ p = cc w in
           let m : len ≡ p .left = ap (λ (q : Place). q .left) z in
           rw (le-ltb (length buf) len (omega arith)) (ap (λ (k : ℕ). out (done k 0) (put buf 0 (body file))) m)
 
@@ -92,7 +91,7 @@ module _ (d n buf : List ℕ) where
 
   -- and an accepted read is of a file that opens, and has its body in front
   pub record ReadBody (v : ℕ) (x : List ℕ) : Type 0 where
-    pub begins : beginning d n ≡ at (beginOf (file .bytes))
+    pub begins : beginning d n ≡ at (beginOf file)
     pub long : len ≡ v
     pub front : take v x ≡ body file
 
@@ -107,7 +106,7 @@ module _ (d n buf : List ℕ) where
           let m : len ≡ v = cc u in
           let y : put buf 0 (body file) ≡ x = ap (λ (o : Out). o .buffer) w in
           record {
-            begins = begin-by ∙ ap (λ (q : Reply). beginBy q (beginOf (file .bytes))) a;
+            begins = begin-by ∙ ap (λ (q : Reply). beginBy q (beginOf file)) a;
             long = m;
             front = ap₂ take (sym m) (sym y) ∙ in-front (ltb-false (length buf) len b);
           }

@@ -80,7 +80,7 @@ plays n r e =
 pub one-read : (s : RefT (List ℕ)) (n buf : List ℕ) (v f : ℕ) (x : List ℕ) → reading (now s) n buf ≡ out (done v f) x → OneRead s n v x
 one-read s n buf v f x e =
     let w = read-body (now s) n buf v f x e in
-    let p = beginOf (fileNamed (look (now s)) n .bytes) in
+    let p = beginOf (fileNamed (look (now s)) n) in
     record {
       place = p;
       begins = w .begins;

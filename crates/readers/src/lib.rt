@@ -2,6 +2,7 @@
 ghost use mathlib.Core.Path.{_≡_};
 ghost use Prim.Native.Nat.{_<_};
 ghost use lib.ListN.{length};
+ghost use Rattle.chains.specs.File.{fileOf};
 ghost use Rattle.readers.specs.Positions.{ahead};
 ghost use Rattle.readers.specs.Pieces.{placeOf, pieceOf, bufferAfter, noPiece, Placed};
 ghost use Rattle.readers.specs.Opening.{beginAt, beginning, openedOf};
@@ -140,19 +141,19 @@ pub fn piece_at(image: &[u8], sector: usize, offset: usize, left: usize, out: &m
 }
 
 // Where the body of the file in a slot begins, whose number is `slot`: past the nine bytes of its header.
-fn begin_at(s: &[u8], slot: usize) -> Opened
-    ensures { λ r. ⌜ openedOf r ≡ beginAt slot (now (s .entry)) ⌝ }
+fn begin_at(image: &[u8], s: &[u8], slot: usize) -> Opened
+    ensures { λ r. ⌜ openedOf r ≡ beginAt slot (fileOf (now (image .entry)) (now (s .entry))) ⌝ }
 {
-    if !slots::is_carried(slots::kind_of(s)) {
+    if !slots::is_readable(slots::kind_of(s)) {
         return Opened::No(Refused {
-            reason: Reason::KindNotCarried,
+            reason: Reason::WrongKind,
             slot,
         });
     }
     Opened::At(Place {
         sector: geometry::bit_place(slots::first_of(s)) / 512,
         offset: 9,
-        left: slots::length_of(s),
+        left: chains::file_length(image, s),
     })
 }
 
@@ -162,7 +163,7 @@ pub fn begin(image: &[u8], name: &[u8]) -> Opened
 {
     match files::look_up(image, name) {
         Lookup::Barred(r) => Opened::No(r),
-        Lookup::At(i) => begin_at(directory::slot_at(image, i), i + 1),
+        Lookup::At(i) => begin_at(image, directory::slot_at(image, i), i + 1),
     }
 }
 

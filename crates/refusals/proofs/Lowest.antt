@@ -11,7 +11,7 @@ use Rattle.buffers.proofs.Tests.{and-both}
 use Rattle.refusals.specs.Order.{Refusal, Row, FirstRow, SlotRow, FirstOf, bare, risesFrom, rises, Applies, Lowest}
 use Rattle.refusals.specs.Answers.{numberOf}
 use Rattle.refusals.specs.declared.Reason.{Reason}
-use Rattle.refusals.specs.declared.Reason.the-variants.{NotAnImage, KindUnknown, NameMissing, CountOutOfRange, BitsDiffer, FirstNotOwn, LengthTooGreat, SectorShared, NameTwice, ChainBroken, HeaderDiffers, NameNotUsable, KindNotCarried, StartOutOfRange, NameNotFound, NameTaken, FileProtected, NoFreeSlot, TooFewSectors, BufferTooShort, NoSuchSector, WasteSectors}
+use Rattle.refusals.specs.declared.Reason.the-variants.{NotAnImage, KindUnknown, NameMissing, CountOutOfRange, BitsDiffer, FirstNotOwn, LengthTooGreat, SectorShared, NameTwice, ChainBroken, HeaderDiffers, NameNotUsable, WrongKind, StartOutOfRange, NameNotFound, NameTaken, FileProtected, NoFreeSlot, TooFewSectors, BufferTooShort, NoSuchSector, WasteSectors, BodyTooLong}
 
 -- ---- the lowest that applies is the first that holds
 
@@ -77,7 +77,7 @@ positive NameTwice = λ e. omega arith
 positive ChainBroken = λ e. omega arith
 positive HeaderDiffers = λ e. omega arith
 positive NameNotUsable = λ e. omega arith
-positive KindNotCarried = λ e. omega arith
+positive WrongKind = λ e. omega arith
 positive StartOutOfRange = λ e. omega arith
 positive NameNotFound = λ e. omega arith
 positive NameTaken = λ e. omega arith
@@ -87,6 +87,7 @@ positive TooFewSectors = λ e. omega arith
 positive BufferTooShort = λ e. omega arith
 positive NoSuchSector = λ e. omega arith
 positive WasteSectors = λ e. omega arith
+positive BodyTooLong = λ e. omega arith
 
 -- no row has the number m
 abbrev pub lacks : ℕ → List Row → Bool

@@ -5,7 +5,7 @@ use mathlib.Core.Option.{none, some}
 use Rattle.buffers.specs.Bytes.{put}
 use Rattle.refusals.specs.Order.{Refusal, Reply, refuse}
 use Rattle.refusals.specs.declared.Reason.{Reason}
-use Rattle.refusals.specs.declared.Reason.the-variants.{NotAnImage, KindUnknown, NameMissing, CountOutOfRange, BitsDiffer, FirstNotOwn, LengthTooGreat, SectorShared, NameTwice, ChainBroken, HeaderDiffers, NameNotUsable, KindNotCarried, StartOutOfRange, NameNotFound, NameTaken, FileProtected, NoFreeSlot, TooFewSectors, BufferTooShort, NoSuchSector, WasteSectors}
+use Rattle.refusals.specs.declared.Reason.the-variants.{NotAnImage, KindUnknown, NameMissing, CountOutOfRange, BitsDiffer, FirstNotOwn, LengthTooGreat, SectorShared, NameTwice, ChainBroken, HeaderDiffers, NameNotUsable, WrongKind, StartOutOfRange, NameNotFound, NameTaken, FileProtected, NoFreeSlot, TooFewSectors, BufferTooShort, NoSuchSector, WasteSectors, BodyTooLong}
 use Rattle.refusals.specs.declared.Refused.{Refused}
 use Rattle.refusals.specs.declared.Verdict.{Verdict}
 use Rattle.refusals.specs.declared.Verdict.the-variants.{Sound, Unsound}
@@ -38,8 +38,8 @@ numberOf ChainBroken = 10
 numberOf HeaderDiffers = 11
 -- the name is not usable
 numberOf NameNotUsable = 12
--- the kind asked for, or found, is not carried
-numberOf KindNotCarried = 13
+-- the kind asked for, or found, is not one that the call takes
+numberOf WrongKind = 13
 -- start page above 31, or offset outside 32,768 to 49,151
 numberOf StartOutOfRange = 14
 -- no live slot has the name
@@ -58,6 +58,8 @@ numberOf BufferTooShort = 20
 numberOf NoSuchSector = 21
 -- a carried kind whose count is above the least that its length needs (the release check alone)
 numberOf WasteSectors = 22
+-- kind 1 to 4, and 510 × count is below 9 + length
+numberOf BodyTooLong = 25
 
 -- the last number of the table: document 01 ends at 21, document 02 at 32
 abbrev pub lastNumber : ℕ

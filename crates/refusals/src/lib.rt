@@ -5,7 +5,7 @@ ghost use mathlib.Core.Option.{some};
 ghost use Rattle.refusals.specs.Order.{refuse};
 ghost use Rattle.refusals.specs.Answers.{numberOf, lastNumber, replyOf, outcomeOf, refused};
 
-// The rows of the table, in its order: the first is number 1.
+// The rows of the table.
 pub enum Reason {
     NotAnImage,
     KindUnknown,
@@ -19,7 +19,7 @@ pub enum Reason {
     ChainBroken,
     HeaderDiffers,
     NameNotUsable,
-    KindNotCarried,
+    WrongKind,
     StartOutOfRange,
     NameNotFound,
     NameTaken,
@@ -29,6 +29,7 @@ pub enum Reason {
     BufferTooShort,
     NoSuchSector,
     WasteSectors,
+    BodyTooLong,
 }
 
 // A refusal: its reason, and the slot (from 1) it was found at, or 0.
@@ -66,7 +67,7 @@ pub fn number_of(reason: Reason) -> usize
         Reason::ChainBroken => 10,
         Reason::HeaderDiffers => 11,
         Reason::NameNotUsable => 12,
-        Reason::KindNotCarried => 13,
+        Reason::WrongKind => 13,
         Reason::StartOutOfRange => 14,
         Reason::NameNotFound => 15,
         Reason::NameTaken => 16,
@@ -76,6 +77,7 @@ pub fn number_of(reason: Reason) -> usize
         Reason::BufferTooShort => 20,
         Reason::NoSuchSector => 21,
         Reason::WasteSectors => 22,
+        Reason::BodyTooLong => 25,
     }
 }
 

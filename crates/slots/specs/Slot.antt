@@ -30,6 +30,14 @@ known k = leb 1 k && leb k 12 || leb 16 k && leb k 23
 unfoldable pub carried : ℕ → Bool
 carried k = leb 16 k && leb k 20
 
+-- "Spectrum files on the same disks. Kinds 1 to 4 have the Plus D header"
+unfoldable pub spectrum : ℕ → Bool
+spectrum k = leb 1 k && leb k 4
+
+-- the kinds that can be read: the carried ones, and "Read their bodies"
+unfoldable pub readable : ℕ → Bool
+readable k = carried k || spectrum k
+
 -- "Bytes 1 to 10 name;"
 abbrev pub nameOf : List ℕ → List ℕ
 nameOf s = part 1 10 s

@@ -4,7 +4,7 @@ ghost use mathlib.Core.Path.{_≡_};
 ghost use Prim.Native.Nat.{_+_, _*_, _≤_, _<_};
 ghost use Rattle.buffers.specs.Bytes.{part};
 ghost use Rattle.refusals.specs.Answers.{replyOf};
-ghost use Rattle.slots.specs.Slot.{isLive, hidden, protected, kindOf, known, carried, nameOf, countOf, firstOf, mapOf, pageOf, offsetOf, pagesOf, remainderOf, facts, lengthOf};
+ghost use Rattle.slots.specs.Slot.{isLive, hidden, protected, kindOf, known, carried, spectrum, readable, nameOf, countOf, firstOf, mapOf, pageOf, offsetOf, pagesOf, remainderOf, facts, lengthOf};
 ghost use Rattle.slots.specs.Name.{sameName, sameBytes, lower, askable, padded, keyOf};
 ghost use Rattle.slots.specs.Rows.{ownReply, wasteful};
 use refusals::Reason;
@@ -58,6 +58,26 @@ pub fn is_carried(kind: usize) -> bool
     kind <= 20
 }
 
+// Whether a kind is one of the Spectrum's.
+pub fn is_spectrum(kind: usize) -> bool
+    ensures { λ r. ⌜ r ≡ spectrum kind ⌝ }
+{
+    if 4 < kind {
+        return false;
+    }
+    1 <= kind
+}
+
+// Whether a body of this kind can be read.
+pub fn is_readable(kind: usize) -> bool
+    ensures { λ r. ⌜ r ≡ readable kind ⌝ }
+{
+    if is_carried(kind) {
+        return true;
+    }
+    is_spectrum(kind)
+}
+
 pub fn name_of(s: &[u8]) -> &[u8]
     ensures { λ r. ⌜ now r ≡ nameOf (now (s .entry)) ⌝ }
 {
@@ -107,7 +127,7 @@ pub fn remainder_of(s: &[u8]) -> usize
     (buffers::num_at(s, 240) + 256 * buffers::num_at(s, 241)) % 16384
 }
 
-// The length of a body, as the slot has it.
+// The length of a carried kind's body, as the slot has it.
 pub fn length_of(s: &[u8]) -> usize
     ensures { λ r. ⌜ (r ≡ lengthOf (facts (now (s .entry)))) × (r < 4194304) ⌝ }
 {

@@ -27,7 +27,7 @@ fn asked_rows(start: Start, name: &[u8]) -> Verdict
         return refusals::unsound(Reason::NameNotUsable, 0);
     }
     if !slots::is_carried(start.kind) {
-        return refusals::unsound(Reason::KindNotCarried, 0);
+        return refusals::unsound(Reason::WrongKind, 0);
     }
     if 31 < start.page {
         return refusals::unsound(Reason::StartOutOfRange, 0);

@@ -1,24 +1,28 @@
 -- Every outcome of a call keeps to bounds: refusals of the table, slots of the directory, and the greatest value that the call can give.
-use Prim.Native.Nat.{ℕ, _+_, _/_, _≤_}
+use Prim.Native.Nat.{ℕ, _+_, _/_, _≤_, _<_}
 use mathlib.Core.Path.{_≡_, refl, sym, ap, _∙_, subst}
 use mathlib.Core.Bool.{Bool, true, false, cond, not, _&&_}
-use mathlib.Core.List.{List}
+use mathlib.Core.List.{List, []}
+use mathlib.Core.Logic.{⊎-elim}
 use mathlib.Core.Option.{Option, none, some}
 use native.Mathlib.Omega.{arith}
 use borrow.Author.Tests.{leb-true, eqb-true, not-false}
 use lib.Dec.{eqb, leb, ltb}
-use lib.ListN.{length}
+use lib.ListN.{length, getD}
+use Rattle.buffers.proofs.Lists.{part-at}
 use Rattle.buffers.proofs.Tests.{and-both}
-use Rattle.geometry.specs.Disk.{isSector, placeOf}
+use Rattle.geometry.specs.Disk.{isSector, placeOf, bitPlace}
 use Rattle.geometry.proofs.Laws.{sector-inside}
+use Rattle.maps.specs.Bits.{has}
 use Rattle.refusals.specs.Order.{Refusal, refuse, Reply, _else_, row}
 use Rattle.refusals.specs.Answers.{lastNumber, Outcome, done, refused, unless, Out, filled}
 use Rattle.refusals.proofs.First.{else-none}
-use Rattle.slots.specs.Slot.{kindOf, carried, facts, lengthOf, offsetOf}
+use Rattle.slots.specs.Slot.{kindOf, carried, spectrum, readable, mapOf, facts, pageOf, offsetOf}
+use Rattle.slots.proofs.KindLaws.{carried-not, read-either}
 use Rattle.slots.specs.Name.{askable}
 use Rattle.slots.specs.Rows.{dataCount}
-use Rattle.chains.specs.File.{fileOf}
-use Rattle.chains.specs.Chain.{body}
+use Rattle.chains.specs.File.{sectorAt, sectorsOf, fileOf}
+use Rattle.chains.specs.Chain.{fileLength, body}
 use Rattle.drives.specs.Raw.{isImage, isDrive, rawRefusal}
 use Rattle.drives.proofs.Laws.{accepted}
 use Rattle.directory.specs.Places.{slots}
@@ -28,7 +32,6 @@ use Rattle.directory.specs.Find.{find}
 use Rattle.disk.specs.Look.{look, slotsOf, extra}
 use Rattle.disk.specs.Check.{checkLook, checkDisk, checkRelease}
 use Rattle.disk.proofs.Look.{look-some}
-use Rattle.disk.proofs.Rows.{carried-is}
 use Rattle.disk.proofs.Sound.{sound}
 use Rattle.files.specs.Calls.{entries, listing, Sought, at, barred, soughtBy, lookup, address, startOf, startAt, starting, readAt, reading}
 use Rattle.files.proofs.Listed.{listing-is}
@@ -88,9 +91,22 @@ listing-within d buf =
 -- ---- a file by its name
 
 -- page 31, offset 49,151
-address-few : (s : List ℕ) → (leb 32768 (offsetOf s) && leb (offsetOf s) 49151) ≡ true → startOf s ≤ 540671
+address-few : (s : List ℕ) → (leb 32768 (offsetOf s) && leb (offsetOf s) 49151) ≡ true → address (pageOf s) (offsetOf s) ≤ 540671
 unfolding address
 address-few s e = let h : offsetOf s ≤ 49151 = leb-true _ _ (and-both (leb 32768 (offsetOf s)) _ e .1) in omega arith
+
+-- every number in a list of bytes is below 256
+abbrev pub Bytes : List ℕ → Type 0
+Bytes d = (k : ℕ) → getD d k 0 < 256
+
+-- so is every byte of a file's sector: the image has it, or it is 0
+sector-byte : (d s : List ℕ) → Bytes d → (b j : ℕ) → j < 512 → getD (sectorsOf d s b) j 0 < 256
+unfolding sectorsOf
+sector-byte d s h b j l = by (has (mapOf s) b)
+  where
+    by : (t : Bool) → getD (cond t (sectorAt d b) []) j 0 < 256
+    by true = rw (part-at (bitPlace b) 512 d j l) (h (bitPlace b + j))
+    by false = omega arith
 
 module _ (d n : List ℕ) where
   lookup-small : (r : Refusal) → barred r ≡ lookup (look d) n → Small (some r)
@@ -114,8 +130,8 @@ module _ (d n : List ℕ) where
       found : (i : ℕ) → at i ≡ lookup (look d) n → Within (readAt (i + 1) (fileOf d (slotOr d i)) buf .outcome) 795591 0
       found i e =
           let f = fileOf d (slotOr d i) in
-          let len = lengthOf (facts (f .bytes)) in
-          let kind = carried (kindOf (f .bytes)) in
+          let len = fileLength f in
+          let kind = readable (kindOf (f .bytes)) in
           let short = ltb (length buf) len in
           let q = row 13 (i + 1) (not kind) else row 20 0 short in
           subst (λ (o : Outcome). Within o 795591 0) (sym (filled-outcome q (done len 0) (body f) buf))
@@ -128,19 +144,33 @@ module _ (d n : List ℕ) where
       by (barred r) e = subst (λ (o : Out). Within (o .outcome) 795591 0) (read-barred d n buf r e) (within-refused r 795591 0 (lookup-small r e))
       by (at i) e = subst (λ (o : Out). Within (o .outcome) 795591 0) (read-found d n buf i e) (found i e)
 
-  pub starting-within : Within (starting d n) 540671 0
-  unfolding startAt
-  starting-within = by (lookup (look d) n) refl
+  -- a start in a header is at most 65,535, and an address in its range at most that of page 31 and offset 49,151
+  start-few : Bytes d → (s : List ℕ) → readable (kindOf s) ≡ true → (not (spectrum (kindOf s)) && not (leb 32768 (offsetOf s) && leb (offsetOf s) 49151)) ≡ false
+      → startOf (fileOf d s) ≤ 540671
+  unfolding startOf fileOf
+  start-few bytes s r q =
+      ⊎-elim
+      (λ (e : carried (kindOf s) ≡ true).
+      let z = carried-not (kindOf s) e in
+      rw z (address-few s (not-false _ (sym (ap (λ (t : Bool). not t && not (leb 32768 (offsetOf s) && leb (offsetOf s) 49151)) z) ∙ q))))
+      (λ (e : spectrum (kindOf s) ≡ true).
+      rw e (omega (arith, sector-byte d s bytes (facts s .first) 3 (omega arith), sector-byte d s bytes (facts s .first) 4 (omega arith))))
+      (read-either (kindOf s) r)
+
+  pub starting-within : Bytes d → Within (starting d n) 540671 0
+  unfolding startAt fileOf
+  starting-within bytes = by (lookup (look d) n) refl
     where
-      found : (i : ℕ) → at i ≡ lookup (look d) n → Within (startAt (i + 1) (slotOr d i)) 540671 0
+      found : (i : ℕ) → at i ≡ lookup (look d) n → Within (startAt (i + 1) (fileOf d (slotOr d i))) 540671 0
       found i e =
           let s = slotOr d i in
-          let p = row 13 (i + 1) (not (carried (kindOf s))) in
-          let inside = leb 32768 (offsetOf s) && leb (offsetOf s) 49151 in
-          let q = row 14 (i + 1) (not inside) in
-          within-unless (p else q) (startOf s) 0 540671 0
-          (small-else p q (small-row 13 (i + 1) (not (carried (kindOf s))) (omega arith) (slot-few i e)) (small-row 14 (i + 1) (not inside) (omega arith) (slot-few i e)))
-          (λ z. (address-few s (not-false inside (row-none 14 (i + 1) (not inside) (else-none p q z .1))), omega arith))
+          let kind = readable (kindOf s) in
+          let p = row 13 (i + 1) (not kind) in
+          let outside = not (spectrum (kindOf s)) && not (leb 32768 (offsetOf s) && leb (offsetOf s) 49151) in
+          let q = row 14 (i + 1) outside in
+          within-unless (p else q) (startOf (fileOf d s)) 0 540671 0
+          (small-else p q (small-row 13 (i + 1) (not kind) (omega arith) (slot-few i e)) (small-row 14 (i + 1) outside (omega arith) (slot-few i e)))
+          (λ z. let w = else-none p q z in (start-few bytes s (not-false kind (row-none 13 (i + 1) (not kind) (w .0))) (row-none 14 (i + 1) outside (w .1)), omega arith))
 
       by : (x : Sought) → x ≡ lookup (look d) n → Within (starting d n) 540671 0
       by (barred r) e = subst (λ (o : Outcome). Within o 540671 0) (start-barred d n r e) (within-refused r 540671 0 (lookup-small r e))
@@ -193,8 +223,8 @@ listing-told d buf = told _ (within-fits _ _ _ (omega arith) (omega arith) (list
 pub reading-told : (d n buf : List ℕ) → Told (reading d n buf .outcome) (packed (reading d n buf .outcome))
 reading-told d n buf = told _ (within-fits _ _ _ (omega arith) (omega arith) (reading-within d n buf))
 
-pub starting-told : (d n : List ℕ) → Told (starting d n) (packed (starting d n))
-starting-told d n = told _ (within-fits _ _ _ (omega arith) (omega arith) (starting-within d n))
+pub starting-told : (d n : List ℕ) → Bytes d → Told (starting d n) (packed (starting d n))
+starting-told d n bytes = told _ (within-fits _ _ _ (omega arith) (omega arith) (starting-within d n bytes))
 
 pub sector-told : (one two : List ℕ) (d t s : ℕ) → Told (sectorPlace one two d t s) (packed (sectorPlace one two d t s))
 sector-told one two d t s = told _ (within-fits _ _ _ (omega arith) (omega arith) (sector-within one two d t s))

@@ -10,6 +10,7 @@ use Rattle.refusals.specs.declared.Refused.{Refused}
 use Rattle.packing.specs.Packed.{clipped, packedAt, clippedAt, Within, FitsAt}
 use Rattle.packing.proofs.Parts.{told-at, clipped-at-is, within-fits, clipped-is}
 use Rattle.slots.specs.Slot.{facts}
+use Rattle.chains.specs.File.{fileOf}
 use Rattle.chains.specs.Chain.{body}
 use Rattle.directory.specs.Directory.{slotOr}
 use Rattle.disk.specs.Look.{look}
@@ -37,7 +38,7 @@ begin-fits : (d n : List ℕ) (p : Place) → beginning d n ≡ at p → FitsAt 
 begin-fits d n p e =
     let o = file-opened d n p e in
     subst (λ (q : Place). FitsAt (q .sector) (q .left) (q .offset)) (sym (o .place))
-    (record { sector-small = omega (arith, number-le (facts (slotOr d (o .slot)) .first)); value-small = omega (arith, o .few); offset-small = omega arith })
+    (record { sector-small = omega (arith, number-le (facts (fileOf d (slotOr d (o .slot)) .bytes) .first)); value-small = omega (arith, o .few); offset-small = omega arith })
 
 piece-fits : (d : List ℕ) (p : Place) (room : ℕ) → FitsAt (pieceOf d p room .sector) (pieceOf d p room .came) (pieceOf d p room .offset)
 piece-fits d p room =

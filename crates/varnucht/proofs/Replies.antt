@@ -19,7 +19,7 @@ use Rattle.plans.specs.Change.{Change}
 use Rattle.plans.specs.Plan.{Changed, changed}
 use Rattle.bytelists.specs.Lists.{changing}
 use Rattle.varnucht.specs.Calls.{sectorPlace, Returns}
-use Rattle.varnucht.proofs.Bounds.{listing-within, reading-within, starting-within, changing-within}
+use Rattle.varnucht.proofs.Bounds.{Bytes, listing-within, reading-within, starting-within, changing-within}
 
 -- ---- a number that is packed of an outcome within bounds
 
@@ -30,8 +30,8 @@ packed-within o v f h k w p e n q = q ∙ ap clipped e ∙ clipped-is o (within-
 pub packed-check : (p : Reply) → Within (checked p) 0 0 → (q : Reply) → q ≡ p → (n : ℕ) → n ≡ clipped (checked q) → n ≡ packed (checked p)
 packed-check p w q e = packed-within (checked p) 0 0 (omega arith) (omega arith) w (checked q) (ap checked e)
 
-pub packed-start : (d n : List ℕ) (o : Outcome) → o ≡ starting d n → (k : ℕ) → k ≡ clipped o → k ≡ packed (starting d n)
-packed-start d n = packed-within (starting d n) 540671 0 (omega arith) (omega arith) (starting-within d n)
+pub packed-start : (d n : List ℕ) → Bytes d → (o : Outcome) → o ≡ starting d n → (k : ℕ) → k ≡ clipped o → k ≡ packed (starting d n)
+packed-start d n bytes = packed-within (starting d n) 540671 0 (omega arith) (omega arith) (starting-within d n bytes)
 
 -- with the buffer that the call fills
 module _ (o : Outcome) (b : List ℕ) (n : ℕ) (q : n ≡ clipped o) where

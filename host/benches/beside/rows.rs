@@ -43,6 +43,7 @@ pub fn all() -> Vec<Row> {
     rows.extend(disks.map(|disk| row(disk, Work::List, 0)));
     rows.extend(disks.map(|disk| row(disk, Work::Read, if disk.title == blank.title { 15 } else { 0 })));
     rows.push(row(&scattered, Work::Read, 0));
+    rows.push(row(&disks::spectrum(), Work::Read, 0));
     rows.extend(disks.map(|disk| row(disk, Work::Open, if disk.title == blank.title { 15 } else { 0 })));
     for disk in [&one, &scattered] {
         let opened = paper::open(&disk.image, &disk.last).expect("the file is there");

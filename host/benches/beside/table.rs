@@ -16,10 +16,12 @@ pub fn print_head(timer: Duration) {
     println!("region; the changed sectors are put back after each call, untimed.");
     println!("No buffer is cleared between calls, and both sides use the same image and buffer: the caches are warm.");
     println!(
-        "read, open and erase take the last file. Files have kind 19 and names of ten bytes that differ in the first two;"
+        "read, open and erase take the last file. Files have kind 19, but the last of a disk 'kind 4'. Their names have ten"
     );
-    println!("with 'names alike' they differ in the last two alone. 'less one', 'erased': the last file was erased before,");
-    println!("so the save takes its slot and sectors.");
+    println!(
+        "bytes that differ in the first two; with 'names alike' in the last two alone. 'less one', 'erased': the last file"
+    );
+    println!("was erased before, so the save takes its slot and sectors.");
     println!();
     println!(
         "{:<13} {:<22} {:<10} {:>10} {:>10} {:>10} {:>10} {:>7} {:>7} {:>6}",

@@ -1,11 +1,12 @@
-//! The check of a disk: refusals 2 to 11. Every call but the raw sector begins with it. The check before a release has one
-//! row more, 22.
+//! The check of a disk: refusals 2 to 11 and 25. Every call but the raw sector begins with it. The check before a release
+//! has one row more, 22.
 
 use crate::geometry::{Address, DATA_SECTORS, Image, PAYLOAD_BYTES, SLOTS, sector};
 use crate::map::Map;
 use crate::name::{Name, folded};
 use crate::refusal::{Reason, Refused};
 use crate::slot::{HEADER_BYTES, Slot, live_slots, remainder, sectors_for};
+use crate::spectrum::PlusD;
 
 /// Which check is made.
 #[derive(Clone, Copy, PartialEq, Eq)]
@@ -110,13 +111,16 @@ fn directory(image: &Image, purpose: Purpose) -> Result<Survey, Refused> {
     Ok(survey)
 }
 
-/// Refusals 10 and 11.
+/// Refusals 10, 11 and 25.
 fn file(image: &Image, slot: &Slot) -> Result<(), Reason> {
     if !chain_holds(image, slot) {
         return Err(Reason::ChainBroken);
     }
     if slot.is_carried() && !header_agrees(image, slot) {
         return Err(Reason::HeaderDiffers);
+    }
+    if PlusD::of(image, slot).is_some_and(|header| PAYLOAD_BYTES * slot.count() < HEADER_BYTES + header.length()) {
+        return Err(Reason::BodyTooLong);
     }
     Ok(())
 }

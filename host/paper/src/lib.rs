@@ -7,7 +7,8 @@
 //! - `map`: the 1,560 bits of a slot's map or of the used map
 //! - `name`: names asked for and new names, and when two are the same
 //! - `slot`: what the 256 bytes of a directory slot say
-//! - `check`: refusals 1 to 11, and 22 before a release
+//! - `spectrum`: the header of kinds 1 to 4
+//! - `check`: refusals 1 to 11 and 25, and 22 before a release
 //! - `calls`: the two checks, list, read, start address, raw sector
 //! - `pieces`: a file's body a piece at a time
 //! - `save`: the change that takes slots and sectors
@@ -24,6 +25,7 @@ mod pieces;
 mod refusal;
 mod save;
 mod slot;
+mod spectrum;
 
 pub use calls::{Listed, check, check_release, list, read, sector, start};
 pub use changes::{erase, hide, protect, release, rename, show};

@@ -27,7 +27,7 @@ pub fn save(image: &mut [u8], wish: &Wish, list: &mut [u8]) -> Result<usize, Ref
     let survey = survey(image)?;
     let name = fresh(wish.name).ok_or(Reason::NameNotUsable.alone())?;
     if !is_carried(wish.kind) {
-        return Err(Reason::KindNotCarried.alone());
+        return Err(Reason::WrongKind.alone());
     }
     if start_address(wish.page, wish.offset).is_none() {
         return Err(Reason::AddressOutOfRange.alone());

@@ -154,7 +154,8 @@ each gets its line, with its name in front, and the greatest status is given.",
         brief: "list the files, hidden ones too",
         more: &[
             "Marks: `h` hidden, `p` protected. Length and start address are given for the
-kinds that have them, 16 to 20.",
+kinds that have them: 16 to 20, and 1 to 4 of the Spectrum, which can be read
+and not saved.",
             PIPE,
         ],
         run: list::run,

@@ -126,6 +126,60 @@ slot  marks  name   kind             sectors  length  start
     assert_eq!(on("list", &blank, NONE).done(), none);
 }
 
+/// Spectrum files: length and start are those of the file's header, and the body is read by it.
+#[test]
+fn spectrum_files_are_listed_and_read() {
+    let folder = Folder::new();
+    let files = [
+        ("BASIC", 400),
+        ("NUMBERS", 30),
+        ("STRINGS", 501),
+        ("GENERIC", 700),
+        ("SNAP", 9),
+        ("CODE", 10),
+    ];
+    let mut bytes = disk(&files).into_image().into_bytes();
+    let headers = [
+        (1, 80, 400, 23_755),
+        (2, 81, 0, 0),
+        (3, 82, 501, 65_535),
+        (4, 83, 1_011, 32_768),
+    ];
+    for (slot, (kind, sector, length, start)) in headers.into_iter().enumerate() {
+        let (length, start): (u16, u16) = (length, start);
+        bytes[slot * 256] = kind;
+        bytes[sector * 512 + 1..][..2].copy_from_slice(&length.to_le_bytes());
+        bytes[sector * 512 + 3..][..2].copy_from_slice(&start.to_le_bytes());
+    }
+    bytes[4 * 256] = 5;
+    let image = folder.file("disk.mgt", &bytes);
+    let table = "\
+slot  marks  name     kind              sectors  length  start
+   1  --     BASIC    ZX BASIC                1     400  23755
+   2  --     NUMBERS  ZX numeric array        1       0      0
+   3  --     STRINGS  ZX string array         1     501  65535
+   4  --     GENERIC  ZX generic              2    1011  32768
+   5  --     SNAP     ZX snapshot 48K         1       -      -
+   6  --     CODE     code                    1      10  32768
+6 files, 1553 sectors free: room for a file of 792021 bytes
+";
+    assert_eq!(on("list", &image, NONE).done(), table);
+    assert_eq!(on("read", &image, ["basic"]).out, body(400));
+    assert_eq!(on("read", &image, ["STRINGS"]).out, body(501));
+    assert_eq!(on("read", &image, ["NUMBERS"]).done(), "");
+    let generic = on("read", &image, ["GENERIC"]);
+    assert_eq!((generic.out.len(), &generic.out[..700]), (1_011, &body(700)[..]));
+    let words = "the kind asked for (save) or found (read, start address) is not one that this call takes\n";
+    on("read", &image, ["SNAP"]).fails(1, &format!("SNAP: refusal 13 at slot 5: {words}"));
+    on("save", &image, ["NEW", "/dev/null", "--kind", "4"]).fails(1, &format!("NEW: refusal 13: {words}"));
+    // A length that its sectors do not hold.
+    bytes[82 * 512 + 1..][..2].copy_from_slice(&502u16.to_le_bytes());
+    let image = folder.file("disk.mgt", &bytes);
+    let said = "refusal 25 at slot 3: kind 1 to 4, and 510 × count is below 9 + the length in the header\n";
+    on("check", &image, NONE).fails(1, said);
+    on("list", &image, NONE).fails(1, said);
+}
+
 #[test]
 fn list_of_a_full_disk() {
     let folder = Folder::new();

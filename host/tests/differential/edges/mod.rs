@@ -9,6 +9,7 @@ mod names;
 mod order;
 mod release;
 mod slots;
+mod spectrum;
 
 use crate::support::asking::Asked;
 use crate::support::calls::{self, BODY, Call, NAME, OUT};

@@ -80,12 +80,14 @@ fn least_counts_and_one_above() {
     }
 }
 
-/// A kind that is not carried has no length and no waste. A carried one has, hidden or protected too.
+/// A kind that is not carried has no waste, those of the Spectrum neither. A carried one has, hidden or protected too.
 #[test]
 fn by_kind() {
     let mut disk = disk();
     let (slot, first) = (disk.files[1].slot, disk.files[1].chain[0]);
     set_length(&mut disk, 1, 9);
+    // Kinds 1 to 4 have all 16 bits of their length there.
+    disk.sector_mut(first)[fields::HEADER_REMAINDER + 1] = 0;
     for kind in fields::KNOWN {
         disk.sector_mut(first)[0] = kind;
         for marks in [0, 64, 128, 192] {

@@ -89,7 +89,7 @@ fn somewhere(damage: &Damage, disk: &mut Disk, random: &mut Random) -> Option<(u
         .find_map(|index| Some((index, (damage.apply)(disk, index, random)?)))
 }
 
-/// All slots for 2 to 9 come before all slots for 10 and 11; then the lowest slot, and at a slot the lowest number.
+/// All slots for 2 to 9 come before all slots for 10, 11 and 25; then the lowest slot, and at a slot the lowest number.
 fn earlier(one: Outcome, other: Outcome) -> Outcome {
     let rank = |outcome: Outcome| match outcome {
         Outcome::Refused(number, slot) => Some((number >= 10, slot, number)),
