@@ -32,7 +32,7 @@ use Rattle.plans.proofs.Kept.{sound-long}
 -- ---- an old name behind a slot
 
 -- the slot has no name, and the next one exists
-old-is : (d : List ℕ) (i : ℕ) → oldName d i ≡ true → (nameless d i ≡ true) × (suc i < slots)
+pub old-is : (d : List ℕ) (i : ℕ) → oldName d i ≡ true → (nameless d i ≡ true) × (suc i < slots)
 unfolding oldName isSlot
 old-is d i e =
     let a = and-both (nameless d i) (ltb (suc i) slots && not (nameless d (suc i))) e in
@@ -113,21 +113,38 @@ module _ (old : Bool) (i : ℕ) where
           (listed-append (dirSector i) xs (dirSector (suc i) ∷ [])
           ∙ rw (u i h, ne-eqb (dirSector i) (dirSector (suc i)) (λ e. eqb-false (dirSector (suc i)) (dirSector i) w (sym e)))))
 
+-- ---- the disk that the steps make, of any disk: without an old name behind the slot, and with the slot's bytes
+
+module _ (old : Bool) (i : ℕ) (m : List ℕ) where
+  end-made : putAll (enact m (endSteps old i)) (endPuts old i) ≡ cleared old i m
+  unfolding endSteps endPuts enact putAll
+  end-made = by old (together i)
+    where
+      by : (t u : Bool) → putAll (enact m (behind old i (t && not u))) (cond (t && u) (endPut i) []) ≡ cleared t i m
+      by true true = refl
+      by true false = refl
+      by false u = refl
+
+  end-puts : (o : ℕ) (y : List ℕ) → putAll (enact m (endSteps old i)) (endPuts old i ++ slotPut i o y) ≡ put (cleared old i m) (slotAt i + o) y
+  unfolding endPuts putAll
+  end-puts o y = by (old && together i) ∙ ap (λ (x : List ℕ). put x (slotAt i + o) y) end-made
+    where
+      mid : List ℕ
+      mid = enact m (endSteps old i)
+
+      by : (t : Bool) → putAll mid (cond t (endPut i) [] ++ slotPut i o y) ≡ put (putAll mid (cond t (endPut i) [])) (slotAt i + o) y
+      by true = refl
+      by false = refl
+
+  pub end-enact : (l : Look) (o : ℕ) (y : List ℕ) (f : Option File) → enact m (endSteps old i ++ (endStep old l i o y f ∷ [])) ≡ put (cleared old i m) (slotAt i + o) y
+  unfolding enact
+  end-enact l o y f = enact-append (endSteps old i) (endStep old l i o y f ∷ []) m ∙ end-puts o y
+
 -- ---- the disk before the slot is written: m, and without an old name behind the end
 
 module _ (m : List ℕ) (ok : Sound (look m)) (i : ℕ) (h : i < slots) (old : Bool) (r : Reach m old i) where
   abbrev ended : List ℕ
   ended = cleared old i m
-
-  end-made : putAll (enact m (endSteps old i)) (endPuts old i) ≡ ended
-  unfolding endSteps endPuts enact putAll
-  end-made = by old (together i)
-    where
-      by : (t u : Bool)
-          → putAll (enact m (behind old i (t && not u))) (cond (t && u) (endPut i) []) ≡ cleared t i m
-      by true true = refl
-      by true false = refl
-      by false u = refl
 
   quiet : old ≡ true → look (put m (slotAt (suc i) + 0) (0 ∷ 0 ∷ [])) ≡ look m
   quiet e = slot-quiet m (sound-long m ok) (suc i) (r .end e .1) 0 (0 ∷ 0 ∷ []) (omega arith) i (omega arith) (r .end e .0)
@@ -213,29 +230,16 @@ module _ (m : List ℕ) (ok : Sound (look m)) (i : ℕ) (h : i < slots) (old : B
         by true e false q = (last, tt)
         by false e u q = (last, tt)
 
-    end-puts : (x : List ℕ) → putAll x (endPuts old i ++ slotPut i o y) ≡ put (putAll x (endPuts old i)) (slotAt i + o) y
-    unfolding endPuts putAll
-    end-puts x = by (old && together i)
-      where
-        by : (t : Bool) → putAll x (cond t (endPut i) [] ++ slotPut i o y) ≡ put (putAll x (cond t (endPut i) [])) (slotAt i + o) y
-        by true = refl
-        by false = refl
-
-    -- the disk that the steps make
-    pub end-enact : (l : Look) (f : Option File) → enact m (endSteps old i ++ (endStep old l i o y f ∷ [])) ≡ put (cleared old i m) (slotAt i + o) y
-    unfolding enact
-    end-enact l f =
-        enact-append (endSteps old i) (endStep old l i o y f ∷ []) m ∙ end-puts (enact m (endSteps old i))
-        ∙ ap (λ (x : List ℕ). put x (slotAt i + o) y) end-made
-
     -- they do what they say, where the slot alone does
     pub end-then : (f : Option File) → Does look Sound (cleared old i m) (slotStep (look (cleared old i m)) i o y f) → Goes look Sound m (endSteps old i ++ (endStep old (look m) i o y f ∷ []))
     unfolding putAll lastOf
     end-then f x =
-        goes-append look Sound (endSteps old i) (endStep old (look m) i o y f ∷ []) m end-goes
-        (record {
-          there = subst (λ (n : ℕ). dirSector i * 512 + 512 ≤ n) (sym (goes-long (endSteps old i) m)) (there-slot m (sound-long m ok) i h o y k);
-          inside = end-inside;
-          sees = ap look (end-puts (enact m (endSteps old i)) ∙ ap (λ (z : List ℕ). put z (slotAt i + o) y) end-made) ∙ x .sees ∙ ap (λ (v : Look). upd v i f) end-look;
-          ok = subst (λ (v : Look). Sound (upd v i f)) end-look (x .ok);
-        }, tt)
+        goes-append look Sound (endSteps old i) (endStep old (look m) i o y f ∷ []) m end-goes (
+          record {
+            there = subst (λ (n : ℕ). dirSector i * 512 + 512 ≤ n) (sym (goes-long (endSteps old i) m)) (there-slot m (sound-long m ok) i h o y k);
+            inside = end-inside;
+            sees = ap look (end-puts old i m o y) ∙ x .sees ∙ ap (λ (v : Look). upd v i f) end-look;
+            ok = subst (λ (v : Look). Sound (upd v i f)) end-look (x .ok);
+          },
+          tt,
+        )
