@@ -9,7 +9,7 @@ use native.Mathlib.Omega.{arith}
 use borrow.Author.Tests.{ltb-true, lt-ltb, le-ltb}
 use Rattle.buffers.proofs.Lists.{below-or-not}
 use Rattle.refusals.specs.Order.{sweepFrom}
-use Rattle.refusals.proofs.First.{sweep-none, sweep-first, first-sweep, sweep-start, sweep-skip, sweep-stop, sweep-end}
+use Rattle.refusals.proofs.First.{sweep-none, none-sweep, sweep-first, first-sweep, sweep-start, sweep-skip, sweep-stop, sweep-end}
 use Rattle.slots.specs.Slot.{isNameless}
 use Rattle.directory.specs.Places.{slots, slotBytes}
 use Rattle.directory.specs.Directory.{nameless, endAt, endOf, slotsRead, seen, slotOr}
@@ -64,6 +64,10 @@ some-end d i w =
 pub end-none : (d : List ℕ) → endOf d ≡ none → (i : ℕ) → i < slots → nameless d i ≡ false
 unfolding endOf
 end-none d e i h = end-not d i (sweep-none slots (endAt d) e i h)
+
+pub none-end : (d : List ℕ) → ((i : ℕ) → i < slots → nameless d i ≡ false) → endOf d ≡ none
+unfolding endOf
+none-end d h = none-sweep slots (endAt d) (λ i l. not-end d i (h i l))
 
 -- ---- as the loop meets it: its bytes s, and r that says whether it has no name
 
@@ -132,6 +136,13 @@ pub unread : (d : List ℕ) (i : ℕ) → slotsRead d ≤ i → seen d i ≡ fal
 unfolding seen
 unread d i h = le-ltb i (slotsRead d) h
 
+-- the end is the first that is not
+pub read-next : (d : List ℕ) → slotsRead d < slots → nameless d (slotsRead d) ≡ true
+read-next d = read d .next
+
+pub unseen-read : (d : List ℕ) (i : ℕ) → seen d i ≡ false → slotsRead d ≤ i
+unseen-read d i e = ⊎-elim (λ h. absurd (true≢false (sym (seen-read d i h) ∙ e))) (λ h. h) (below-or-not i (slotsRead d))
+
 -- a slot that is read is one of the directory's, and it and all before it have names
 pub seen-is : (d : List ℕ) (i : ℕ) → seen d i ≡ true → (i < slots) × ((j : ℕ) → j ≤ i → nameless d j ≡ false)
 seen-is d i e =
@@ -183,3 +194,13 @@ seen-agree d e i h = by (seen e i) (seen d i) refl refl
 pub nameless-agree : (d e : List ℕ) (i : ℕ) → slotBytes e i ≡ slotBytes d i → nameless e i ≡ nameless d i
 unfolding nameless
 nameless-agree d e i q = ap isNameless q
+
+-- where the end has the same bytes on another disk, no slot that was unread is read there
+pub unread-kept : (d e : List ℕ) → (slotsRead d < slots → slotBytes e (slotsRead d) ≡ slotBytes d (slotsRead d)) → (j : ℕ) → seen d j ≡ false → seen e j ≡ false
+unread-kept d e s j q =
+    let r = unseen-read d j q in
+    ⊎-elim
+    (λ (h : j < slots).
+    let l : slotsRead d < slots = omega arith in
+    unseen-later e (slotsRead d) j r (unseen-nameless e (slotsRead d) (nameless-agree d e (slotsRead d) (s l) ∙ read-next d l)))
+    (unseen-past e j) (below-or-not j slots)

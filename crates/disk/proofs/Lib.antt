@@ -3,3 +3,4 @@ pub mod Rows
 pub mod Sound
 pub mod Look
 pub mod Examined
+pub mod Behind

@@ -2,3 +2,4 @@ pub mod Look
 pub mod Check
 pub mod Sound
 pub mod Given
+pub mod Behind

@@ -40,7 +40,7 @@ old-is d i e =
     (a .0, ltb-true (suc i) slots (b .0))
 
 -- where there is none behind a slot without a name, the next one has no name either
-old-not : (d : List ℕ) (i : ℕ) → oldName d i ≡ false → nameless d i ≡ true → suc i < slots → nameless d (suc i) ≡ true
+pub old-not : (d : List ℕ) (i : ℕ) → oldName d i ≡ false → nameless d i ≡ true → suc i < slots → nameless d (suc i) ≡ true
 unfolding oldName isSlot
 old-not d i e n h = by (nameless d (suc i)) refl
   where
@@ -174,11 +174,11 @@ module _ (m : List ℕ) (ok : Sound (look m)) (i : ℕ) (h : i < slots) (old : B
       by false e u = tt
 
   -- the bytes of the slots
-  pub end-else : (j : ℕ) → (j ≡ suc i → ⊥) → slotBytes (cleared old i m) j ≡ slotBytes m j
+  pub end-else : (j : ℕ) → (old ≡ true → j ≡ suc i → ⊥) → slotBytes (cleared old i m) j ≡ slotBytes m j
   end-else j n = by old refl
     where
       by : (t : Bool) → old ≡ t → slotBytes (cleared t i m) j ≡ slotBytes m j
-      by true e = slot-else m (sound-long m ok) (suc i) (r .end e .1) 0 (0 ∷ 0 ∷ []) (omega arith) j n
+      by true e = slot-else m (sound-long m ok) (suc i) (r .end e .1) 0 (0 ∷ 0 ∷ []) (omega arith) j (n e)
       by false e = refl
 
   end-next : old ≡ true → nameless (put m (slotAt (suc i) + 0) (0 ∷ 0 ∷ [])) (suc i) ≡ true
@@ -202,7 +202,7 @@ module _ (m : List ℕ) (ok : Sound (look m)) (i : ℕ) (h : i < slots) (old : B
   end-reach = record { before = before; next = λ q. by old refl; end = λ q. absurd (true≢false (sym q)) }
     where
       same : (j : ℕ) → j ≤ i → seen ended j ≡ seen m j
-      same j l = seen-agree m ended j (λ k q. nameless-agree m ended k (end-else k (omega arith)))
+      same j l = seen-agree m ended j (λ k q. nameless-agree m ended k (end-else k (λ (t : old ≡ true). omega arith)))
 
       before : (j : ℕ) → j < i → seen ended j ≡ true
       before j l = same j (omega arith) ∙ r .before j l

@@ -196,7 +196,7 @@ first-empty d i w = record { below = w .below; empty = by (nameless d i) refl; b
     by false q = inl (none-erased d i (seen-next d i (w .below) (λ j h. let f = w .before j h in holds d j (f .0) (f .1) .read) q) (w .empty))
 
 -- there is one lowest
-first-one : (d : List ℕ) (i j : ℕ) → FirstEmpty d i → FirstEmpty d j → i ≡ j
+pub first-one : (d : List ℕ) (i j : ℕ) → FirstEmpty d i → FirstEmpty d j → i ≡ j
 first-one d i j a b =
     ⊎-elim (λ h. absurd (b .before i h (a .empty)))
     (λ (h : j ≤ i). ⊎-elim (λ k. absurd (a .before j k (b .empty))) (λ (k : i ≤ j). omega arith) (below-or-not j i)) (below-or-not i j)

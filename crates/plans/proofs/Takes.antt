@@ -43,7 +43,7 @@ use Rattle.plans.proofs.ReadBack.{Stored, stored}
 use Rattle.plans.proofs.Exactly.{first-empty}
 
 -- a sector that is none of a chain's
-unlisted : (s : ℕ) (bs : List ℕ) → ((j : ℕ) → j < length bs → s ≡ bitNumber (getD bs j 0) → ⊥) → listed s (map bitNumber bs) ≡ false
+pub unlisted : (s : ℕ) (bs : List ℕ) → ((j : ℕ) → j < length bs → s ≡ bitNumber (getD bs j 0) → ⊥) → listed s (map bitNumber bs) ≡ false
 unlisted s [] h = refl
 unlisted s (b ∷ bs) h = rw (ne-eqb s (bitNumber b) (h 0 (omega arith))) (unlisted s bs (λ j (q : j < length bs). h (suc j) (omega arith)))
 

@@ -5,3 +5,4 @@ pub mod Safe
 pub mod Refused
 pub mod Accepted
 pub mod After
+pub mod Unread
