@@ -241,7 +241,7 @@ fn every_slot(image: &mut [u8], buf: &mut [u8], list: &mut [u16]) {
 }
 
 fn changes_made(image: &mut [u8], body: &[u8], buf: &mut [u8]) {
-    let mut list = [0u16; 1561];
+    let mut list = [0u16; 1562];
     largest(image, body, &mut list);
     largest_back(image, buf, &mut list);
     one_page(image, body, buf, &mut list);
