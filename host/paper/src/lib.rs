@@ -1,12 +1,12 @@
-//! Document 01 in plain Rust, and M-100 of document 02, written from the papers alone. The tests and the benchmark compare
-//! the proved library with it.
+//! Document 01 in plain Rust, and M-100 and M-103 of document 02, written from the papers alone. The tests and the benchmark
+//! compare the proved library with it.
 //!
 //! Every call takes any bytes and any numbers. A refused call changes no byte of anything lent.
 //!
 //! - `geometry`: sides, tracks, sectors, map bits, slot places
 //! - `map`: the 1,560 bits of a slot's map or of the used map
 //! - `name`: names asked for and new names
-//! - `slot`: what the 256 bytes of a directory slot say
+//! - `slot`: what the 256 bytes of a directory slot say, and where the directory ends
 //! - `check`: refusals 1 to 11
 //! - `calls`: check, list, read, start address, raw sector
 //! - `pieces`: a file's body a piece at a time
