@@ -1,4 +1,4 @@
-//! Refusals: document 01's numbers and its words for them.
+//! Refusals: document 01's numbers and its words for them, those of 18 as document 02 has them.
 use std::error::Error;
 use std::fmt;
 use std::num::NonZeroU16;
@@ -11,7 +11,7 @@ pub enum Refusal {
     ImageLength,
     /// 2: the kind is not known.
     UnknownKind,
-    /// 3: the first name byte is 0.
+    /// 3: the first name byte is 0. It is given no more, since the directory ends there, and the number stays reserved.
     NoFirstNameByte,
     /// 4: the count is not 1 to 1,560.
     Count,
@@ -41,7 +41,7 @@ pub enum Refusal {
     NameTaken,
     /// 17: the file is protected.
     Protected,
-    /// 18: no slot is free.
+    /// 18: no slot is free: none before the directory's end is erased, and it has no end.
     NoFreeSlot,
     /// 19: fewer free sectors than the save takes.
     NoRoom,
@@ -57,7 +57,7 @@ pub enum Refusal {
 const TABLE: [(Refusal, &str); 21] = [
     (Refusal::ImageLength, "the image is not 819,200 bytes"),
     (Refusal::UnknownKind, "the kind is not known"),
-    (Refusal::NoFirstNameByte, "the first name byte is 0"),
+    (Refusal::NoFirstNameByte, "the first name byte is 0 (given no more)"),
     (Refusal::Count, "the count is not 1 to 1,560"),
     (Refusal::MapCount, "the map's set bits are not as many as the count"),
     (
@@ -85,7 +85,10 @@ const TABLE: [(Refusal, &str); 21] = [
     (Refusal::NotFound, "no live slot has the name"),
     (Refusal::NameTaken, "a live slot has the new name"),
     (Refusal::Protected, "protected (erase, rename)"),
-    (Refusal::NoFreeSlot, "no slot has byte 0 zero (save)"),
+    (
+        Refusal::NoFreeSlot,
+        "no slot before the end is erased and there is no end (save)",
+    ),
     (Refusal::NoRoom, "fewer free sectors than the save takes"),
     (Refusal::ShortBuffer, "a lent output buffer is too short"),
     (Refusal::NoSuchSector, "no such drive, track or sector"),

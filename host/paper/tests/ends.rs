@@ -98,7 +98,13 @@ fn a_save_into_the_end_clears_the_old_name_behind_it() {
             assert!(image == old && short.iter().all(|byte| *byte == 7));
             assert_eq!(put(&mut image, b"NEW", 0), named);
             assert!(image == expected, "slot {end}");
-            assert_eq!(listed(&image), Listed { files: end, free: free - 1 });
+            assert_eq!(
+                listed(&image),
+                Listed {
+                    files: end,
+                    free: free - 1
+                }
+            );
         }
     }
 }

@@ -1,4 +1,4 @@
-//! Every refusal prints document 01's words, and every one of them is met.
+//! Every refusal prints its words, and every one of them is met but 3, which is given no more.
 use super::table::TABLE;
 use super::*;
 use std::collections::HashSet;
@@ -23,7 +23,7 @@ fn every_number_prints_with_and_without_a_slot() {
     assert_eq!(distinct.len(), 21);
 }
 
-/// Each of the 21 refusals, brought about and caught as an error.
+/// Each of the 21 refusals but 3, brought about and caught as an error.
 #[test]
 fn every_refusal_is_met() {
     let mut met = Vec::new();
@@ -37,7 +37,7 @@ fn every_refusal_is_met() {
         assert_eq!(parts(refused), (number, slot, format!("refusal {number}{at}: {words}")));
         met.push(number);
     }
-    assert_eq!(met, (1..=21).collect::<Vec<u8>>());
+    assert_eq!(met, (1..=21).filter(|&number| number != 3).collect::<Vec<u8>>());
 }
 
 /// A refusal of every number, each with the number and the slot that it should have.
@@ -82,7 +82,6 @@ fn unsound() -> Vec<(u8, u16, Refused)> {
     headed.as_bytes_mut()[two_sector] = 20;
     let images = [
         (2, damaged(&[(0, 13)])),
-        (3, damaged(&[(1, 0)])),
         (4, damaged(&[(12, 0)])),
         (5, damaged(&[(12, 3)])),
         (6, damaged(&[(13, 3)])),

@@ -10,7 +10,7 @@ const IMAGE: usize = 819_200;
 /// The save that the example makes, in memory: the new disk and the sectors named, in order.
 fn saved(old: &[u8], name: &[u8], body: &[u8]) -> (Vec<u8>, Vec<usize>) {
     let mut image = old.to_vec();
-    let mut list = vec![0; 3122];
+    let mut list = vec![0; 3124];
     let exec = [255, 255, 255];
     // Each slice is a vector or an array of its own, lent with its own length.
     let answer = unsafe {

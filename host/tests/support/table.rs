@@ -1,8 +1,8 @@
-/// The words of document 01's table, from number 1 on, copied from it.
+/// The words of document 01's table, from number 1 on, copied from it; those of 3 and 18 as document 02 leaves them (M-103).
 pub const TABLE: [&str; 21] = [
     "the image is not 819,200 bytes",
     "the kind is not known",
-    "the first name byte is 0",
+    "the first name byte is 0 (given no more)",
     "the count is not 1 to 1,560",
     "the map's set bits are not as many as the count",
     "the first address is not a data sector, or its bit is clear",
@@ -17,7 +17,7 @@ pub const TABLE: [&str; 21] = [
     "no live slot has the name",
     "a live slot has the new name",
     "protected (erase, rename)",
-    "no slot has byte 0 zero (save)",
+    "no slot before the end is erased and there is no end (save)",
     "fewer free sectors than the save takes",
     "a lent output buffer is too short",
     "no such drive, track or sector",

@@ -6,7 +6,7 @@ use std::fmt::Write;
 #[derive(Default)]
 pub struct Tally([[usize; 22]; CALLS.len()]);
 
-/// The numbers that a call can give, by document 01's table and document 02; 0 for an accepted request.
+/// The numbers that a call can give, by document 01's table and document 02; 0 for an accepted request. 3 is given no more.
 pub fn possible(call: Call) -> Vec<u8> {
     let own: &[u8] = match call {
         Call::Check => &[],
@@ -21,7 +21,7 @@ pub fn possible(call: Call) -> Vec<u8> {
         Call::Rename => &[12, 15, 16, 17, 20],
         Call::Hide | Call::Show | Call::Protect | Call::Release => &[12, 15, 20],
     };
-    (0..=11).chain(own.iter().copied()).collect()
+    (0..=11).filter(|&number| number != 3).chain(own.iter().copied()).collect()
 }
 
 impl Tally {

@@ -9,18 +9,18 @@ fn check_accepts_and_refuses() {
     let image = folder.image(&disk(&[("ONE", 10)]));
     assert_eq!(on("check", &image, NONE).done(), "accepted\n");
     let mut bytes = fs::read(&image).unwrap();
-    bytes[1] = 0;
+    bytes[0] = 13;
     fs::write(&image, &bytes).unwrap();
-    on("check", &image, NONE).fails(1, "disk.mgt: refusal 3 at slot 1: the first name byte is 0\n");
+    on("check", &image, NONE).fails(1, "disk.mgt: refusal 2 at slot 1: the kind is not known\n");
     for command in ["list", "map"] {
-        on(command, &image, NONE).fails(1, "refusal 3 at slot 1");
+        on(command, &image, NONE).fails(1, "refusal 2 at slot 1");
     }
     // The disk's refusals come before those of the request, whatever is wrong with that.
-    on("erase", &image, ["ONE"]).fails(1, "disk.mgt: refusal 3 at slot 1");
-    on("erase", &image, [""]).fails(1, "disk.mgt: refusal 3 at slot 1");
-    on("hide", &image, ["", "--dry-run"]).fails(1, "disk.mgt: refusal 3 at slot 1");
-    on("read", &image, [""]).fails(1, "disk.mgt: refusal 3 at slot 1");
-    on("save", &image, ["", "/dev/null", "--kind", "5", "--page", "32"]).fails(1, "disk.mgt: refusal 3 at slot 1");
+    on("erase", &image, ["ONE"]).fails(1, "disk.mgt: refusal 2 at slot 1");
+    on("erase", &image, [""]).fails(1, "disk.mgt: refusal 2 at slot 1");
+    on("hide", &image, ["", "--dry-run"]).fails(1, "disk.mgt: refusal 2 at slot 1");
+    on("read", &image, [""]).fails(1, "disk.mgt: refusal 2 at slot 1");
+    on("save", &image, ["", "/dev/null", "--kind", "5", "--page", "32"]).fails(1, "disk.mgt: refusal 2 at slot 1");
     assert_eq!(fs::read(&image).unwrap(), bytes);
 }
 
@@ -224,7 +224,10 @@ fn save_is_refused_in_the_papers_order() {
     assert!(fs::read(&image).unwrap() == before);
     let full: Vec<(String, usize)> = (1..=80).map(|number| (format!("FILE{number}"), 0)).collect();
     let image = folder.image(&disk(&full));
-    on("save", &image, ["MORE", "/dev/null"]).fails(1, "refusal 18: no slot has byte 0 zero (save)\n");
+    on("save", &image, ["MORE", "/dev/null"]).fails(
+        1,
+        "refusal 18: no slot before the end is erased and there is no end (save)\n",
+    );
 }
 
 #[test]
