@@ -21,7 +21,7 @@ pub fn print_head(timer: Duration) {
     println!(
         "with 'names alike' they differ in the tenth byte alone. 'less one', 'erased': the last file was erased before,"
     );
-    println!("so the save takes its slot and sectors.");
+    println!("so the save takes its slot and sectors. 'old slots': behind its end the directory is full of old bytes.");
     println!();
     println!(
         "{:<12} {:<22} {:<10} {:>10} {:>10} {:>10} {:>10} {:>7} {:>7} {:>6}",

@@ -53,7 +53,10 @@ fn every_change_cut_anywhere() {
         CHANGES, counts.changes, counts.clearing, counts.cuts, counts.answers
     );
     let mut all = counts.changes.iter().chain(&counts.clearing);
-    assert!(!rounds.enough() || all.all(|&changes| changes >= 20), "too few changes were accepted");
+    assert!(
+        !rounds.enough() || all.all(|&changes| changes >= 20),
+        "too few changes were accepted"
+    );
 }
 
 /// A save into the directory's end at the edges of sectors and tracks, cut after every sector. The slot behind holds a name,
@@ -74,7 +77,10 @@ fn saves_into_the_end_cut_anywhere() {
             cut(&change, &mut counts, random);
         }
     }
-    println!("{:?} saves, {} cuts, {} answers", counts.clearing, counts.cuts, counts.answers);
+    println!(
+        "{:?} saves, {} cuts, {} answers",
+        counts.clearing, counts.cuts, counts.answers
+    );
     assert_eq!(counts.clearing, [14, 10]);
 }
 

@@ -77,6 +77,13 @@ impl Disk {
         self.end.is_none_or(|end| slot < end)
     }
 
+    /// The slots before the end that are erased now.
+    pub fn erased(&self) -> Vec<usize> {
+        (1..=SLOTS)
+            .filter(|&slot| self.reads(slot) && self.slot(slot)[0] == 0)
+            .collect()
+    }
+
     pub fn names(&self) -> Vec<Name> {
         self.files.iter().map(|file| file.name).collect()
     }

@@ -24,6 +24,40 @@ fn check_accepts_and_refuses() {
     assert_eq!(fs::read(&image).unwrap(), bytes);
 }
 
+/// Old bytes from the directory's end on are not looked at, and a save there clears the name that would come back.
+#[test]
+fn a_directory_that_ends() {
+    let folder = Folder::new();
+    let mut image = disk(&[("ONE", 10), ("TWO", 1_000), ("THREE", 0)]).into_image();
+    let bytes = image.as_bytes_mut();
+    bytes[3 * 256..20 * 256].fill(99);
+    bytes[3 * 256 + 1] = 0; // slot 4 was never used
+    let image = folder.file("disk.mgt", image.as_bytes());
+    assert_eq!(on("check", &image, NONE).done(), "accepted\n");
+    let last = "\n3 files, 1556 sectors free: room for a file of 793551 bytes\n";
+    assert!(on("list", &image, NONE).done().ends_with(last));
+    let planned = "\
+number  track  sector
+    84      4       5
+     2      0       3
+     1      0       2
+3 sectors would be written, in this order; nothing is written
+";
+    assert_eq!(on("save", &image, ["FOUR", "/dev/null", "--dry-run"]).done(), planned);
+    assert_eq!(
+        on("save", &image, ["FOUR", "/dev/null"]).done(),
+        "saved FOUR: 3 sectors written\n"
+    );
+    let bytes = fs::read(&image).unwrap();
+    assert_eq!(bytes[4 * 256..][..3], [0, 0, 99]);
+    let last = "\n4 files, 1555 sectors free: room for a file of 793041 bytes\n";
+    assert!(on("list", &image, NONE).done().ends_with(last));
+    assert_eq!(
+        on("save", &image, ["FIVE", "/dev/null"]).done(),
+        "saved FIVE: 2 sectors written\n"
+    );
+}
+
 #[test]
 fn list_is_a_table() {
     let folder = Folder::new();
@@ -224,10 +258,8 @@ fn save_is_refused_in_the_papers_order() {
     assert!(fs::read(&image).unwrap() == before);
     let full: Vec<(String, usize)> = (1..=80).map(|number| (format!("FILE{number}"), 0)).collect();
     let image = folder.image(&disk(&full));
-    on("save", &image, ["MORE", "/dev/null"]).fails(
-        1,
-        "refusal 18: no slot before the end is erased and there is no end (save)\n",
-    );
+    on("save", &image, ["MORE", "/dev/null"])
+        .fails(1, "refusal 18: no slot before the end is erased and there is no end (save)\n");
 }
 
 #[test]

@@ -79,12 +79,11 @@ fn faults_behind_the_end() {
 fn ends_at(disk: &Disk, end: usize) {
     expect(&Asked::new(Call::Check), &disk.image, 0);
     let files = end - 1;
-    let left = expect(
-        &Asked::new(Call::List).with(OUT, vec![0x5c; 258 * files]),
-        &disk.image,
-        0,
+    let left = expect(&Asked::new(Call::List).with(OUT, vec![0x5c; 258 * files]), &disk.image, 0);
+    assert_eq!(
+        (calls::value(left.answer), calls::free(left.answer)),
+        (files, BITS - 2 * files)
     );
-    assert_eq!((calls::value(left.answer), calls::free(left.answer)), (files, BITS - 2 * files));
     let behind = disk.files.iter().filter(|file| file.slot >= end);
     for name in behind.map(|file| file.name).filter(|name| name[0] != 0) {
         if disk.files[..files].iter().all(|file| file.name != name) {
@@ -222,7 +221,11 @@ fn an_end_with_no_room() {
     let most = save(vec![7; fills(BITS - 2)]);
     expect(&most, &disk.image, 0);
     let need = 2 * (BITS - 2 + 2);
-    expect(&save(vec![7; fills(BITS - 2)]).with(OUT, vec![0x5c; need - 1]), &disk.image, 20);
+    expect(
+        &save(vec![7; fills(BITS - 2)]).with(OUT, vec![0x5c; need - 1]),
+        &disk.image,
+        20,
+    );
     assert_eq!(most.slices[BODY].len(), fills(BITS - 2));
     // The name that stands behind the end is not taken.
     disk.slot_mut(3)[fields::NAME..fields::COUNT].copy_from_slice(b"new       ");

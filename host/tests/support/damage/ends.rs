@@ -47,7 +47,7 @@ fn byte_0(disk: &mut Disk, _: usize, random: &mut Random) -> Option<Outcome> {
 }
 
 fn erased_nameless(disk: &mut Disk, _: usize, random: &mut Random) -> Option<Outcome> {
-    let erased: Vec<usize> = (1..=SLOTS).filter(|&slot| disk.reads(slot) && disk.slot(slot)[0] == 0).collect();
+    let erased = disk.erased();
     (!erased.is_empty()).then_some(())?;
     let slot = random.pick(&erased);
     disk.slot_mut(slot)[fields::NAME] = 0;
