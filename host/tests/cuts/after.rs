@@ -77,9 +77,8 @@ fn edited(change: &Change) -> (Vec<u8>, Vec<usize>) {
 fn saved(change: &Change) -> (Vec<u8>, Vec<usize>) {
     let mut new = change.old.to_vec();
     let bits = lowest_free(change);
-    let place = |slot: usize| slot_place(slot);
-    let nameless = |slot: usize| change.old[place(slot) + fields::NAME] == 0;
-    let free = |slot: &usize| change.old[place(*slot)] == 0 || nameless(*slot);
+    let nameless = |slot: usize| change.old[slot_place(slot) + fields::NAME] == 0;
+    let free = |slot: &usize| change.old[slot_place(*slot)] == 0 || nameless(*slot);
     let slot = (1..=SLOTS).find(free).expect("a slot is free");
     let old_name = Some(slot + 1).filter(|&next| nameless(slot) && next <= SLOTS && !nameless(next));
     let payload = payload(change, bits.len());
@@ -88,14 +87,14 @@ fn saved(change: &Change) -> (Vec<u8>, Vec<usize>) {
         sector[..PAYLOAD].copy_from_slice(&payload[i * PAYLOAD..][..PAYLOAD]);
         sector[PAYLOAD..].copy_from_slice(&bits.get(i + 1).map_or([0, 0], |&next| address(next)));
     }
-    new[place(slot)..][..SLOT].copy_from_slice(&new_slot(change, &bits));
+    new[slot_place(slot)..][..SLOT].copy_from_slice(&new_slot(change, &bits));
     let mut named: Vec<usize> = bits.iter().map(|&bit| number(bit_place(bit))).collect();
     if let Some(next) = old_name {
-        new[place(next)..][..2].fill(0);
-        // Two slots fill a sector; the first of a pair has the next one beside it.
-        named.extend((slot % 2 == 0).then_some(number(place(next))));
+        new[slot_place(next)..][..2].fill(0);
+        // Two slots fill a sector, and the first of a pair has the next one beside it.
+        named.extend((slot % 2 == 0).then_some(number(slot_place(next))));
     }
-    named.push(number(place(slot)));
+    named.push(number(slot_place(slot)));
     (new, named)
 }
 

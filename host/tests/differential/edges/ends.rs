@@ -2,7 +2,7 @@
 
 use super::{expect, save};
 use crate::support::asking::Asked;
-use crate::support::calls::{self, BODY, CALLS, Call, NAME, OUT};
+use crate::support::calls::{self, CALLS, Call, NAME, OUT};
 use crate::support::disks::{self, Disk};
 use crate::support::fields;
 use crate::support::geometry::{BITS, SECTOR, SLOT, SLOTS, fills, slot_place, slot_sector};
@@ -64,8 +64,9 @@ fn faults_behind_the_end() {
             disk.slot_mut(end)[0] = 0;
             // The last slot has no file between it and the end that it could be like.
             if bad == end + 2 || !matches!(number, 8 | 9) {
-                let answer = expect(&Asked::new(Call::Check), &disk.image, number).answer;
-                assert_eq!(calls::slot(answer), bad);
+                for call in CALLS.into_iter().filter(|call| !call.is_raw()) {
+                    assert_eq!(calls::slot(expect(&Asked::new(call), &disk.image, number).answer), bad);
+                }
             }
             for byte_0 in BYTES_0 {
                 disk.slot_mut(end)[..2].copy_from_slice(&[byte_0, 0]);
@@ -75,9 +76,13 @@ fn faults_behind_the_end() {
     }
 }
 
-/// Check and listing see the files before this slot and nothing else; a name that stands behind it is not found.
+/// No call refuses the disk; the listing has the files before this slot and nothing else; a name that stands behind it is not
+/// found.
 fn ends_at(disk: &Disk, end: usize) {
     expect(&Asked::new(Call::Check), &disk.image, 0);
+    for call in CALLS.into_iter().filter(|call| call.takes().contains(&NAME)) {
+        expect(&Asked::new(call), &disk.image, 12);
+    }
     let files = end - 1;
     let left = expect(&Asked::new(Call::List).with(OUT, vec![0x5c; 258 * files]), &disk.image, 0);
     assert_eq!(
@@ -92,18 +97,15 @@ fn ends_at(disk: &Disk, end: usize) {
     }
 }
 
-/// No number that a slot gives comes from behind the end, whatever the call: rubbish in all slots there.
+/// Nothing but rubbish from the end on, in every slot there is.
 #[test]
-fn every_call_stops_at_the_end() {
-    for end in ENDS {
+fn rubbish_from_the_end_on() {
+    for end in 1..=SLOTS {
         let mut disk = full_to(end);
         for slot in end..=SLOTS {
             disk.slot_mut(slot).fill(99);
         }
         disk.slot_mut(end)[fields::NAME] = 0;
-        for call in CALLS.into_iter().filter(|call| call.takes().contains(&NAME)) {
-            expect(&Asked::new(call), &disk.image, 12);
-        }
         ends_at(&disk, end);
     }
 }
@@ -218,15 +220,10 @@ fn an_end_with_no_room() {
     let mut disk = ending(2, 19, Next::Live);
     expect(&save(vec![7; fills(BITS)]), &disk.image, 19);
     expect(&save(vec![7; fills(BITS - 2) + 1]), &disk.image, 19);
-    let most = save(vec![7; fills(BITS - 2)]);
-    expect(&most, &disk.image, 0);
+    let most = || save(vec![7; fills(BITS - 2)]);
     let need = 2 * (BITS - 2 + 2);
-    expect(
-        &save(vec![7; fills(BITS - 2)]).with(OUT, vec![0x5c; need - 1]),
-        &disk.image,
-        20,
-    );
-    assert_eq!(most.slices[BODY].len(), fills(BITS - 2));
+    expect(&most().with(OUT, vec![0x5c; need - 1]), &disk.image, 20);
+    expect(&most().with(OUT, vec![0x5c; need]), &disk.image, 0);
     // The name that stands behind the end is not taken.
     disk.slot_mut(3)[fields::NAME..fields::COUNT].copy_from_slice(b"new       ");
     expect(&save(vec![7; 10]), &disk.image, 0);
