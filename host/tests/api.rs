@@ -86,6 +86,16 @@ fn spectrum(kind: u8, length: u16, start: u16) -> Image {
     image
 }
 
+/// The pair with old bytes in every slot behind it; the directory ends at slot 3.
+fn pair_that_ends() -> Image {
+    let mut image = pair().into_image();
+    for slot in 3..=80 {
+        image.as_bytes_mut()[slot_place(slot)..][..256].fill(99);
+    }
+    image.as_bytes_mut()[slot_place(3) + 1] = 0;
+    image
+}
+
 /// The number, the slot and the words of a refusal.
 fn parts(refused: Refused) -> (u8, u16, String) {
     (
