@@ -94,6 +94,7 @@ fn ending(end: usize) -> Shape {
         end: Some(end),
         order: Order::Scattered,
         ground: Ground::Rubbish,
+        tidy: false,
     }
 }
 

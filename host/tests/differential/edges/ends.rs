@@ -27,6 +27,7 @@ fn full_to(last: usize) -> Disk {
             end: None,
             order: Order::Scattered,
             ground: Ground::Rubbish,
+            tidy: false,
         };
         disks::of_shape(&shape, &mut Random::new(700 + seed))
     });
