@@ -40,7 +40,7 @@
  * before the end is erased, and free too, when its byte 0 is zero; else it is live and holds a file. It says the file's kind
  * and name, how many sectors the file has (its count), which they are (its map, a bit for each data sector) and which is the
  * first. The other 1,560 are the data sectors. Each holds 510 bytes of a file and the address of the file's next sector; that
- * is its chain. A file of a carried kind (section 7) begins with a header of 9 bytes, and its body follows. Every call but
+ * is its chain. A file that can be read (section 7) begins with a header of 9 bytes, and its body follows. Every call but
  * varnucht_sector and varnucht_next checks the whole disk first: you need not call varnucht_check before it.
  */
 #ifndef VARNUCHT_H
@@ -75,14 +75,14 @@ enum varnucht_size {
 };
 
 /* 3. REFUSALS, in the words of the rules (document 01), in the order in which they are tested: 1 first; then 2 to 9 at every
- * live slot, the lowest slot first and at a slot the lowest number; then 10 and 11 likewise; then the lowest that applies of
- * 12 to 20. So 12 to 20 say that the disk itself is good. varnucht_sector tests 1 and then 21, and looks at no directory.
- * varnucht_next refuses nothing. 3 is given no more, by any call: its number stays reserved, and "1 to 11" below is without
- * it.
+ * live slot, the lowest slot first and at a slot the lowest number; then 10, 11 and 25 likewise; then the lowest that applies
+ * of 12 to 20. So 12 to 20 say that the disk itself is good. varnucht_check_release alone tests 22 too, at a slot directly after
+ * 7. varnucht_sector tests 1 and then 21, and looks at no directory. varnucht_next refuses nothing. 3 is given no
+ * more, by any call: its number stays reserved, and "1 to 11" below is without it.
  *
- * The slot comes with 2 to 11; with 13 and 14 of varnucht_read, varnucht_open and varnucht_start, where it is the file's;
- * with 16, where it is that of the file which has the new name; and with 17. With all others, 13 and 14 of varnucht_save
- * too, it is 0. */
+ * The slot comes with 2 to 11, 22 and 25; with 13 and 14 of varnucht_read, varnucht_open and varnucht_start, where it is the
+ * file's; with 16, where it is that of the file which has the new name; and with 17. With all others, 13 and 14 of
+ * varnucht_save too, it is 0. */
 enum varnucht_reason {
     VARNUCHT_ACCEPTED = 0,
     /* The disk is not good. Every call can give these but varnucht_sector, which can give 1, and varnucht_next. */
@@ -94,22 +94,29 @@ enum varnucht_reason {
     VARNUCHT_FIRST_NOT_OWN = 6,         /* the first address is not a data sector, or its bit is clear */
     VARNUCHT_LENGTH_TOO_GREAT = 7,      /* carried kind, and 510 * count is below 9 + length */
     VARNUCHT_SECTOR_SHARED = 8,         /* the map shares a bit with an earlier live slot */
-    VARNUCHT_NAME_TWICE = 9,            /* the ten name bytes equal an earlier live slot's */
+    VARNUCHT_NAME_TWICE = 9,            /* the name is an earlier live slot's, capitals or not (section 7) */
     VARNUCHT_CHAIN_BROKEN = 10,         /* the chain of sectors is broken: a link that leads out of the file's own sectors or
                                            back to one already passed, or a last link that is not 0, 0 */
     VARNUCHT_HEADER_DIFFERS = 11,       /* carried kind, and the header's first byte, remainder or pages differ from the
                                            slot's kind, remainder, pages */
     /* The request is not good, or cannot be met. Each call says which of these it can give. */
     VARNUCHT_NAME_NOT_USABLE = 12,      /* the name is not usable: section 7 */
-    VARNUCHT_KIND_NOT_CARRIED = 13,     /* the kind asked for (save) or found (read, open, start) is not 16 to 20 */
-    VARNUCHT_START_OUT_OF_RANGE = 14,   /* start page above 31, or offset outside 32,768 to 49,151 (save, start) */
-    VARNUCHT_NAME_NOT_FOUND = 15,       /* no live slot has the name */
-    VARNUCHT_NAME_TAKEN = 16,           /* a live slot has the new name */
+    VARNUCHT_WRONG_KIND = 13,           /* the kind asked for (save: 16 to 20) or found (read, open, start: 16 to 20 and 1
+                                           to 4) is not one that this call takes */
+    VARNUCHT_START_OUT_OF_RANGE = 14,   /* start page above 31, or offset outside 32,768 to 49,151 (save, start of kinds 16
+                                           to 20) */
+    VARNUCHT_NAME_NOT_FOUND = 15,       /* no live slot has the name, capitals or not */
+    VARNUCHT_NAME_TAKEN = 16,           /* a live slot has the new name, capitals or not; varnucht_rename says more */
     VARNUCHT_FILE_PROTECTED = 17,       /* protected (erase, rename) */
     VARNUCHT_NO_FREE_SLOT = 18,         /* no slot before the end is erased and there is no end: 80 files are there (save) */
     VARNUCHT_TOO_FEW_SECTORS = 19,      /* fewer free sectors than the save takes */
     VARNUCHT_BUFFER_TOO_SHORT = 20,     /* a lent output buffer is too short; tested last, and the buffer is unchanged */
-    VARNUCHT_NO_SUCH_SECTOR = 21        /* no such drive, track or sector (varnucht_sector alone) */
+    VARNUCHT_NO_SUCH_SECTOR = 21,       /* no such drive, track or sector (varnucht_sector alone) */
+    /* The disk is not fit to go out. */
+    VARNUCHT_WASTE_SECTORS = 22,        /* carried kind, and the count is above the least that its length needs: the least n
+                                           with 510 * n at least 9 + length (varnucht_check_release alone) */
+    /* The disk is not good, as with 1 to 11. */
+    VARNUCHT_BODY_TOO_LONG = 25         /* kind 1 to 4, and 510 * count is below 9 + the length in the file's header */
 };
 
 /* A refusal in the words of the rules, for a message; UTF-8. A string that lasts, never NULL, for any number. */
@@ -125,22 +132,27 @@ static inline const char *varnucht_words(unsigned refusal) {
     case VARNUCHT_LENGTH_TOO_GREAT: /* with a multiplication sign */
         return "carried kind, and 510 \xc3\x97 count is below 9 + length";
     case VARNUCHT_SECTOR_SHARED: return "the map shares a bit with an earlier live slot";
-    case VARNUCHT_NAME_TWICE: return "the ten name bytes equal an earlier live slot's";
+    case VARNUCHT_NAME_TWICE: return "the name is an earlier live slot's, capitals or not";
     case VARNUCHT_CHAIN_BROKEN: return "the chain is broken";
     case VARNUCHT_HEADER_DIFFERS:
         return "carried kind, and the header's first byte (whole), remainder (mod 16,384) or pages differ from the slot's "
                "kind, remainder, pages";
     case VARNUCHT_NAME_NOT_USABLE: return "the name is not usable";
-    case VARNUCHT_KIND_NOT_CARRIED: return "the kind asked for (save) or found (read, start address) is not carried";
+    case VARNUCHT_WRONG_KIND:
+        return "the kind asked for (save) or found (read, start address) is not one that this call takes";
     case VARNUCHT_START_OUT_OF_RANGE:
         return "start page above 31, or offset outside 32,768 to 49,151 (save, start address)";
-    case VARNUCHT_NAME_NOT_FOUND: return "no live slot has the name";
-    case VARNUCHT_NAME_TAKEN: return "a live slot has the new name";
+    case VARNUCHT_NAME_NOT_FOUND: return "no live slot has the name, capitals or not";
+    case VARNUCHT_NAME_TAKEN: return "a live slot has the new name, capitals or not";
     case VARNUCHT_FILE_PROTECTED: return "protected (erase, rename)";
     case VARNUCHT_NO_FREE_SLOT: return "no slot before the end is erased and there is no end (save)";
     case VARNUCHT_TOO_FEW_SECTORS: return "fewer free sectors than the save takes";
     case VARNUCHT_BUFFER_TOO_SHORT: return "a lent output buffer is too short";
     case VARNUCHT_NO_SUCH_SECTOR: return "no such drive, track or sector";
+    case VARNUCHT_WASTE_SECTORS:
+        return "carried kind, and the count is above the least that its length needs (waste sectors behind the file)";
+    case VARNUCHT_BODY_TOO_LONG: /* with a multiplication sign */
+        return "kind 1 to 4, and 510 \xc3\x97 count is below 9 + the length in the header";
     default: return "not a number of refusal";
     }
 }
@@ -150,16 +162,22 @@ static inline const char *varnucht_words(unsigned refusal) {
  * was. */
 
 /* Whether the disk is good. Its directory up to its end, sector maps and chains agree exactly when this accepts. Value: 0.
- * Refusals: 1 to 11. */
+ * Refusals: 1 to 11, 25. */
 uint64_t varnucht_check(const uint8_t *image, size_t image_len);
+
+/* Whether the disk is good and fit to go out: no file of a carried kind has waste sectors behind it, which is where old texts
+ * hide. A file has them where its count is above the least that its length needs. Every other call accepts such a disk.
+ * Value: 0. Refusals: 1 to 11, 22, 25. Stack: 1,224 bytes. */
+uint64_t varnucht_check_release(const uint8_t *image, size_t image_len);
 
 /* Every file, hidden ones too, by rising slot, at 258 bytes each from the front of `out`; section 6 says how to read them.
  * Value: how many files, 0 to 80. Free: the free sectors, 0 to 1,560. `out`: 258 bytes for each file, and
- * VARNUCHT_LISTING_BYTES always suffice. Refusals: 1 to 11, 20. */
+ * VARNUCHT_LISTING_BYTES always suffice. Refusals: 1 to 11, 25, 20. */
 uint64_t varnucht_list(const uint8_t *image, size_t image_len, uint8_t *out, size_t out_len);
 
-/* A file's body, to the front of `out`. Value: its length in bytes, 0 to 795,591. `out`: as long as the body
- * (varnucht_entry_length tells), and VARNUCHT_BODY_BYTES always suffice. Refusals: 1 to 11, 12, 13, 15, 20. */
+/* A file's body, of kind 16 to 20 or 1 to 4, to the front of `out`. Value: its length in bytes, 0 to 795,591, and of kinds 1
+ * to 4 at most 65,535. `out`: as long as the body, and VARNUCHT_BODY_BYTES always suffice. varnucht_open tells the length of
+ * every file that can be read, and a listing that of kinds 16 to 20 (varnucht_entry_length). Refusals: 1 to 11, 25, 12, 13, 15, 20. */
 uint64_t varnucht_read(const uint8_t *image, size_t image_len, const uint8_t *name, size_t name_len, uint8_t *out,
                        size_t out_len);
 
@@ -185,7 +203,7 @@ uint64_t varnucht_read(const uint8_t *image, size_t image_len, const uint8_t *na
  * than that the call answers and touches nothing but `out`. */
 
 /* Finds a file. Value: the length of its body in bytes, 0 to 795,591. Slot: the sector that the body begins in, 0 to 1,599.
- * Free: the place of its first byte there, 9. Refusals: 1 to 11, 12, 13, 15, as varnucht_read has them. Stack: 1,304 bytes. */
+ * Free: the place of its first byte there, 9. Refusals: 1 to 11, 25, 12, 13, 15, as varnucht_read has them. Stack: 1,304 bytes. */
 uint64_t varnucht_open(const uint8_t *image, size_t image_len, const uint8_t *name, size_t name_len);
 
 /* The next bytes, to the front of `out`: as many as it holds or as are left.
@@ -228,8 +246,9 @@ static inline size_t varnucht_reader_next(struct varnucht_reader *reader, const 
     return varnucht_value(answer);
 }
 
-/* The address that a file is loaded to. Value: page * 16,384 + offset - 16,384, which is 16,384 to 540,671.
- * Refusals: 1 to 11, 12, 13, 14, 15. */
+/* The address that a file is loaded to. Value: page * 16,384 + offset - 16,384, which is 16,384 to 540,671; of kinds 1 to 4 the
+ * start in the file's header as it stands, 0 to 65,535, with no 14.
+ * Refusals: 1 to 11, 25, 12, 13, 14, 15. */
 uint64_t varnucht_start(const uint8_t *image, size_t image_len, const uint8_t *name, size_t name_len);
 
 /* A raw sector of one of two disks, whatever they hold: no directory is looked at.
@@ -285,24 +304,25 @@ static inline unsigned varnucht_listed(const uint8_t *list, size_t i) { return l
  * The save takes the least n sectors with 510 * n at least 9 + body_len, and names those n and last the slot's. Where the
  * slot is the directory's end and an old name stands in the next one, that slot's bytes 0 and 1 are set to 0, so that the
  * name does not come back; its sector, if it is another, is named between them.
- * Value: n + 1 or n + 2. `list`: two bytes for each, 2 * (n + 2) always suffice. Refusals: 1 to 11, 12, 13, 14, 16, 18, 19,
- * 20. */
+ * Value: n + 1 or n + 2. `list`: two bytes for each, 2 * (n + 2) always suffice. Refusals: 1 to 11, 25, 12, 13, 14, 16, 18,
+ * 19, 20. */
 uint64_t varnucht_save(uint8_t *image, size_t image_len, uint32_t kind, const uint8_t *name, size_t name_len, uint32_t page,
                        uint32_t offset, const uint8_t *exec, size_t exec_len, const uint8_t *info, size_t info_len,
                        const uint8_t *body, size_t body_len, uint8_t *list, size_t list_len);
 
-/* Erases a file: its slot and its sectors are free from then on. Value: 1. Refusals: 1 to 11, 12, 15, 17, 20. */
+/* Erases a file: its slot and its sectors are free from then on. Value: 1. Refusals: 1 to 11, 25, 12, 15, 17, 20. */
 uint64_t varnucht_erase(uint8_t *image, size_t image_len, const uint8_t *name, size_t name_len, uint8_t *list,
                         size_t list_len);
 
-/* Gives a file a new name (section 7); a name that any file has is refused 16, the file's own too. Value: 1.
- * Refusals: 1 to 11, 12 (either name), 15, 16, 17, 20. */
+/* Gives a file a new name (section 7). It may be the file's own with other capitals. Refused 16 where another file has the
+ * name, capitals or not (slot: that file's), or where the file has it already, byte for byte (slot: its own). Value: 1.
+ * Refusals: 1 to 11, 25, 12 (either name), 15, 16, 17, 20. */
 uint64_t varnucht_rename(uint8_t *image, size_t image_len, const uint8_t *name, size_t name_len, const uint8_t *new_name,
                          size_t new_name_len, uint8_t *list, size_t list_len);
 
 /* Mark a file: hide sets the mark that show clears, protect the one that release clears. Nothing else changes. Where the
  * mark is so already the call is accepted and names its sector all the same. A hidden file is listed and found like any
- * other. A protected one cannot be erased or renamed. Value: 1. Refusals: 1 to 11, 12, 15, 20. */
+ * other. A protected one cannot be erased or renamed. Value: 1. Refusals: 1 to 11, 25, 12, 15, 20. */
 uint64_t varnucht_hide(uint8_t *image, size_t image_len, const uint8_t *name, size_t name_len, uint8_t *list,
                        size_t list_len);
 uint64_t varnucht_show(uint8_t *image, size_t image_len, const uint8_t *name, size_t name_len, uint8_t *list,
@@ -323,7 +343,7 @@ enum varnucht_entry_field {
     VARNUCHT_ENTRY_FIRST_SECTOR = 16,
     VARNUCHT_ENTRY_MAP = 17,            /* 195 bytes: bit b mod 8 of byte b / 8 says whether data sector b is the file's */
     VARNUCHT_ENTRY_INFO = 223,          /* 11 bytes */
-    VARNUCHT_ENTRY_PAGE = 238,          /* bits 0 to 4 */
+    VARNUCHT_ENTRY_PAGE = 238,          /* bits 0 to 4; this and the next three of kinds 16 to 20 alone */
     VARNUCHT_ENTRY_OFFSET = 239,        /* 2 bytes, low byte first */
     VARNUCHT_ENTRY_PAGES = 241,         /* whole pages of 16,384 bytes in the length */
     VARNUCHT_ENTRY_REMAINDER = 242,     /* 2 bytes, low byte first, bits 0 to 13: the rest of the length */
@@ -343,9 +363,15 @@ static inline int varnucht_entry_hidden(const uint8_t *entry) { return entry[VAR
 static inline int varnucht_entry_protected(const uint8_t *entry) { return entry[VARNUCHT_ENTRY_STATUS] >> 6 & 1; }
 static inline unsigned varnucht_entry_kind(const uint8_t *entry) { return entry[VARNUCHT_ENTRY_STATUS] & 63u; }
 
-/* Whether the kind is carried, 16 to 20: then the file can be read and has a length and a start. */
+/* Whether the kind is carried, 16 to 20: then the file can be read, and the entry has its length and its start. */
 static inline int varnucht_entry_carried(const uint8_t *entry) {
     return varnucht_entry_kind(entry) >= 16 && varnucht_entry_kind(entry) <= 20;
+}
+
+/* Whether the kind is one of the Spectrum's that can be read, 1 to 4. The entry has neither the length nor the start of such a
+ * file, because they stand in the file itself: varnucht_open answers the one and varnucht_start the other. */
+static inline int varnucht_entry_spectrum(const uint8_t *entry) {
+    return varnucht_entry_kind(entry) >= 1 && varnucht_entry_kind(entry) <= 4;
 }
 
 /* The name's ten bytes, with no 0 behind them; and how many are left without the spaces at the end. Given to a call, both
@@ -365,7 +391,7 @@ static inline unsigned varnucht_entry_sectors(const uint8_t *entry) {
     return 256u * entry[VARNUCHT_ENTRY_SECTORS] + entry[VARNUCHT_ENTRY_SECTORS + 1];
 }
 
-/* The length of the body in bytes, 0 to 795,591; of a kind that is not carried 0. */
+/* The length of the body in bytes, 0 to 795,591; of a kind that is not carried 0. For kinds 1 to 4 ask varnucht_open. */
 static inline uint32_t varnucht_entry_length(const uint8_t *entry) {
     uint32_t low = entry[VARNUCHT_ENTRY_REMAINDER], high = entry[VARNUCHT_ENTRY_REMAINDER + 1] & 63u;
     return varnucht_entry_carried(entry) ? entry[VARNUCHT_ENTRY_PAGES] * UINT32_C(16384) + 256 * high + low : 0;
@@ -384,13 +410,20 @@ static inline const uint8_t *varnucht_entry_exec(const uint8_t *entry) { return 
 /* 7. NAMES AND KINDS
  *
  * A name is given as 1 to 10 bytes with no 0 behind them, so "TUNES" has length 5. A shorter name is filled with spaces (32)
- * to ten bytes, and then names compare byte for byte: "TUNES" and "TUNES " are one name, "TUNES" and "tunes" are two. A name
- * asked for may hold any bytes, but the first is not 0. A new name (save, rename) has bytes 32 to 126 alone, and the first
- * is not 32. Anything else is refused 12.
+ * to ten bytes, and then names compare byte for byte, where a to z count as A to Z: "TUNES", "TUNES " and "tunes" are one
+ * name, which no two files of a disk have. No other bytes are letters. A slot stores a new name as it was given, and the
+ * listing shows it so. A name asked for may hold any bytes, but the first is not 0. A new name (save, rename) has bytes 32
+ * to 126 alone, and the first is not 32. Anything else is refused 12.
  *
  * A kind is a number. 1 to 12 and 16 to 23 are known, and their files are listed, erased, renamed and marked. Only the
- * carried kinds, 16 to 20, have a body and a start address for these calls, and only they can be saved. */
-enum varnucht_kind {                    /* the carried kinds */
+ * carried kinds, 16 to 20, and those of the Spectrum with a header of the Plus D, 1 to 4, have a body and a start address for
+ * these calls. Only the carried kinds can be saved. */
+enum varnucht_kind {
+    VARNUCHT_KIND_ZX_BASIC = 1,         /* kinds of the Spectrum */
+    VARNUCHT_KIND_ZX_NUMBERS = 2,
+    VARNUCHT_KIND_ZX_STRINGS = 3,
+    VARNUCHT_KIND_ZX_GENERIC = 4,
+    /* the carried kinds */
     VARNUCHT_KIND_BASIC = 16,
     VARNUCHT_KIND_NUMBERS = 17,         /* a numeric array */
     VARNUCHT_KIND_STRINGS = 18,         /* a string array */

@@ -1,4 +1,4 @@
-//! The fourteen calls on byte slices: safe, and total on every input, but without types that rule anything out.
+//! The fifteen calls on byte slices: safe, and total on every input, but without types that rule anything out.
 //!
 //! Each function hands its slices to the C layer and gives back the [`Answer`]. Nothing is decided here. A refused call
 //! changes no byte of anything lent. In the changes, `list` takes the numbers of the sectors to write, two bytes to a number,
@@ -12,6 +12,12 @@ use crate::raw;
 pub fn check(image: &[u8]) -> Answer {
     // SAFETY: the pointer and the length are those of a slice that is only read.
     Answer::from_number(unsafe { raw::varnucht_check(image.as_ptr(), image.len()) })
+}
+
+/// Whether the image is an accepted disk without waste sectors. Value: 0.
+pub fn check_release(image: &[u8]) -> Answer {
+    // SAFETY: the pointer and the length are those of a slice that is only read.
+    Answer::from_number(unsafe { raw::varnucht_check_release(image.as_ptr(), image.len()) })
 }
 
 /// The listing: 258 bytes for each live slot, its number and its 256 bytes. Value: how many; free: the free sectors.

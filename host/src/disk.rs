@@ -1,6 +1,7 @@
 //! Accepted disks.
 use crate::calls;
 use crate::change::{Change, NewFile};
+use crate::entry::Entry;
 use crate::image::Image;
 use crate::listing::Listing;
 use crate::name::{Name, NewName};
@@ -13,7 +14,7 @@ use std::fmt;
 
 /// A disk that the library has accepted, with its listing.
 ///
-/// Every change of an accepted disk leaves an accepted disk, which is proved. So no call here is refused 1 to 11.
+/// Every change of an accepted disk leaves an accepted disk, which is proved. So no call here is refused 1 to 11 or 25.
 ///
 /// Two disks are equal where their images are. A clone copies the image: 819,200 bytes.
 #[derive(Clone, Debug)]
@@ -33,7 +34,7 @@ impl PartialEq for Disk {
 impl Eq for Disk {}
 
 impl Disk {
-    /// Opens a disk: checks the image and lists it. Refused 2 to 11 with the slot; the error hands the image back.
+    /// Opens a disk: checks the image and lists it. Refused 2 to 11 and 25 with the slot; the error hands the image back.
     ///
     /// Every slot before the directory's end is looked at, and every sector of every file. The image is not copied.
     ///
@@ -73,12 +74,41 @@ impl Disk {
         &self.listing
     }
 
-    /// A file's body. Refused 15 where there is no such file, 13 with the slot where its kind is not carried.
+    /// Whether no file of a carried kind has more sectors than its length needs ([`Entry::least_sectors`]), which is where
+    /// old texts hide: refused 22 with the lowest such slot. No other call is.
+    ///
+    /// ```
+    /// use varnucht::{CarriedKind, Disk, Image, NewFile, NewName, Start};
+    ///
+    /// let mut disk = Disk::open(Image::blank())?;
+    /// let file = NewFile::new(CarriedKind::Code, NewName::new("TEXT")?, Start::new(1, 32_768)?, &[65; 1_000]);
+    /// let _ = disk.save(&file)?;
+    /// disk.check_release()?; // a save takes no more sectors than it needs
+    ///
+    /// // The same file with a length of 100 in its slot and in its header: its second sector is waste.
+    /// let mut image = disk.into_image();
+    /// for place in [240, 40_961] {
+    ///     image.as_bytes_mut()[place..place + 2].copy_from_slice(&[100, 0]);
+    /// }
+    /// let disk = Disk::open(image)?;
+    /// let refused = disk.check_release().unwrap_err();
+    /// assert_eq!((refused.refusal.number(), refused.slot.map(|slot| slot.number())), (22, Some(1)));
+    /// let entry = &disk.listing().entries()[0];
+    /// assert_eq!((entry.sector_count(), entry.least_sectors()), (2, Some(1)));
+    /// # Ok::<(), varnucht::Refused>(())
+    /// ```
+    pub fn check_release(&self) -> Result<(), Refused> {
+        self.image.check_release()
+    }
+
+    /// A file's body. Refused 15 where there is no such file, 13 with the slot where its kind is neither carried nor one of the
+    /// Spectrum's, 1 to 4.
     ///
     /// The whole disk is looked at, and the body is copied into a new vector of its length.
     pub fn read(&self, name: &Name) -> Result<Vec<u8>, Refused> {
-        // The listing gives the room that is needed. Where it gives none the library refuses for another reason.
-        let room = self.listing.find(name).and_then(|entry| entry.length()).unwrap_or(0);
+        // The listing gives the room that is needed, but for kinds that have their length elsewhere.
+        let listed = self.listing.find(name).and_then(Entry::length);
+        let room = listed.map_or_else(|| self.length(name), Ok)?;
         let mut body = vec![0; room as usize];
         let done = calls::read(self.image.as_bytes(), name.as_bytes(), &mut body).decode()?;
         body.truncate(done.value as usize);
@@ -92,8 +122,16 @@ impl Disk {
         Reader::open(&self.image, name)
     }
 
-    /// A file's start address. Refused 15 where there is no such file; with the slot 13 where its kind is not carried, and
-    /// 14 where its offset is out of range.
+    /// The length of a file's body, of every kind that can be read. Refused as [`read`](Disk::read) is. [`Entry::length`] gives
+    /// it too, but not for the kinds of the Spectrum, whose length stands in the file itself.
+    pub fn length(&self, name: &Name) -> Result<u32, Refused> {
+        let found = calls::open(self.image.as_bytes(), name.as_bytes()).decode()?;
+        Ok(found.value)
+    }
+
+    /// A file's start address; of a Spectrum kind, 1 to 4, the start in its header as it stands, 0 to 65,535. Refused 15 where
+    /// there is no such file; with the slot 13 where it has no start, because its kind is another, and 14 where a carried kind's
+    /// offset is out of range.
     pub fn start(&self, name: &Name) -> Result<u32, Refused> {
         calls::start(self.image.as_bytes(), name.as_bytes())
             .decode()
@@ -139,6 +177,18 @@ impl Disk {
     }
 
     /// Gives a file another name: [`Change::Rename`]. Refused 15, and 16 and 17 with the slot.
+    ///
+    /// ```
+    /// use varnucht::{CarriedKind, Disk, Image, Name, NewFile, NewName, Start};
+    ///
+    /// let mut disk = Disk::open(Image::blank())?;
+    /// let (old, new) = (NewName::new("TUNES")?, NewName::new("Tunes")?);
+    /// let _ = disk.save(&NewFile::new(CarriedKind::Code, old, Start::new(1, 32_768)?, b"la la la"))?;
+    /// let _ = disk.rename(&Name::new("tunes")?, &new)?; // the case of its own name alone
+    /// assert_eq!(disk.listing().entries()[0].name().to_string(), "Tunes");
+    /// assert_eq!(disk.rename(&old.name(), &new).unwrap_err().refusal.number(), 16); // it has those bytes already
+    /// # Ok::<(), varnucht::Refused>(())
+    /// ```
     pub fn rename(&mut self, name: &Name, new: &NewName) -> Result<Sectors<'_>, Refused> {
         self.change(&Change::Rename(*name, *new))
     }

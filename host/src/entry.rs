@@ -69,14 +69,24 @@ impl Entry {
         (0..1_560).filter(set).filter_map(SectorNumber::of_bit)
     }
 
-    /// The length of the file's body; none for a kind that is not carried.
+    /// The length of the file's body; none for a kind that is not carried. That of a Spectrum kind, 1 to 4, stands not here but in
+    /// the file's header: [`Disk::length`](crate::Disk::length) gives it.
     pub fn length(&self) -> Option<u32> {
         self.kind().carried()?;
         let remainder = u16::from_le_bytes([self.bytes[240], self.bytes[241]]) & 0x3fff;
         Some(u32::from(self.bytes[239]) * 16_384 + u32::from(remainder))
     }
 
-    /// Where the file starts in memory; none for a kind that is not carried, and where the offset is out of its range.
+    /// The least number of sectors that the body and its nine header bytes need, at 510 bytes to a sector; none for a kind
+    /// that is not carried. Where [`Entry::sector_count`] is above it the rest are waste sectors.
+    pub fn least_sectors(&self) -> Option<u16> {
+        let sectors = (9 + self.length()?).div_ceil(510);
+        // On an accepted disk they are no more than the count.
+        u16::try_from(sectors).ok()
+    }
+
+    /// Where the file starts in memory; none for a kind that is not carried, and where the offset is out of its range. That of a
+    /// Spectrum kind stands in the file's header: [`Disk::start`](crate::Disk::start) gives it.
     pub fn start(&self) -> Option<Start> {
         self.kind().carried()?;
         let offset = u16::from_le_bytes([self.bytes[237], self.bytes[238]]);

@@ -52,11 +52,18 @@ impl Image {
         bytes.into_vec()
     }
 
-    /// Whether the image is an accepted disk: refused 2 to 11, with the slot. [`Disk::open`](crate::Disk::open) asks the
+    /// Whether the image is an accepted disk: refused 2 to 11 and 25, with the slot. [`Disk::open`](crate::Disk::open) asks the
     /// same and keeps the answer in the type. Every slot before the directory's end is looked at, and every sector of every
     /// file.
     pub fn check(&self) -> Result<(), Refused> {
         calls::check(self.as_bytes()).decode().map(|_| ())
+    }
+
+    /// Whether the image is an accepted disk without waste sectors, before it goes out: refused as [`check`](Image::check)
+    /// is, and 22 with the slot where a file of a carried kind has more sectors than its length needs. Every other call
+    /// accepts such a disk.
+    pub fn check_release(&self) -> Result<(), Refused> {
+        calls::check_release(self.as_bytes()).decode().map(|_| ())
     }
 
     /// One raw sector, not copied. No directory is checked, so any image will do.

@@ -56,7 +56,14 @@ impl Kind {
         WORDS.iter().find(|(number, _)| *number == self.0).map(|(_, words)| *words)
     }
 
-    /// The carried kind that it is; none for the others, whose bodies the library does not read.
+    /// Whether it is a Spectrum file with a header of the Plus D, 1 to 4. Its body can be read, and its length and start stand in
+    /// that header: [`Disk::length`](crate::Disk::length) and [`Disk::start`](crate::Disk::start) give them. It cannot be saved.
+    pub fn is_spectrum(self) -> bool {
+        matches!(self.0, 1..=4)
+    }
+
+    /// The carried kind that it is; none for the others, which the library does not save. Of those it reads
+    /// [those of the Spectrum](Kind::is_spectrum) alone.
     pub fn carried(self) -> Option<CarriedKind> {
         CarriedKind::ALL.into_iter().find(|kind| kind.number() == self.0)
     }
@@ -77,7 +84,7 @@ impl From<CarriedKind> for Kind {
     }
 }
 
-/// The kinds that the library saves and reads.
+/// The kinds that the library saves. It reads them, and kinds 1 to 4 beside them: [`Kind::is_spectrum`].
 #[derive(Clone, Copy, Debug, PartialEq, Eq, PartialOrd, Ord, Hash)]
 #[repr(u8)]
 pub enum CarriedKind {
@@ -116,7 +123,7 @@ impl CarriedKind {
         CarriedKind::ALL
             .into_iter()
             .find(|kind| u32::from(kind.number()) == number)
-            .ok_or(Refusal::NotCarried.into())
+            .ok_or(Refusal::WrongKind.into())
     }
 
     /// The kind's number, 16 to 20.

@@ -5,7 +5,7 @@
 //! | type | what its values have already passed |
 //! |---|---|
 //! | [`Image`] | it is 819,200 bytes: refusal 1 is ruled out |
-//! | [`Disk`] | the library has accepted it: refusals 1 to 11 are ruled out |
+//! | [`Disk`] | the library has accepted it: refusals 1 to 11 and 25 are ruled out |
 //! | [`Name`], [`NewName`] | usable as a name asked for, as a new name: refusal 12 is ruled out |
 //! | [`CarriedKind`], [`Start`] | a save takes them: refusals 13 and 14 of a save are ruled out |
 //! | [`Drive`], [`Track`], [`Sector`] | they are there: refusal 21 is ruled out |
@@ -55,7 +55,7 @@
 //! assert_eq!(disk.listing().free(), 1_559);
 //!
 //! let refused = disk.save(&file).unwrap_err();
-//! assert_eq!(refused.to_string(), "refusal 16 at slot 1: a live slot has the new name");
+//! assert_eq!(refused.to_string(), "refusal 16 at slot 1: a live slot has the new name, capitals or not");
 //! # Ok::<(), Box<dyn std::error::Error>>(())
 //! ```
 //!
@@ -79,6 +79,17 @@
 //! }
 //! # Ok::<(), Box<dyn std::error::Error>>(())
 //! ```
+//!
+//! # Spectrum files
+//!
+//! The same disks hold files of the Spectrum. Those of kinds 1 to 4 have a header of the Plus D, and can be read whole or piece
+//! by piece; they cannot be saved. Their length and start stand in that header and not in the listing: [`Disk::length`] and
+//! [`Disk::start`] give them.
+//!
+//! # Before a compilation goes out
+//!
+//! A file may have more sectors than its length needs, and old texts hide in them. Every call accepts such a disk but
+//! [`Disk::check_release`] and [`Image::check_release`], which refuse it (22) with the slot.
 //!
 //! # A disk in a file
 //!
@@ -116,7 +127,7 @@
 //! "Document 01" and "the paper" are the rules that the library is proved against. A refusal prints their words. The
 //! directory's end is its first slot whose first name byte is 0: that slot and all later ones are free, and what stands there
 //! is no file and is not looked at; a save clears the old name that would come back when it takes that slot. Below the
-//! types stand [`calls`], the fourteen calls on byte slices, and [`raw`], the C layer itself.
+//! types stand [`calls`], the fifteen calls on byte slices, and [`raw`], the C layer itself.
 #![warn(missing_docs)]
 
 mod answer;

@@ -16,7 +16,7 @@ pub struct Listing {
 }
 
 impl Listing {
-    /// The library's listing of an image. Refused 2 to 11 where the image is no accepted disk.
+    /// The library's listing of an image. Refused 2 to 11 and 25 where the image is no accepted disk.
     pub(crate) fn of(image: &Image) -> Result<Listing, Refused> {
         let mut out = [0; SLOTS * Entry::LISTED];
         let done = calls::list(image.as_bytes(), &mut out).decode()?;
@@ -33,7 +33,7 @@ impl Listing {
         &self.entries
     }
 
-    /// The file of this name, if there is one.
+    /// The file of this name, capitals or not, if there is one.
     pub fn find(&self, name: &Name) -> Option<&Entry> {
         self.entries.iter().find(|entry| entry.name() == *name)
     }

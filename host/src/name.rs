@@ -1,15 +1,18 @@
 //! Names of files: those that can be asked for, and those that a file can be given.
 use crate::escape::escape;
 use crate::refusal::{Refusal, Refused};
+use std::cmp::Ordering;
 use std::fmt;
+use std::hash::{Hash, Hasher};
 
 /// A stored name has ten bytes.
 pub const NAME_LENGTH: usize = 10;
 
 /// A name that can be asked for: 1 to 10 bytes, the first not 0, filled with spaces to ten.
 ///
-/// Two names are equal when those ten bytes are. As text it is printed without the spaces that fill it, and with the escapes
-/// of [`escape`](mod@crate::escape), so that every name can be typed back.
+/// Two names are equal when those ten bytes are, where a to z count as A to Z: then they find the same file. The bytes stay as
+/// they were given. As text it is printed without the spaces that fill it, and with the escapes of
+/// [`escape`](mod@crate::escape), so that every name can be typed back.
 ///
 /// ```
 /// use varnucht::Name;
@@ -18,11 +21,13 @@ pub const NAME_LENGTH: usize = 10;
 /// assert_eq!(name, Name::new("TUNES  ")?);
 /// assert_eq!(name.as_bytes(), b"TUNES     ");
 /// assert_eq!(name.to_string(), "TUNES");
+/// assert_eq!(name, Name::new("tunes")?); // capitals or not, it is the same name
+/// assert_eq!(Name::new("tunes")?.to_string(), "tunes");
 /// assert_eq!(Name::new([65, 0, 255])?.to_string(), r"A\x00\xff");
 /// assert_eq!(Name::new("").unwrap_err().refusal.number(), 12);
 /// # Ok::<(), varnucht::Refused>(())
 /// ```
-#[derive(Clone, Copy, PartialEq, Eq, PartialOrd, Ord, Hash)]
+#[derive(Clone, Copy)]
 pub struct Name([u8; NAME_LENGTH]);
 
 impl Name {
@@ -65,10 +70,41 @@ impl Name {
         &self.0
     }
 
+    /// The ten bytes that names are compared by: A to Z for a to z, and every other byte as it is.
+    fn folded(&self) -> [u8; NAME_LENGTH] {
+        self.0.map(|byte| byte.to_ascii_uppercase())
+    }
+
     /// The bytes without the spaces that fill the name; the first byte always stays.
     pub fn trimmed(&self) -> &[u8] {
         let last = self.0.iter().rposition(|byte| *byte != b' ').unwrap_or(0);
         &self.0[..=last]
+    }
+}
+
+impl PartialEq for Name {
+    fn eq(&self, other: &Name) -> bool {
+        self.folded() == other.folded()
+    }
+}
+
+impl Eq for Name {}
+
+impl Ord for Name {
+    fn cmp(&self, other: &Name) -> Ordering {
+        self.folded().cmp(&other.folded())
+    }
+}
+
+impl PartialOrd for Name {
+    fn partial_cmp(&self, other: &Name) -> Option<Ordering> {
+        Some(self.cmp(other))
+    }
+}
+
+impl Hash for Name {
+    fn hash<H: Hasher>(&self, state: &mut H) {
+        self.folded().hash(state);
     }
 }
 

@@ -3,6 +3,7 @@
 
 unsafe extern "C" {
     pub fn varnucht_check(image: *const u8, image_len: usize) -> u64;
+    pub fn varnucht_check_release(image: *const u8, image_len: usize) -> u64;
     pub fn varnucht_list(image: *const u8, image_len: usize, out: *mut u8, out_len: usize) -> u64;
     pub fn varnucht_read(
         image: *const u8,

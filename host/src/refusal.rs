@@ -1,9 +1,9 @@
-//! Refusals: document 01's numbers and its words for them, those of 18 as document 02 has them.
+//! Refusals: the numbers of documents 01 and 02, and their words for them.
 use std::error::Error;
 use std::fmt;
 use std::num::NonZeroU16;
 
-/// Why a call was refused: a row of document 01's table.
+/// Why a call was refused: a row of document 01's table, or one that document 02 adds to it.
 #[derive(Clone, Copy, Debug, PartialEq, Eq, Hash)]
 #[non_exhaustive]
 pub enum Refusal {
@@ -23,7 +23,7 @@ pub enum Refusal {
     TooFewSectors,
     /// 8: the map shares a bit with an earlier live slot.
     SharedSector,
-    /// 9: the ten name bytes equal an earlier live slot's.
+    /// 9: the name is an earlier live slot's, capitals or not.
     SharedName,
     /// 10: the chain is broken.
     BrokenChain,
@@ -31,13 +31,14 @@ pub enum Refusal {
     Header,
     /// 12: the name is not usable.
     UnusableName,
-    /// 13: the kind asked for or found is not carried.
-    NotCarried,
+    /// 13: the kind asked for or found is not one that this call takes.
+    WrongKind,
     /// 14: start page above 31, or offset outside 32,768 to 49,151.
     StartOutside,
-    /// 15: no live slot has the name.
+    /// 15: no live slot has the name, capitals or not.
     NotFound,
-    /// 16: a live slot has the new name.
+    /// 16: a live slot has the new name, capitals or not. A rename may alter the capitals of the file's own name; it is refused
+    /// where another file has the name, or the file itself has it byte for byte.
     NameTaken,
     /// 17: the file is protected.
     Protected,
@@ -49,59 +50,78 @@ pub enum Refusal {
     ShortBuffer,
     /// 21: no such drive, track or sector.
     NoSuchSector,
+    /// 22: carried kind, and the file has more sectors than its length needs. The check before a release alone gives it.
+    WasteSectors,
+    /// 25: a kind of the Spectrum, 1 to 4, and its sectors are too few for the length in its header.
+    BodyTooLong,
     /// A number that this table does not have. No call of today's library gives one.
     Unlisted(u8),
 }
 
-/// The table of document 01, row by row: row 1 is the first.
-const TABLE: [(Refusal, &str); 21] = [
-    (Refusal::ImageLength, "the image is not 819,200 bytes"),
-    (Refusal::UnknownKind, "the kind is not known"),
-    (Refusal::NoFirstNameByte, "the first name byte is 0 (given no more)"),
-    (Refusal::Count, "the count is not 1 to 1,560"),
-    (Refusal::MapCount, "the map's set bits are not as many as the count"),
+/// The table of document 01 with the rows that document 02 adds, by rising number.
+const TABLE: [(u8, Refusal, &str); 23] = [
+    (1, Refusal::ImageLength, "the image is not 819,200 bytes"),
+    (2, Refusal::UnknownKind, "the kind is not known"),
+    (3, Refusal::NoFirstNameByte, "the first name byte is 0 (given no more)"),
+    (4, Refusal::Count, "the count is not 1 to 1,560"),
+    (5, Refusal::MapCount, "the map's set bits are not as many as the count"),
     (
+        6,
         Refusal::FirstAddress,
         "the first address is not a data sector, or its bit is clear",
     ),
-    (Refusal::TooFewSectors, "carried kind, and 510 × count is below 9 + length"),
-    (Refusal::SharedSector, "the map shares a bit with an earlier live slot"),
-    (Refusal::SharedName, "the ten name bytes equal an earlier live slot's"),
-    (Refusal::BrokenChain, "the chain is broken"),
+    (7, Refusal::TooFewSectors, "carried kind, and 510 × count is below 9 + length"),
+    (8, Refusal::SharedSector, "the map shares a bit with an earlier live slot"),
+    (9, Refusal::SharedName, "the name is an earlier live slot's, capitals or not"),
+    (10, Refusal::BrokenChain, "the chain is broken"),
     (
+        11,
         Refusal::Header,
         "carried kind, and the header's first byte (whole), remainder (mod 16,384) or pages differ from the slot's kind, \
          remainder, pages",
     ),
-    (Refusal::UnusableName, "the name is not usable"),
+    (12, Refusal::UnusableName, "the name is not usable"),
     (
-        Refusal::NotCarried,
-        "the kind asked for (save) or found (read, start address) is not carried",
+        13,
+        Refusal::WrongKind,
+        "the kind asked for (save) or found (read, start address) is not one that this call takes",
     ),
     (
+        14,
         Refusal::StartOutside,
         "start page above 31, or offset outside 32,768 to 49,151 (save, start address)",
     ),
-    (Refusal::NotFound, "no live slot has the name"),
-    (Refusal::NameTaken, "a live slot has the new name"),
-    (Refusal::Protected, "protected (erase, rename)"),
+    (15, Refusal::NotFound, "no live slot has the name, capitals or not"),
+    (16, Refusal::NameTaken, "a live slot has the new name, capitals or not"),
+    (17, Refusal::Protected, "protected (erase, rename)"),
     (
+        18,
         Refusal::NoFreeSlot,
         "no slot before the end is erased and there is no end (save)",
     ),
-    (Refusal::NoRoom, "fewer free sectors than the save takes"),
-    (Refusal::ShortBuffer, "a lent output buffer is too short"),
-    (Refusal::NoSuchSector, "no such drive, track or sector"),
+    (19, Refusal::NoRoom, "fewer free sectors than the save takes"),
+    (20, Refusal::ShortBuffer, "a lent output buffer is too short"),
+    (21, Refusal::NoSuchSector, "no such drive, track or sector"),
+    (
+        22,
+        Refusal::WasteSectors,
+        "carried kind, and the count is above the least that its length needs (waste sectors behind the file)",
+    ),
+    (
+        25,
+        Refusal::BodyTooLong,
+        "kind 1 to 4, and 510 × count is below 9 + the length in the header",
+    ),
 ];
 
 impl Refusal {
     /// The refusal with this number; none for 0, which stands for "accepted".
     pub fn from_number(number: u8) -> Option<Refusal> {
-        let row = usize::from(number).checked_sub(1)?;
-        Some(TABLE.get(row).map_or(Refusal::Unlisted(number), |(refusal, _)| *refusal))
+        let row = TABLE.iter().find(|(listed, _, _)| *listed == number);
+        (number != 0).then(|| row.map_or(Refusal::Unlisted(number), |(_, refusal, _)| *refusal))
     }
 
-    /// Document 01's number of this refusal.
+    /// The number of this refusal.
     ///
     /// ```
     /// assert_eq!(varnucht::Refusal::NotFound.number(), 15);
@@ -109,24 +129,22 @@ impl Refusal {
     pub fn number(self) -> u8 {
         match self {
             Refusal::Unlisted(number) => number,
-            listed => TABLE
-                .iter()
-                .zip(1..)
-                .find(|((refusal, _), _)| *refusal == listed)
-                .map_or(0, |(_, number)| number),
+            listed => listed.row().map_or(0, |(number, _, _)| *number),
         }
     }
 
-    /// Document 01's words: when this refusal is given.
+    /// The papers' words: when this refusal is given.
     ///
     /// ```
-    /// assert_eq!(varnucht::Refusal::NotFound.words(), "no live slot has the name");
+    /// assert_eq!(varnucht::Refusal::NotFound.words(), "no live slot has the name, capitals or not");
     /// ```
     pub fn words(self) -> &'static str {
-        TABLE
-            .iter()
-            .find(|(refusal, _)| *refusal == self)
-            .map_or("a refusal that is not in the table", |(_, words)| words)
+        self.row().map_or("a refusal that is not in the table", |(_, _, words)| words)
+    }
+
+    /// Its row of the table.
+    fn row(self) -> Option<&'static (u8, Refusal, &'static str)> {
+        TABLE.iter().find(|(_, refusal, _)| *refusal == self)
     }
 }
 
@@ -163,7 +181,7 @@ impl fmt::Display for Slot {
 /// let refused = disk.read(&Name::new("TUNES")?).unwrap_err();
 /// assert_eq!(refused.refusal.number(), 15);
 /// assert_eq!(refused.slot, None);
-/// assert_eq!(refused.to_string(), "refusal 15: no live slot has the name");
+/// assert_eq!(refused.to_string(), "refusal 15: no live slot has the name, capitals or not");
 /// # Ok::<(), Box<dyn std::error::Error>>(())
 /// ```
 #[derive(Clone, Copy, Debug, PartialEq, Eq, Hash)]

@@ -79,6 +79,23 @@ fn pair_that_ends() -> Image {
     image
 }
 
+/// The pair with a body of so many bytes in slot 2, which has two sectors: by its slot and by its header.
+fn shortened(length: u16) -> Disk {
+    let [low, high] = length.to_le_bytes();
+    let mut image = damaged(&[(240, low), (241, high)]);
+    // ONE has bits 0 and 1, so TWO begins at track 4, sector 3.
+    image.as_bytes_mut()[82 * 512 + 1..][..2].copy_from_slice(&[low, high]);
+    Disk::open(image).expect("it is sound")
+}
+
+/// The pair with a file of the Spectrum in slot 2: its header has this length and this start, and it has two sectors.
+fn spectrum(kind: u8, length: u16, start: u16) -> Image {
+    let mut image = damaged(&[(0, kind)]);
+    let ([low, high], [start_low, start_high]) = (length.to_le_bytes(), start.to_le_bytes());
+    image.as_bytes_mut()[82 * 512..][..9].copy_from_slice(&[9, low, high, start_low, start_high, 9, 9, 9, 9]);
+    image
+}
+
 /// The number, the slot and the words of a refusal.
 fn parts(refused: Refused) -> (u8, u16, String) {
     (

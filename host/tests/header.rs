@@ -14,7 +14,6 @@ mod table;
 use compilers::{BOTH, Folder, Language, build, compile, link, part, root, try_compile};
 use std::fs;
 use std::process::Command;
-use table::TABLE;
 
 /// The parts of the program that checks the header from inside.
 const CHECKS: [&str; 8] = [
@@ -140,11 +139,9 @@ fn the_words_are_the_papers() {
         let lines: Vec<&str> = text.lines().collect();
         assert_eq!(lines.len(), 256);
         assert_eq!(lines[0], "0 accepted");
-        for (number, words) in (1..).zip(TABLE) {
-            assert_eq!(lines[number], format!("{number} {words}"));
-        }
-        for (number, line) in lines.iter().enumerate().skip(22) {
-            assert_eq!(*line, format!("{number} not a number of refusal"));
+        for (number, line) in (1..=255).zip(&lines[1..]) {
+            let words = table::words(number).unwrap_or("not a number of refusal");
+            assert_eq!(*line, format!("{number} {words}"));
         }
     }
 }
@@ -159,7 +156,7 @@ fn the_header_declares_what_raw_declares() {
         raw_text.matches("pub fn ").count(),
         "every function of raw.rs is read"
     );
-    assert_eq!(header.len(), 14);
+    assert_eq!(header.len(), 15);
     assert_eq!(header, raw);
     for call in &header {
         for (at, (name, kind)) in call

@@ -1,4 +1,5 @@
-//! The disks of the benchmark, made by `paper::save` and `paper::erase`; in one the sectors of the file are then shuffled.
+//! The disks of the benchmark, made by `paper::save` and `paper::erase`; in one the sectors of the file are then shuffled, and in
+//! one the last file is made one of the Spectrum.
 
 use crate::geometry::{address, bit_place};
 use crate::random::Random;
@@ -57,6 +58,19 @@ pub fn seventy_eight() -> Disk {
 
 pub fn one() -> Disk {
     made("1 x 795,591", 1, LONGEST, unlike)
+}
+
+/// The disk of one file of the Spectrum, kind 4, with the longest body that its header can say. Eight files of code stand
+/// before it.
+pub fn spectrum() -> Disk {
+    let mut disk = made("9 x 65,535, kind 4", 9, 65_535, unlike);
+    let mut image = disk.image.to_vec();
+    // Slot 9, and the first of its 129 sectors.
+    image[8 * 256] = 4;
+    let header = bit_place(8 * 129);
+    image[header + 1..header + 5].copy_from_slice(&[255, 255, 0, 128]);
+    disk.image = image.into();
+    disk
 }
 
 /// The disk of one file with its sectors in a drawn order: some half of the links lead to the next sector, which a guess

@@ -7,6 +7,7 @@ use paper::Reader;
 /// A call with what it is asked for.
 pub enum Work {
     Check,
+    CheckRelease,
     List,
     /// Reads the disk's last file.
     Read,
@@ -40,9 +41,11 @@ pub fn all() -> Vec<Row> {
     let mut rows = vec![];
     rows.extend([&blank, &three, &three_and_old].map(|disk| row(disk, Work::Check, 0)));
     rows.extend([&eighty, &eighty_alike, &seventy_eight, &one, &scattered].map(|disk| row(disk, Work::Check, 0)));
+    rows.extend([&eighty, &one].map(|disk| row(disk, Work::CheckRelease, 0)));
     rows.extend(disks.map(|disk| row(disk, Work::List, 0)));
     rows.extend(disks.map(|disk| row(disk, Work::Read, if disk.title == blank.title { 15 } else { 0 })));
     rows.push(row(&scattered, Work::Read, 0));
+    rows.push(row(&disks::spectrum(), Work::Read, 0));
     rows.extend(disks.map(|disk| row(disk, Work::Open, if disk.title == blank.title { 15 } else { 0 })));
     for disk in [&one, &scattered] {
         let opened = paper::open(&disk.image, &disk.last).expect("the file is there");
@@ -100,6 +103,7 @@ impl Row {
     pub fn call(&self) -> String {
         match &self.work {
             Work::Check => "check".into(),
+            Work::CheckRelease => "release check".into(),
             Work::List => "list".into(),
             Work::Read => "read".into(),
             Work::Open => "open".into(),
@@ -117,7 +121,7 @@ impl Row {
     /// How long the lent output buffer is. The list of a change is two bytes for each sector named.
     pub fn buffer_bytes(&self) -> usize {
         match self.work {
-            Work::Check | Work::Open => 0,
+            Work::Check | Work::CheckRelease | Work::Open => 0,
             Work::List => 80 * 258,
             Work::Read | Work::Pieces(..) => LONGEST,
             Work::Save(_) | Work::Erase => LIST_BYTES,
@@ -128,6 +132,7 @@ impl Row {
     pub fn run(&self, side: &Side, image: &mut [u8], buffer: &mut [u8]) -> u64 {
         match &self.work {
             Work::Check => (side.check)(image),
+            Work::CheckRelease => (side.check_release)(image),
             Work::List => (side.list)(image, buffer),
             Work::Read => (side.read)(image, &self.disk.last, buffer),
             Work::Open => (side.open)(image, &self.disk.last),

@@ -8,6 +8,7 @@ use varnucht::calls;
 #[derive(Clone, Copy)]
 pub struct Side {
     pub check: fn(&[u8]) -> u64,
+    pub check_release: fn(&[u8]) -> u64,
     pub list: fn(&[u8], &mut [u8]) -> u64,
     pub read: fn(&[u8], &[u8], &mut [u8]) -> u64,
     pub open: fn(&[u8], &[u8]) -> u64,
@@ -20,6 +21,7 @@ pub struct Side {
 pub fn ours() -> Side {
     black_box(Side {
         check: |image| calls::check(image).number(),
+        check_release: |image| calls::check_release(image).number(),
         list: |image, out| calls::list(image, out).number(),
         read: |image, name, out| calls::read(image, name, out).number(),
         open: |image, name| calls::open(image, name).number(),
@@ -33,6 +35,7 @@ pub fn ours() -> Side {
 pub fn theirs() -> Side {
     black_box(Side {
         check: |image| word(paper::check(image), |()| (0, 0)),
+        check_release: |image| word(paper::check_release(image), |()| (0, 0)),
         list: |image, out| word(paper::list(image, out), |listed| (listed.files, listed.free)),
         read: |image, name, out| word(paper::read(image, name, out), |length| (length, 0)),
         open: |image, name| match paper::open(image, name) {

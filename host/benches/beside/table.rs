@@ -7,7 +7,7 @@ use std::time::Duration;
 pub fn print_head(timer: Duration) {
     println!("The proved library (ours) beside document 01 in plain Rust (paper), both built for release, in one process.");
     println!("Microseconds for one call; ratio: ours / paper. The sides take turns; a round is at least 100 us of calls.");
-    println!("check, list, read, open, pieces and refused calls: many calls between two looks at the clock.");
+    println!("both checks, list, read, open, pieces and refused calls: many calls between two looks at the clock.");
     println!("pieces: a whole body by next, so many bytes to a call, laid end to end; it was opened before, untimed.");
     println!(
         "save and erase that are accepted: every call timed alone, less {} ns, the cost of an empty timed",
@@ -16,15 +16,17 @@ pub fn print_head(timer: Duration) {
     println!("region; the changed sectors are put back after each call, untimed.");
     println!("No buffer is cleared between calls, and both sides use the same image and buffer: the caches are warm.");
     println!(
-        "read, open and erase take the last file. Files have kind 19 and names of ten bytes that differ in the first byte;"
+        "read, open and erase take the last file. Files have kind 19, but the last of a disk 'kind 4', and names of ten bytes"
     );
     println!(
-        "with 'names alike' they differ in the tenth byte alone. 'less one', 'erased': the last file was erased before,"
+        "that differ in the first byte; with 'names alike' in the tenth alone. 'less one', 'erased': the last file was erased"
     );
-    println!("so the save takes its slot and sectors. 'old slots': behind its end the directory is full of old bytes.");
+    println!(
+        "before, so the save takes its slot and sectors. 'old slots': behind its end the directory is full of old bytes."
+    );
     println!();
     println!(
-        "{:<12} {:<22} {:<10} {:>10} {:>10} {:>10} {:>10} {:>7} {:>7} {:>6}",
+        "{:<13} {:<22} {:<10} {:>10} {:>10} {:>10} {:>10} {:>7} {:>7} {:>6}",
         "call", "disk", "answer", "ours best", "median", "paper best", "median", "ratio", "median", "rounds"
     );
 }
@@ -37,7 +39,7 @@ pub fn print_row(row: &Row, measured: &Measured) {
     };
     let (ours, theirs) = (&measured.ours, &measured.theirs);
     println!(
-        "{:<12} {:<22} {:<10} {:>10.3} {:>10.3} {:>10.3} {:>10.3} {:>7.2} {:>7.2} {:>6}",
+        "{:<13} {:<22} {:<10} {:>10.3} {:>10.3} {:>10.3} {:>10.3} {:>7.2} {:>7.2} {:>6}",
         row.call(),
         row.disk.title,
         answer,

@@ -1,10 +1,11 @@
 //! The calls that change no image.
 
-use crate::check::survey;
+use crate::check::{Purpose, survey, survey_for};
 use crate::geometry::{Address, Image, PAYLOAD_BYTES, SECTOR_BYTES, SLOT_BYTES, Sector, sector as sector_of, whole};
 use crate::name::asked;
 use crate::refusal::{Reason, Refused};
 use crate::slot::{HEADER_BYTES, Slot, find, live_slots};
+use crate::spectrum::PlusD;
 
 /// The bytes of a listing for each live slot: the slot's number in two, then the slot.
 const ENTRY_BYTES: usize = 2 + SLOT_BYTES;
@@ -18,6 +19,11 @@ pub struct Listed {
 
 pub fn check(image: &[u8]) -> Result<(), Refused> {
     survey(whole(image)?).map(|_| ())
+}
+
+/// The check before a release: it refuses waste sectors behind a file of a carried kind too.
+pub fn check_release(image: &[u8]) -> Result<(), Refused> {
+    survey_for(whole(image)?, Purpose::Release).map(|_| ())
 }
 
 /// Fills the buffer with every live slot, hidden ones too.
@@ -40,8 +46,7 @@ pub fn list(image: &[u8], out: &mut [u8]) -> Result<Listed, Refused> {
 /// Copies a file's body to the front of the buffer and answers its length.
 pub fn read(image: &[u8], name: &[u8], out: &mut [u8]) -> Result<usize, Refused> {
     let image = whole(image)?;
-    let slot = carried(image, name)?;
-    let length = slot.length();
+    let (slot, length) = readable(image, name)?;
     let mut rest = out.get_mut(..length).ok_or(Reason::BufferTooShort.alone())?;
     let mut skip = HEADER_BYTES;
     for sector in chain(image, slot.first()) {
@@ -56,8 +61,13 @@ pub fn read(image: &[u8], name: &[u8], out: &mut [u8]) -> Result<usize, Refused>
     Ok(length)
 }
 
+/// A file's start: of a carried kind the address that its slot gives, of a Spectrum kind what its header says.
 pub fn start(image: &[u8], name: &[u8]) -> Result<u32, Refused> {
-    let slot = carried(whole(image)?, name)?;
+    let image = whole(image)?;
+    let (slot, _) = readable(image, name)?;
+    if let Some(header) = PlusD::of(image, &slot) {
+        return Ok(header.start());
+    }
     start_address(slot.page().into(), slot.offset().into()).ok_or(Reason::AddressOutOfRange.at(slot.number))
 }
 
@@ -89,13 +99,13 @@ pub fn found<'a>(image: &'a Image, name: &[u8]) -> Result<Slot<'a>, Refused> {
     find(image, &name).ok_or(Reason::NoSuchName.alone())
 }
 
-/// The same, with the demand that its kind is carried.
-pub fn carried<'a>(image: &'a Image, name: &[u8]) -> Result<Slot<'a>, Refused> {
+/// The same with the length of its body, with the demand that its kind has one: the carried kinds and those of the Spectrum.
+pub fn readable<'a>(image: &'a Image, name: &[u8]) -> Result<(Slot<'a>, usize), Refused> {
     let slot = found(image, name)?;
-    if slot.is_carried() {
-        Ok(slot)
-    } else {
-        Err(Reason::KindNotCarried.at(slot.number))
+    match PlusD::of(image, &slot) {
+        Some(header) => Ok((slot, header.length())),
+        None if slot.is_carried() => Ok((slot, slot.length())),
+        None => Err(Reason::WrongKind.at(slot.number)),
     }
 }
 

@@ -21,7 +21,7 @@ pub fn erase(image: &mut [u8], name: &[u8], list: &mut [u8]) -> Result<usize, Re
     Ok(1)
 }
 
-/// Changes the ten name bytes.
+/// Changes the ten name bytes. The file's own name in other letters is accepted; its own bytes are not, nor is another's name.
 pub fn rename(image: &mut [u8], name: &[u8], new: &[u8], list: &mut [u8]) -> Result<usize, Refused> {
     let image = whole_mut(image)?;
     survey(image)?;
@@ -29,7 +29,9 @@ pub fn rename(image: &mut [u8], name: &[u8], new: &[u8], list: &mut [u8]) -> Res
         return Err(Reason::NameNotUsable.alone());
     };
     let slot = find(image, &name).ok_or(Reason::NoSuchName.alone())?;
-    if let Some(taken) = find(image, &new) {
+    if let Some(taken) = find(image, &new)
+        && (taken.number != slot.number || *slot.name() == new)
+    {
         return Err(Reason::NameTaken.at(taken.number));
     }
     if slot.is_protected() {

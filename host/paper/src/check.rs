@@ -1,10 +1,21 @@
-//! The check of a disk: refusals 2 and 4 to 11. Every call but the raw sector begins with it.
+//! The check of a disk: refusals 2, 4 to 11 and 25. Every call but the raw sector begins with it. The check before a release
+//! has one row more, 22.
 
 use crate::geometry::{Address, DATA_SECTORS, Image, PAYLOAD_BYTES, SLOTS, sector};
 use crate::map::Map;
-use crate::name::Name;
+use crate::name::{Name, folded};
 use crate::refusal::{Reason, Refused};
-use crate::slot::{HEADER_BYTES, Slot, live_slots, remainder};
+use crate::slot::{HEADER_BYTES, Slot, live_slots, remainder, sectors_for};
+use crate::spectrum::PlusD;
+
+/// Which check is made.
+#[derive(Clone, Copy, PartialEq, Eq)]
+pub enum Purpose {
+    /// The one that every call begins with.
+    Use,
+    /// The one before a compilation goes out: it refuses waste sectors too.
+    Release,
+}
 
 /// What the check learns of the live slots.
 pub struct Survey {
@@ -13,7 +24,7 @@ pub struct Survey {
     /// Every data sector that a live slot has.
     pub used: Map,
     used_count: usize,
-    /// The names of the live slots, in front.
+    /// The names of the live slots, in front, each with its letters as capitals.
     names: [Name; SLOTS as usize],
 }
 
@@ -30,9 +41,10 @@ impl Survey {
         DATA_SECTORS - self.used_count
     }
 
-    /// Joins in a slot, or says the lowest of 2 and 4 to 9 that it gives beside the slots before it.
-    fn join(&mut self, slot: &Slot) -> Result<(), Reason> {
-        let (name, count) = (slot.name(), slot.count());
+    /// Joins in a slot, or says the first of 2 and 4 to 9 that it gives beside the slots before it; before a release 22 stands
+    /// directly after 7.
+    fn join(&mut self, slot: &Slot, purpose: Purpose) -> Result<(), Reason> {
+        let count = slot.count();
         own_rules(slot)?;
         let map = slot.map();
         if map.count() != count {
@@ -44,15 +56,19 @@ impl Survey {
         if slot.is_carried() && PAYLOAD_BYTES * count < HEADER_BYTES + slot.length() {
             return Err(Reason::TooFewSectors);
         }
+        if purpose == Purpose::Release && slot.is_carried() && count > sectors_for(slot.length()) {
+            return Err(Reason::WasteSectors);
+        }
         if self.used.meets(&map) {
             return Err(Reason::MapShared);
         }
-        if self.names[..self.files].contains(name) {
+        let name = folded(slot.name());
+        if self.names[..self.files].contains(&name) {
             return Err(Reason::NameTwice);
         }
         self.used.join(&map);
         self.used_count += count;
-        self.names[self.files] = *name;
+        self.names[self.files] = name;
         self.files += 1;
         Ok(())
     }
@@ -69,31 +85,39 @@ fn own_rules(slot: &Slot) -> Result<(), Reason> {
     Ok(())
 }
 
-/// The whole check: the directory first, then every chain.
+/// The check that every call begins with.
 pub fn survey(image: &Image) -> Result<Survey, Refused> {
-    let survey = directory(image)?;
+    survey_for(image, Purpose::Use)
+}
+
+/// The whole check: the directory first, then every chain.
+pub fn survey_for(image: &Image, purpose: Purpose) -> Result<Survey, Refused> {
+    let survey = directory(image, purpose)?;
     for slot in live_slots(image) {
         file(image, &slot).map_err(|reason| reason.at(slot.number))?;
     }
     Ok(survey)
 }
 
-/// Refusals 2 and 4 to 9.
-pub fn directory(image: &Image) -> Result<Survey, Refused> {
+/// Refusals 2 and 4 to 9, and 22 before a release.
+fn directory(image: &Image, purpose: Purpose) -> Result<Survey, Refused> {
     let mut survey = Survey::EMPTY;
     for slot in live_slots(image) {
-        survey.join(&slot).map_err(|reason| reason.at(slot.number))?;
+        survey.join(&slot, purpose).map_err(|reason| reason.at(slot.number))?;
     }
     Ok(survey)
 }
 
-/// Refusals 10 and 11.
+/// Refusals 10, 11 and 25.
 fn file(image: &Image, slot: &Slot) -> Result<(), Reason> {
     if !chain_holds(image, slot) {
         return Err(Reason::ChainBroken);
     }
     if slot.is_carried() && !header_agrees(image, slot) {
         return Err(Reason::HeaderDiffers);
+    }
+    if PlusD::of(image, slot).is_some_and(|header| PAYLOAD_BYTES * slot.count() < HEADER_BYTES + header.length()) {
+        return Err(Reason::BodyTooLong);
     }
     Ok(())
 }
@@ -161,12 +185,13 @@ mod tests {
         let mut image = case_l();
         for byte_0 in [0, 16, 63] {
             put(&mut image, 2, 0, &[byte_0]);
-            let survey = directory(whole(&image).expect("a whole image")).unwrap_or_else(|refused| panic!("{refused:?}"));
+            let whole = whole(&image).expect("a whole image");
+            let survey = directory(whole, Purpose::Use).unwrap_or_else(|refused| panic!("{refused:?}"));
             assert_eq!((survey.files, survey.free(), survey.used.count()), (1, 1_540, 20));
         }
         let image = case_l_read_on();
         let image = whole(&image).expect("a whole image");
-        let survey = directory(image).unwrap_or_else(|refused| panic!("{refused:?}"));
+        let survey = directory(image, Purpose::Use).unwrap_or_else(|refused| panic!("{refused:?}"));
         assert_eq!((survey.files, survey.free(), survey.used.count()), (2, 1_538, 22));
         assert_eq!(super::survey(image).err(), Some(Reason::ChainBroken.at(1)));
     }
@@ -175,7 +200,7 @@ mod tests {
     fn with(slot: u8, at: usize, bytes: &[u8]) -> Option<Refused> {
         let mut image = case_l_read_on();
         put(&mut image, slot, at, bytes);
-        directory(whole(&image).expect("a whole image")).err()
+        directory(whole(&image).expect("a whole image"), Purpose::Use).err()
     }
 
     #[test]
@@ -199,5 +224,7 @@ mod tests {
         assert_eq!(with(3, MAP_AT + 2, &[24]), Some(Reason::MapShared.at(3)));
         assert_eq!(with(3, NAME_AT, b"SAMDOS2   "), Some(Reason::NameTwice.at(3)));
         assert_eq!(with(1, NAME_AT, b"TUNES     "), Some(Reason::NameTwice.at(3)));
+        assert_eq!(with(1, NAME_AT, b"tunes     "), Some(Reason::NameTwice.at(3)));
+        assert_eq!(with(3, NAME_AT, b"SamDos2   "), Some(Reason::NameTwice.at(3)));
     }
 }

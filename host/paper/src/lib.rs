@@ -1,14 +1,15 @@
-//! Document 01 in plain Rust, and M-100 and M-103 of document 02, written from the papers alone. The tests and the benchmark
-//! compare the proved library with it.
+//! Document 01 in plain Rust, with M-100, M-102, M-103, M-105 and M-107 of document 02, written from the papers alone. The tests
+//! and the benchmark compare the proved library with it.
 //!
 //! Every call takes any bytes and any numbers. A refused call changes no byte of anything lent.
 //!
 //! - `geometry`: sides, tracks, sectors, map bits, slot places
 //! - `map`: the 1,560 bits of a slot's map or of the used map
-//! - `name`: names asked for and new names
+//! - `name`: names asked for and new names, and when two are the same
 //! - `slot`: what the 256 bytes of a directory slot say, and where the directory ends
-//! - `check`: refusals 1 to 11
-//! - `calls`: check, list, read, start address, raw sector
+//! - `spectrum`: the header of kinds 1 to 4
+//! - `check`: refusals 1, 2, 4 to 11 and 25, and 22 before a release
+//! - `calls`: the two checks, list, read, start address, raw sector
 //! - `pieces`: a file's body a piece at a time
 //! - `save`: the change that takes slots and sectors
 //! - `changes`: the changes of one directory byte or name
@@ -24,8 +25,9 @@ mod pieces;
 mod refusal;
 mod save;
 mod slot;
+mod spectrum;
 
-pub use calls::{Listed, check, list, read, sector, start};
+pub use calls::{Listed, check, check_release, list, read, sector, start};
 pub use changes::{erase, hide, protect, release, rename, show};
 pub use pieces::{Reader, next, open};
 pub use refusal::Refused;

@@ -16,6 +16,14 @@ pub fn fresh(given: &[u8]) -> Option<Name> {
     asked(given).filter(|name| printable && name[0] != b' ')
 }
 
+/// The name with A to Z for a to z. Two names are the same where these are equal; what a slot stores stays as typed.
+pub fn folded(name: &Name) -> Name {
+    name.map(|byte| match byte {
+        b'a'..=b'z' => byte - b'a' + b'A',
+        other => other,
+    })
+}
+
 #[cfg(test)]
 mod tests {
     use super::*;
@@ -28,6 +36,19 @@ mod tests {
         for refused in [&b""[..], b"\x00", b"\x00A", b"ABCDEFGHIJK"] {
             assert_eq!(asked(refused), None);
         }
+    }
+
+    /// Letters are a to z and A to Z, and nothing else: not their neighbours, and no letter of another alphabet.
+    #[test]
+    fn letters() {
+        for byte in 0..=255 {
+            let capital = match byte {
+                97..=122 => byte - 32,
+                other => other,
+            };
+            assert_eq!(folded(&[byte; 10]), [capital; 10]);
+        }
+        assert_eq!(folded(b"@AZ[`az{\xc1\xe1"), *b"@AZ[`AZ{\xc1\xe1");
     }
 
     #[test]

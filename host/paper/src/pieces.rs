@@ -1,6 +1,6 @@
 //! Document 02, M-100: a file's body a piece at a time.
 
-use crate::calls::carried;
+use crate::calls::readable;
 use crate::geometry::{Address, DATA_SECTORS, Image, PAYLOAD_BYTES, sector, whole};
 use crate::refusal::Refused;
 use crate::slot::HEADER_BYTES;
@@ -22,12 +22,12 @@ pub struct Reader {
 
 /// A reader at the first byte of a file's body.
 pub fn open(image: &[u8], name: &[u8]) -> Result<Reader, Refused> {
-    let slot = carried(whole(image)?, name)?;
+    let (slot, length) = readable(whole(image)?, name)?;
     let first = slot.first().number();
     Ok(Reader {
         sector: first.map_or(NO_SECTOR, |number| number as u32),
         offset: HEADER_BYTES as u32,
-        left: slot.length() as u32,
+        left: length as u32,
     })
 }
 

@@ -23,7 +23,7 @@ pub enum Reason {
     ChainBroken = 10,
     HeaderDiffers = 11,
     NameNotUsable = 12,
-    KindNotCarried = 13,
+    WrongKind = 13,
     AddressOutOfRange = 14,
     NoSuchName = 15,
     NameTaken = 16,
@@ -32,6 +32,8 @@ pub enum Reason {
     DiskFull = 19,
     BufferTooShort = 20,
     NoSuchSector = 21,
+    WasteSectors = 22,
+    BodyTooLong = 25,
 }
 
 impl Reason {

@@ -6,7 +6,7 @@ use crate::geometry::{Address, Image, PAYLOAD_BYTES, SECTOR_BYTES, SLOT_BYTES, S
 use crate::map::Map;
 use crate::name::{Name, fresh};
 use crate::refusal::{Reason, Refused};
-use crate::slot::{self, HEADER_BYTES, PAGE_BYTES, Slot, find, free_slot, is_carried, slots};
+use crate::slot::{self, HEADER_BYTES, PAGE_BYTES, Slot, find, free_slot, is_carried, sectors_for, slots};
 
 /// What a save asks for.
 #[derive(Clone, Copy, Debug)]
@@ -27,7 +27,7 @@ pub fn save(image: &mut [u8], wish: &Wish, list: &mut [u8]) -> Result<usize, Ref
     let survey = survey(image)?;
     let name = fresh(wish.name).ok_or(Reason::NameNotUsable.alone())?;
     if !is_carried(wish.kind) {
-        return Err(Reason::KindNotCarried.alone());
+        return Err(Reason::WrongKind.alone());
     }
     if start_address(wish.page, wish.offset).is_none() {
         return Err(Reason::AddressOutOfRange.alone());
@@ -71,11 +71,6 @@ fn directory_sectors(slot: u8, cleared: Option<u8>) -> impl Iterator<Item = usiz
     let saved = slot_place(slot) / SECTOR_BYTES;
     let before = cleared.map(|next| slot_place(next) / SECTOR_BYTES);
     before.filter(|sector| *sector != saved).into_iter().chain([saved])
-}
-
-/// How many sectors a body of this length takes with its header.
-fn sectors_for(length: usize) -> usize {
-    (HEADER_BYTES + length).div_ceil(PAYLOAD_BYTES)
 }
 
 /// A sector number as the list has it.
@@ -162,16 +157,4 @@ fn write_slot(image: &mut Image, number: u8, wish: &Wish, name: &Name, map: &Map
 /// The first bytes, up to a number of them.
 fn at_most(bytes: &[u8], most: usize) -> &[u8] {
     &bytes[..bytes.len().min(most)]
-}
-
-#[cfg(test)]
-mod tests {
-    use super::*;
-
-    #[test]
-    fn the_papers_sector_counts() {
-        for (length, sectors) in [(0, 1), (501, 1), (502, 2), (10_000, 20), (795_591, 1_560), (795_592, 1_561)] {
-            assert_eq!(sectors_for(length), sectors);
-        }
-    }
 }

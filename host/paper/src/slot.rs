@@ -1,8 +1,8 @@
 //! What the 256 bytes of a directory slot say.
 
-use crate::geometry::{Address, Image, SLOT_BYTES, SLOTS, slot_place};
+use crate::geometry::{Address, Image, PAYLOAD_BYTES, SLOT_BYTES, SLOTS, slot_place};
 use crate::map::{MAP_BYTES, Map};
-use crate::name::Name;
+use crate::name::{Name, folded};
 
 pub const HIDDEN: u8 = 0x80;
 pub const PROTECTED: u8 = 0x40;
@@ -23,6 +23,11 @@ pub const HEADER_BYTES: usize = 9;
 
 /// A page of memory: lengths are pages and a remainder.
 pub const PAGE_BYTES: usize = 16_384;
+
+/// How many sectors a body of this length takes with its header: the least n with 510 × n ≥ 9 + length.
+pub fn sectors_for(length: usize) -> usize {
+    (HEADER_BYTES + length).div_ceil(PAYLOAD_BYTES)
+}
 
 /// The kinds whose length and body this paper carries.
 pub fn is_carried(kind: u32) -> bool {
@@ -58,9 +63,10 @@ pub fn free_slot(image: &Image) -> Option<Slot<'_>> {
     slots(image).find(|slot| slot.is_erased() || slot.ends_directory())
 }
 
-/// The live slot of that name. A checked disk has one at most.
+/// The live slot of that name, capitals or not. A checked disk has one at most.
 pub fn find<'a>(image: &'a Image, name: &Name) -> Option<Slot<'a>> {
-    live_slots(image).find(|slot| slot.name() == name)
+    let name = folded(name);
+    live_slots(image).find(|slot| folded(slot.name()) == name)
 }
 
 impl<'a> Slot<'a> {
@@ -155,6 +161,13 @@ mod tests {
         assert_eq!((slot.kind(), slot.count(), slot.page(), slot.offset()), (19, 300, 29, 32_768));
         assert_eq!((slot.length(), slot.remainder()), (16_384, 0));
         assert!(!slot.is_erased() && slot.is_protected() && slot.is_carried());
+    }
+
+    #[test]
+    fn the_papers_sector_counts() {
+        for (length, sectors) in [(0, 1), (501, 1), (502, 2), (10_000, 20), (795_591, 1_560), (795_592, 1_561)] {
+            assert_eq!(sectors_for(length), sectors);
+        }
     }
 
     #[test]

@@ -221,6 +221,45 @@ fn rename_refuses_in_order() {
     tried(b"A", b"C", 20, 0);
 }
 
+/// A rename may alter the case of a file's own name alone; both spellings then find the file.
+#[test]
+fn rename_in_other_letters() {
+    let mut image = blank();
+    put(&mut image, b"Tunes 1", 900);
+    put(&mut image, b"SONGS", 0);
+    let mut list = [7; 3];
+    for (name, new) in [
+        (&b"TUNES 1"[..], &b"tunes 1"[..]),
+        (b"tUNES 1", b"TUNES 1"),
+        (b"tunes 1", b"Tunes 1"),
+    ] {
+        let mut expected = image.clone();
+        expected[1..8].copy_from_slice(new);
+        assert_eq!(paper::rename(&mut image, name, new, &mut list), Ok(1));
+        assert_eq!((&image, list), (&expected, [0, 0, 7]));
+        assert_eq!(paper::start(&image, name), Ok(491_520));
+        assert_eq!(paper::start(&image, new), Ok(491_520));
+        assert_eq!(paper::check(&image), Ok(()));
+    }
+    let old = image.clone();
+    let mut tried = |name: &[u8], new: &[u8], number, slot| {
+        assert_eq!(paper::rename(&mut image, name, new, &mut list), refused(number, slot));
+        assert_eq!((&image, list), (&old, [0, 0, 7]));
+    };
+    tried(b"tunes 1", b"Tunes 1", 16, 1);
+    tried(b"TUNES 1", b"Tunes 1   ", 16, 1);
+    tried(b"tunes 1", b"songs", 16, 2);
+    tried(b"songs", b"TUNES 1", 16, 1);
+    tried(b"songs", b"SONGS", 16, 2);
+    assert_eq!(paper::save(&mut image, &wish(b"Songs", &[]), &mut [0; 4]), refused(16, 2));
+    // A protected file keeps its name, in whatever letters.
+    paper::protect(&mut image, b"sONGS", &mut list).expect("it is there");
+    assert_eq!(paper::rename(&mut image, b"songs", b"songs", &mut list), refused(17, 2));
+    assert_eq!(paper::rename(&mut image, b"songs", b"SONGS", &mut list), refused(16, 2));
+    assert_eq!(paper::erase(&mut image, b"TUNES 1", &mut list), Ok(1));
+    assert_eq!(paper::read(&image, b"Tunes 1", &mut [0; 900]), refused(15, 0));
+}
+
 #[test]
 fn erase_and_marks_refuse_in_order() {
     let mut image = blank();

@@ -1,13 +1,60 @@
-//! `check`: whether a disk is sound.
-use super::failure::{Failure, Outcome};
-use super::output;
-use super::source;
+//! `check`: whether disks are sound, and fit to go out.
+use super::failure::{Failure, Outcome, Reason};
+use super::output::{self, counted};
+use super::source::{self, STANDARD};
 use super::words::Given;
+use std::ffi::OsStr;
+use varnucht::{Disk, Image, Refusal, Refused};
 
-/// Prints `accepted`, or fails with the refusal.
+/// Prints `accepted`, or fails with the refusal. Of several images each gets its line, and the worst status is given.
 pub fn run(given: &Given) -> Outcome {
-    source::image(given)?
-        .check()
-        .map_err(|refused| Failure::unsound(given.word(0), refused))?;
-    output::print("accepted\n")
+    let paths = given.words();
+    if paths.iter().filter(|path| *path == STANDARD).count() > 1 {
+        return Err(given.usage("standard input can be read once"));
+    }
+    if let [path] = paths {
+        check(given, path)?;
+        return output::print("accepted\n");
+    }
+    let mut worst = 0;
+    for path in paths {
+        match check(given, path) {
+            Ok(()) => output::print(format!("{}: accepted\n", output::shown_file(path)))?,
+            Err(failure) => {
+                worst = worst.max(failure.status());
+                failure.words().iter().for_each(|words| output::say(words));
+            }
+        }
+    }
+    if worst == 0 { Ok(()) } else { Err(Failure::Said(worst)) }
+}
+
+/// Checks one image, by the check that is asked for.
+fn check(given: &Given, path: &OsStr) -> Outcome {
+    let image = source::image_at(given, path)?;
+    let checked = match given.has("--release") {
+        true => image.check_release(),
+        false => image.check(),
+    };
+    checked.map_err(|refused| Failure::unsound(path, explained(image, refused)))
+}
+
+/// A refusal; of waste sectors it says too whose they are, where the disk can be listed.
+fn explained(image: Image, refused: Refused) -> Reason {
+    let more = match refused.refusal {
+        Refusal::WasteSectors => Disk::open(image).ok().and_then(|disk| wasted(&disk, refused)),
+        _ => None,
+    };
+    Reason { refused, more }
+}
+
+/// How many sectors the refused file has, and how many it needs.
+fn wasted(disk: &Disk, refused: Refused) -> Option<String> {
+    let entry = disk
+        .listing()
+        .entries()
+        .iter()
+        .find(|entry| Some(entry.slot()) == refused.slot)?;
+    let has = counted(entry.sector_count().into(), "sector");
+    Some(format!("{} has {has} and needs {}", entry.name(), entry.least_sectors()?))
 }

@@ -59,6 +59,11 @@ const DRY_RUN: Choice = flag(
 order, and write nothing; then IMAGE may be `-`,
 standard input",
 );
+const RELEASE: Choice = flag(
+    &["--release"],
+    "refuse waste sectors too: more sectors behind a file
+than its length needs (kinds 16 to 20)",
+);
 const COLOR: Choice = valued(
     &["--color"],
     "WHEN",
@@ -92,9 +97,9 @@ it is loaded)",
 const INFO: Choice = valued(&["--info"], "HEX", "up to 11 bytes of kind information (all zero)");
 
 /// What is said of names wherever a command takes one.
-const NAMES: &str = r"A name has 1 to 10 bytes. `\xHH` stands for the byte with that hexadecimal
-number and `\\` for a backslash, as `list` prints them. Before a name that
-begins with `-` write `--`.";
+const NAMES: &str = r"A name has 1 to 10 bytes; capitals or not, it is the same name. `\xHH` stands
+for the byte with that hexadecimal number and `\\` for a backslash, as `list`
+prints them. Before a name that begins with `-` write `--`.";
 
 /// What is said of every change.
 const SAFE: &str = "The sectors are written in the order that keeps the disk sound, each flushed
@@ -136,12 +141,14 @@ const fn on_name(name: &'static str, brief: &'static str, run: fn(&Given) -> Out
 pub const COMMANDS: &[Command] = &[
     Command {
         name: "check",
-        places: &["IMAGE"],
-        options: &[&NO_WAIT],
-        brief: "tell whether a disk is sound",
+        places: &["IMAGE..."],
+        options: &[&RELEASE, &NO_WAIT],
+        brief: "tell whether a disk is sound, and fit to go out",
         more: &[
-            "Prints `accepted`, or says which slot is wrong and why. The directory ends at
-its first slot without a name, and what stands behind is not looked at.",
+            "Prints `accepted`, or says which slot is wrong and why. Of several images
+each gets its line, with its name in front, and the greatest status is given.",
+            "The directory ends at its first slot without a name, and what stands behind is
+not looked at.",
             PIPE,
         ],
         run: check::run,
@@ -153,7 +160,8 @@ its first slot without a name, and what stands behind is not looked at.",
         brief: "list the files, hidden ones too",
         more: &[
             "Marks: `h` hidden, `p` protected. Length and start address are given for the
-kinds that have them, 16 to 20.",
+kinds that have them: 16 to 20, and 1 to 4 of the Spectrum, which can be read
+and not saved.",
             PIPE,
         ],
         run: list::run,
@@ -192,7 +200,7 @@ second. Each file has a sign, and the signs are named below.",
         places: &["IMAGE", "NAME", "NEW"],
         options: &[&DRY_RUN, &NO_WAIT],
         brief: "give a file another name",
-        more: &[SAFE, NAMES],
+        more: &["NEW may be the old name with other capitals.", SAFE, NAMES],
         run: change::rename,
     },
     on_name("hide", "hide a file", change::hide),

@@ -39,6 +39,8 @@ pub enum Failure {
     Write(String, WriteError),
     /// Nobody reads standard output any more. Status 3, and nothing is said.
     Closed,
+    /// Something of several failed, and was said when it did. The greatest status of all.
+    Said(u8),
 }
 
 impl Failure {
@@ -82,6 +84,7 @@ impl Failure {
             Failure::Refused(..) => 1,
             Failure::Usage(..) => 2,
             Failure::Io(..) | Failure::Write(..) | Failure::Closed => 3,
+            Failure::Said(status) => *status,
         }
     }
 
@@ -96,7 +99,7 @@ impl Failure {
             Failure::Usage(words, Some(command)) => Some(format!("{words}\nTry `varnucht help {command}`.")),
             Failure::Io(what, error) => Some(format!("{what}: {error}")),
             Failure::Write(what, error) => Some(format!("{what}: {error}.")),
-            Failure::Closed => None,
+            Failure::Closed | Failure::Said(_) => None,
         }
     }
 }

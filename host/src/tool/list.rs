@@ -3,11 +3,11 @@ use super::failure::Outcome;
 use super::output::{self, counted};
 use super::source;
 use super::words::Given;
-use varnucht::{Entry, Listing};
+use varnucht::{Disk, Entry, Listing};
 
 /// Prints the table.
 pub fn run(given: &Given) -> Outcome {
-    output::print(table(source::disk(given)?.listing()))
+    output::print(table(&source::disk(given)?))
 }
 
 /// The columns, and whether each holds numbers.
@@ -22,27 +22,34 @@ const COLUMNS: [(&str, bool); 7] = [
 ];
 
 /// The table: a header, a line for each file, and what is free.
-fn table(listing: &Listing) -> String {
+fn table(disk: &Disk) -> String {
+    let listing = disk.listing();
     let header = COLUMNS.map(|(name, _)| name.to_string());
-    let rows: Vec<_> = std::iter::once(header).chain(listing.entries().iter().map(row)).collect();
+    let files = listing.entries().iter().map(|entry| row(disk, entry));
+    let rows: Vec<_> = std::iter::once(header).chain(files).collect();
     let widths: [usize; 7] = std::array::from_fn(|column| rows.iter().map(|row| row[column].len()).max().unwrap_or(0));
     let mut text: String = rows.iter().map(|row| line(row, &widths)).collect();
     text.push_str(&summary(listing));
     text
 }
 
-/// What the table says of a file.
-fn row(entry: &Entry) -> [String; 7] {
+/// What the table says of a file. Length and start of a Spectrum file stand in the file itself.
+fn row(disk: &Disk, entry: &Entry) -> [String; 7] {
+    let name = entry.name();
+    let (length, start) = match entry.kind().is_spectrum() {
+        true => (disk.length(&name).ok(), disk.start(&name).ok()),
+        false => (entry.length(), entry.start().map(|start| start.address())),
+    };
     let or_none = |number: Option<u32>| number.map_or("-".to_string(), |number| number.to_string());
     let mark = |set: bool, letter: char| if set { letter } else { '-' };
     [
         entry.slot().to_string(),
         String::from_iter([mark(entry.hidden(), 'h'), mark(entry.protected(), 'p')]),
-        entry.name().to_string(),
+        name.to_string(),
         entry.kind().to_string(),
         entry.sector_count().to_string(),
-        or_none(entry.length()),
-        or_none(entry.start().map(|start| start.address())),
+        or_none(length),
+        or_none(start),
     ]
 }
 

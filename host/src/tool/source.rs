@@ -11,26 +11,30 @@ use std::mem::ManuallyDrop;
 use std::os::unix::fs::MetadataExt;
 use varnucht::{Disk, IMAGE_LENGTH, Image, Refusal, SECTOR_LENGTH, SectorNumber, Store, WrongLength};
 
-/// The image in the file at the first place. The file is locked while it is read, so that no change of another program
-/// comes in between.
+/// The image in the file at the first place.
 pub fn image(given: &Given) -> Result<Image, Failure> {
-    let path = given.word(0);
+    image_at(given, given.word(0))
+}
+
+/// The image in this file of the command line. The file is locked while it is read, so that no change of another program
+/// comes in between.
+pub fn image_at(given: &Given, path: &OsStr) -> Result<Image, Failure> {
     if path == STANDARD {
         // A lock on standard input would be that of whoever opened it, so the file is opened anew for the lock.
         let anew = File::open("/dev/stdin");
         if let Ok(file) = &anew {
-            share(file, given)?;
+            share(file, path, given)?;
         }
         return read(&mut *standard_input()?, path);
     }
     let mut file = File::open(path).map_err(|error| Failure::io(path, error))?;
-    share(&file, given)?;
+    share(&file, path, given)?;
     read(&mut file, path)
 }
 
 /// Locks a file that is read. What cannot be locked can be read all the same.
-fn share(file: &File, given: &Given) -> Outcome {
-    match lock(file, given, false) {
+fn share(file: &File, path: &OsStr, given: &Given) -> Outcome {
+    match lock(file, path, given, false) {
         Err(Failure::Io(_, error)) if error.kind() != ErrorKind::WouldBlock => Ok(()),
         locked => locked,
     }
@@ -66,7 +70,7 @@ pub fn changing(given: &Given) -> Result<(Held, Disk), Failure> {
         path: path.into(),
     };
     let whole = held.length().map_err(failed)? == WHOLE;
-    lock(&held.file, given, true)?;
+    lock(&held.file, path, given, true)?;
     let image = read(&mut held.file, path);
     // A file that was no image from the start is refused as one.
     if whole { held.still_whole() } else { held.still_there() }.map_err(failed)?;
@@ -148,8 +152,7 @@ fn open_to_change(path: &OsStr) -> io::Result<File> {
 }
 
 /// Locks a file, alone or shared. Where another program holds it this waits, and says so, unless it shall not.
-fn lock(file: &File, given: &Given, alone: bool) -> Result<(), Failure> {
-    let path = given.word(0);
+fn lock(file: &File, path: &OsStr, given: &Given, alone: bool) -> Result<(), Failure> {
     let tried = if alone { file.try_lock() } else { file.try_lock_shared() };
     match tried {
         Ok(()) => Ok(()),

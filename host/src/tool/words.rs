@@ -18,6 +18,11 @@ impl Given {
         &self.places[place]
     }
 
+    /// All words, for a command that takes any number of them.
+    pub fn words(&self) -> &[OsString] {
+        &self.places
+    }
+
     /// The value of the choice of this name, if it was given.
     pub fn value(&self, name: &str) -> Option<&OsStr> {
         self.choices
@@ -106,14 +111,18 @@ fn valued(
     }
 }
 
-/// What was given, where it is as many words as the command takes.
+/// What was given, where it is as many words as the command takes, or more of what it takes several of.
 fn counted(given: Given) -> Result<Given, Failure> {
     let (takes, has) = (given.command.places, given.places.len());
-    if takes.len() == has {
+    let several = takes.last().is_some_and(|last| last.ends_with("..."));
+    if takes.len() == has || several && takes.len() < has {
         return Ok(given);
     }
     let words = match takes.get(has) {
-        Some(missing) => format!("`{}` takes {}: {missing} is missing", given.command.name, takes.join(" ")),
+        Some(missing) => {
+            let missing = missing.trim_end_matches("...");
+            format!("`{}` takes {}: {missing} is missing", given.command.name, takes.join(" "))
+        }
         None => format!(
             "`{}` takes {}: `{}` is one too many",
             given.command.name,

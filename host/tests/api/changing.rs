@@ -88,6 +88,23 @@ fn a_file_follows_the_disk_of_memory() {
     assert!(followed.disk.read(&new.name()).unwrap() == body(1_000));
 }
 
+/// A file may be given its own name with other capitals; what is stored is what was given.
+#[test]
+fn a_file_is_renamed_in_its_capitals() {
+    let mut followed = Followed::new(pair(), "capitals");
+    let new = |text: &str| NewName::new(text).unwrap();
+    for (old, given) in [("one", "One"), ("ONE", "one"), ("One", "ONE")] {
+        assert_eq!(followed.change(&Change::Rename(name(old), new(given))), Ok(1));
+        assert_eq!(followed.disk.listing().entries()[0].name().to_string(), given);
+        let again = followed.change(&Change::Rename(name(old), new(given)));
+        assert_eq!(again.map_err(|refused| (parts(refused).0, parts(refused).1)), Err((16, 1)));
+    }
+    let taken = followed.change(&Change::Rename(name("one"), new("two")));
+    assert_eq!(taken.map_err(|refused| (parts(refused).0, parts(refused).1)), Err((16, 2)));
+    let taken = followed.change(&Change::Save(code("Two", b"")));
+    assert_eq!(taken.map_err(|refused| (parts(refused).0, parts(refused).1)), Err((16, 2)));
+}
+
 /// An image in memory that takes so many sectors and then no more.
 struct Failing {
     image: Image,

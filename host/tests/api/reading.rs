@@ -1,6 +1,7 @@
 //! What is saved is read back, and listings say what the library says.
 use super::*;
-use varnucht::{DATA_SECTORS, Drive, Drives, IMAGE_LENGTH, LONGEST_BODY};
+use std::io::Read;
+use varnucht::{DATA_SECTORS, Drive, Drives, IMAGE_LENGTH, Kind, LONGEST_BODY};
 
 #[test]
 fn bodies_of_every_kind_and_length_come_back() {
@@ -138,4 +139,67 @@ fn raw_sectors_are_parts_of_the_chosen_image() {
         }
         assert_eq!(one.sector(track, sector), Ok(one.at(number)));
     }
+}
+
+/// A disk may go out where no file has a sector more than its length needs; every other call takes it all the same.
+#[test]
+fn waste_sectors_are_found_before_a_release() {
+    for (length, waste) in [(0, true), (1, true), (501, true), (502, false), (900, false), (1_011, false)] {
+        let disk = shortened(length);
+        let refused = disk.check_release().map_err(|refused| parts(refused).0);
+        assert_eq!(refused, if waste { Err(22) } else { Ok(()) }, "{length} bytes");
+        assert_eq!(disk.image().check_release(), disk.check_release());
+        let entry = disk.listing().find(&name("TWO")).unwrap();
+        assert_eq!(
+            (entry.sector_count(), entry.least_sectors()),
+            (2, Some(if waste { 1 } else { 2 }))
+        );
+        assert!(
+            disk.read(&name("TWO")).unwrap()[..usize::from(length).min(900)] == body(900)[..usize::from(length).min(900)]
+        );
+        assert_eq!(disk.image().check(), Ok(()));
+    }
+    let strange = Disk::open(damaged(&[(0, 5), (240, 1), (241, 0)])).unwrap();
+    assert_eq!(
+        (strange.check_release(), strange.listing().entries()[1].least_sectors()),
+        (Ok(()), None)
+    );
+    // What the check refuses this one refuses too.
+    assert_eq!(parts(damaged(&[(0, 13)]).check_release().unwrap_err()).0, 2);
+    assert_eq!(blank().check_release(), Ok(()));
+}
+
+/// Kinds 1 to 4: length, start and body by their header; the listing has neither length nor start.
+#[test]
+fn spectrum_files_are_read_by_their_header() {
+    for (kind, length, start) in [
+        (1, 0, 0),
+        (2, 900, 23_755),
+        (3, 1_011, 32_768),
+        (4, 501, 65_535),
+        (4 | 128, 1, 49_152),
+    ] {
+        let disk = Disk::open(spectrum(kind, length, start)).unwrap();
+        let (two, entry) = (name("two"), &disk.listing().entries()[1]);
+        assert!(entry.kind().is_spectrum() && entry.kind().carried().is_none());
+        assert_eq!((entry.length(), entry.start(), entry.least_sectors()), (None, None, None));
+        assert_eq!((disk.length(&two), disk.start(&two)), (Ok(length.into()), Ok(start.into())));
+        let whole = disk.read(&two).unwrap();
+        assert_eq!(whole.len(), usize::from(length));
+        assert!(whole.iter().zip(body(900)).all(|(read, saved)| *read == saved));
+        let (mut reader, mut joined) = (disk.reader(&two).unwrap(), vec![]);
+        assert_eq!(
+            (reader.left(), reader.read_to_end(&mut joined).unwrap()),
+            (whole.len(), whole.len())
+        );
+        assert!(joined == whole);
+        assert_eq!(disk.check_release(), Ok(()));
+    }
+    let carried = pair();
+    assert_eq!(carried.length(&name("ONE")).ok(), carried.listing().entries()[0].length());
+    let strange = Disk::open(damaged(&[(0, 5)])).unwrap();
+    let answers = [strange.length(&name("TWO")), strange.start(&name("TWO"))];
+    assert!(answers.into_iter().all(|answer| parts(answer.unwrap_err()).0 == 13));
+    assert_eq!(parts(strange.length(&name("THREE")).unwrap_err()).0, 15);
+    assert!((0..=255).filter(|kind| Kind::new(*kind).is_spectrum()).eq(1..=4));
 }

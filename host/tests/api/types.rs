@@ -1,6 +1,7 @@
 //! What the types rule out is what the library refuses, no more and no less.
 use super::*;
 use std::collections::HashSet;
+use std::hash::{BuildHasher, BuildHasherDefault, DefaultHasher};
 use varnucht::calls::{self, Wish};
 use varnucht::{Drive, IMAGE_LENGTH, Kind, SECTORS, Sector, Track};
 
@@ -58,6 +59,32 @@ fn new_names() {
         assert_eq!(made, asked, "{name:?}");
     }
     println!("{} new names", names.len());
+}
+
+/// Two names are equal where the library finds a file of the one by the other; then they hash alike and stand at one place in an
+/// order. Their bytes stay as given.
+#[test]
+fn names_that_are_the_same() {
+    let hash = |name: &Name| BuildHasherDefault::<DefaultHasher>::default().hash_one(name);
+    let mut equal = 0;
+    for stored in 33..=126u8 {
+        let mut disk = blank();
+        save(&mut disk, &code(&format!("F{}", char::from(stored)), b"body"));
+        for asked in 0..=255 {
+            let (one, other) = (Name::new([b'F', stored]).unwrap(), Name::new([b'f', asked]).unwrap());
+            let found = disk.start(&other).is_ok();
+            assert_eq!((one == other, one.cmp(&other).is_eq()), (found, found), "{one} and {other}");
+            assert_eq!(disk.listing().find(&other).is_some(), found);
+            assert_eq!(disk.read(&other).ok(), found.then(|| b"body".to_vec()));
+            assert!(!found || hash(&one) == hash(&other), "{one} and {other}");
+            assert_eq!(other.as_bytes()[..2], [b'f', asked]);
+            equal += usize::from(found);
+        }
+    }
+    assert_eq!(equal, 94 + 52, "each byte by itself, and each letter by its partner");
+    let names: HashSet<Name> = ["TUNES", "tunes", "Tunes", "SONGS"].map(name).into();
+    assert_eq!(names.len(), 2);
+    assert_eq!(NewName::new("TUNES"), NewName::new("tunes"));
 }
 
 #[test]

@@ -1,5 +1,5 @@
 //! Every refusal prints its words, and every one of them is met but 3, which is given no more.
-use super::table::TABLE;
+use super::table::{self, TABLE};
 use super::*;
 use std::collections::HashSet;
 use varnucht::{Answer, LONGEST_BODY, Refusal, Track, calls};
@@ -9,26 +9,23 @@ fn every_number_prints_with_and_without_a_slot() {
     for number in 1..=255u8 {
         let refusal = Refusal::from_number(number).expect("0 alone is no refusal");
         assert_eq!(refusal.number(), number);
-        let words = TABLE
-            .get(usize::from(number) - 1)
-            .copied()
-            .unwrap_or("a refusal that is not in the table");
+        let words = table::words(number).unwrap_or("a refusal that is not in the table");
         assert_eq!(refusal.words(), words);
         assert_eq!(Refused::from(refusal).to_string(), format!("refusal {number}: {words}"));
         let at = Answer::from_number(u64::from(number) + 256 * 80).decode().unwrap_err();
         assert_eq!(at.to_string(), format!("refusal {number} at slot 80: {words}"));
     }
     assert_eq!(Refusal::from_number(0), None);
-    let distinct: HashSet<_> = (1..=21).map(|number| Refusal::from_number(number).unwrap()).collect();
-    assert_eq!(distinct.len(), 21);
+    let distinct: HashSet<_> = TABLE.map(|(number, _)| Refusal::from_number(number).unwrap()).into();
+    assert_eq!(distinct.len(), TABLE.len());
 }
 
-/// Each of the 21 refusals but 3, brought about and caught as an error.
+/// Each of the refusals but 3, brought about and caught as an error.
 #[test]
 fn every_refusal_is_met() {
     let mut met = Vec::new();
     for (number, slot, refused) in provoked() {
-        let words = TABLE[usize::from(number) - 1];
+        let words = table::words(number).expect("it has words");
         let at = if slot == 0 {
             String::new()
         } else {
@@ -37,7 +34,8 @@ fn every_refusal_is_met() {
         assert_eq!(parts(refused), (number, slot, format!("refusal {number}{at}: {words}")));
         met.push(number);
     }
-    assert_eq!(met, (1..=21).filter(|&number| number != 3).collect::<Vec<u8>>());
+    let given = TABLE.iter().map(|(number, _)| number).filter(|&&number| number != 3);
+    assert!(met.iter().eq(given), "{met:?}");
 }
 
 /// A refusal of every number, each with the number and the slot that it should have.
@@ -66,6 +64,8 @@ fn provoked() -> Vec<(u8, u16, Refused)> {
         calls::list(pair().image().as_bytes(), &mut [0; 515]).decode().unwrap_err(),
     ));
     all.push((21, 0, Track::new(80).unwrap_err()));
+    all.push((22, 2, shortened(501).check_release().unwrap_err()));
+    all.push((25, 2, Disk::open(spectrum(4, 1_012, 0)).unwrap_err().into()));
     all
 }
 

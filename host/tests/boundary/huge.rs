@@ -60,7 +60,7 @@ fn refusal(role: usize) -> Option<u64> {
 fn accepted(call: Call, disk: &Disk, i: usize) -> Asked {
     let (file, asked) = (&disk.files[i], Asked::new(call));
     match call {
-        Call::Check => asked,
+        Call::Check | Call::CheckRelease => asked,
         Call::List => asked.with(OUT, vec![0x5c; 258 * disk.files.len()]),
         Call::Read => asked.with(NAME, file.name).with(OUT, vec![0x5c; file.body.len()]),
         Call::Open | Call::Start => asked.with(NAME, file.name),

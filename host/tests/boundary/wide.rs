@@ -9,6 +9,7 @@ use crate::support::fields;
 use crate::support::geometry;
 use crate::support::guarded::{Empty, Flush, Guarded, PAGE, Pages};
 use crate::support::random::Random;
+use crate::support::waste;
 
 const WIDE: usize = 1 << 32;
 
@@ -73,8 +74,8 @@ impl Usual {
     }
 }
 
-/// A drawn disk with a free slot, room for three sectors, and a carried file of some length that starts inside the range and
-/// is not protected.
+/// A drawn disk with a free slot, room for three sectors, no waste sectors, and a carried file of some length that starts inside
+/// the range and is not protected.
 pub fn disk() -> (Disk, usize) {
     let fits = |disk: &Disk, i: usize| {
         let slot = disk.slot(disk.files[i].slot);
@@ -83,6 +84,7 @@ pub fn disk() -> (Disk, usize) {
     };
     let drawn = (16_000_000..).map(|seed| disks::draw(&mut Random::new(seed)));
     drawn
+        .filter(|disk| waste::lowest(&disk.image).is_none())
         .filter_map(|disk| (0..disk.files.len()).find(|&i| fits(&disk, i)).map(|i| (disk, i)))
         .next()
         .expect("one is found")

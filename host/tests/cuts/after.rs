@@ -22,7 +22,8 @@ pub fn examine(change: &Change) {
     seen(change);
 }
 
-/// A saved file reads back with the start asked for; an erased one is gone; a renamed one answers to its new name alone.
+/// A saved file reads back with the start asked for; an erased one is gone; a renamed one answers to its new name alone, unless
+/// the old one is the same in other letters.
 fn seen(change: &Change) {
     let slices = &change.asked.slices;
     match change.asked.call {
@@ -39,9 +40,10 @@ fn seen(change: &Change) {
         }
         Call::Erase => assert_eq!(ask(Call::Start, &slices[NAME], 0, &change.new).answer, 15),
         Call::Rename => {
-            assert_eq!(ask(Call::Start, &slices[NAME], 0, &change.new).answer, 15);
             let old = ask(Call::Start, &slices[NAME], 0, change.old).answer;
             assert_eq!(ask(Call::Start, &slices[NEW], 0, &change.new).answer, old);
+            let by_old_name = if change.turns_letters() { old } else { 15 };
+            assert_eq!(ask(Call::Start, &slices[NAME], 0, &change.new).answer, by_old_name);
         }
         _ => {}
     }

@@ -1,5 +1,5 @@
-//! The questions to the old disk and to a cut one: the listing, and body and start address for every live name, for the names
-//! of the change, and for some that are not there.
+//! The questions to the old disk and to a cut one: the listing, whether it may go out, and body and start address for every
+//! live name, for the names of the change, and for some that are not there.
 
 use crate::change::Change;
 use crate::support::asking::{self, Asked};
@@ -60,6 +60,7 @@ fn questions(change: &Change, random: &mut Random) -> Vec<Asked> {
     let all = 258 * facts.live.len();
     let lengths = [all, all + 258, random.below(all + 1)];
     let mut questions: Vec<Asked> = lengths.into_iter().map(|length| listing(length, random)).collect();
+    questions.push(Asked::new(Call::CheckRelease));
     for name in asked_names(change, random) {
         let length = facts.find(&name).map_or(700, |live| live.length);
         let out = if random.one_in(4) {

@@ -7,6 +7,7 @@ use crate::support::facts::{self, Facts, Live};
 use crate::support::fields;
 use crate::support::geometry::{IMAGE, SECTOR, SECTORS, SLOT, SLOTS, bit_place, slot_place};
 use crate::support::margins::Margins;
+use crate::support::names;
 use crate::support::random::Random;
 use crate::support::wishes;
 
@@ -36,7 +37,16 @@ impl Change<'_> {
         if call == Call::Rename {
             asked = asked.with(NEW, wishes::fresh(&facts, random));
         }
+        if call == Call::Rename && random.one_in(3) {
+            asked = in_other_letters(&facts, random).unwrap_or(asked);
+        }
         Some(Change::make(asked, facts, old).expect("nothing speaks against it"))
+    }
+
+    /// Whether it is a rename that alters the case of the file's own name alone.
+    pub fn turns_letters(&self) -> bool {
+        let [_, _, name, new, ..] = &self.asked.slices;
+        self.asked.call == Call::Rename && names::same(&names::filled(name), &names::filled(new))
     }
 
     /// A save of a body of this length.
@@ -145,4 +155,16 @@ impl Change<'_> {
                 .slot,
         )
     }
+}
+
+/// A rename of a file that is not protected to its own name in other letters; none where no file has a name for that.
+fn in_other_letters(facts: &Facts, random: &mut Random) -> Option<Asked> {
+    let usable = |name: &names::Name| name[0] != 32 && name.iter().all(|byte| (32..=126).contains(byte));
+    let fit = |live: &&Live| !live.protected && usable(&live.name) && live.name.iter().any(|&byte| names::is_letter(byte));
+    let names: Vec<_> = facts.live.iter().filter(fit).map(|live| live.name).collect();
+    (!names.is_empty()).then_some(())?;
+    let name = random.pick(&names);
+    let new = std::iter::repeat_with(|| names::turned(name, random)).find(|new| *new != name)?;
+    let asked = Asked::new(Call::Rename).with(NAME, names::turned(name, random));
+    Some(asked.with(NEW, new).with(OUT, random.bytes(5)))
 }

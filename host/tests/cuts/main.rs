@@ -30,6 +30,8 @@ struct Counts {
     changes: [usize; 7],
     /// Saves that clear the slot behind the directory's end: in their slot's sector, and in another.
     clearing: [usize; 2],
+    /// The renames among them that alter the case of the file's own name alone.
+    turned: usize,
     cuts: usize,
     answers: usize,
 }
@@ -49,10 +51,11 @@ fn every_change_cut_anywhere() {
         }
     }
     println!(
-        "{:?}: {:?} changes, {:?} saves that clear a slot in the same sector and in another, {} cuts, {} answers",
-        CHANGES, counts.changes, counts.clearing, counts.cuts, counts.answers
+        "{:?}: {:?} changes, {} renames of case alone, {:?} saves that clear a slot in the same sector and in another, {} cuts, \
+         {} answers",
+        CHANGES, counts.changes, counts.turned, counts.clearing, counts.cuts, counts.answers
     );
-    let mut all = counts.changes.iter().chain(&counts.clearing);
+    let mut all = counts.changes.iter().chain(&counts.clearing).chain([&counts.turned]);
     assert!(
         !rounds.enough() || all.all(|&changes| changes >= 20),
         "too few changes were accepted"
@@ -91,6 +94,7 @@ fn ending(end: usize) -> Shape {
         end: Some(end),
         order: Order::Scattered,
         ground: Ground::Rubbish,
+        tidy: false,
     }
 }
 
@@ -132,6 +136,7 @@ fn cut(change: &Change, counts: &mut Counts, random: &mut Random) {
     }
     let sort = CHANGES.iter().position(|&call| call == change.asked.call).expect("a change");
     counts.changes[sort] += 1;
+    counts.turned += usize::from(change.turns_letters());
 }
 
 /// None, the first, all but the last two, all but the last, all, and some between.

@@ -52,7 +52,7 @@ fn read(disk: &Disk, file: &File, lender: &mut Margins) {
         &Request::new(Call::Read, &disk.image).with(NAME, &file.name).with(OUT, &out),
         lender,
     );
-    if !fields::is_carried(file.kind) {
+    if !fields::is_readable(file.kind) {
         return assert_eq!((calls::refusal(left.answer), calls::slot(left.answer)), (13, file.slot));
     }
     assert_eq!((calls::refusal(left.answer), calls::value(left.answer)), (0, file.body.len()));
@@ -65,7 +65,7 @@ fn read(disk: &Disk, file: &File, lender: &mut Margins) {
 /// The body's length, and where it begins.
 fn opened(disk: &Disk, file: &File, lender: &mut Margins) {
     let answer = compare::ask(&Request::new(Call::Open, &disk.image).with(NAME, &file.name), lender).answer;
-    if !fields::is_carried(file.kind) {
+    if !fields::is_readable(file.kind) {
         return assert_eq!((calls::refusal(answer), calls::slot(answer)), (13, file.slot));
     }
     let given = (
@@ -81,6 +81,7 @@ fn started(disk: &Disk, file: &File, lender: &mut Margins) {
     let answer = compare::ask(&Request::new(Call::Start, &disk.image).with(NAME, &file.name), lender).answer;
     let given = (calls::refusal(answer), calls::slot(answer), calls::value(answer));
     let expected = match fields::start(disk.slot(file.slot)) {
+        _ if fields::is_spectrum(file.kind) => (0, 0, fields::plus_d(disk.first(file), fields::PLUS_D_START)),
         _ if !fields::is_carried(file.kind) => (13, file.slot, 0),
         Some(address) => (0, 0, address),
         None => (14, file.slot, 0),

@@ -11,6 +11,7 @@ use crate::support::margins::Margins;
 use crate::support::random::Random;
 use crate::support::settings::{Round, Rounds};
 use crate::support::tally::Tally;
+use crate::support::waste;
 
 /// What all drawn requests go through.
 #[derive(Default)]
@@ -27,9 +28,18 @@ impl Run {
         left
     }
 
+    /// The answer of the first check. That of the check before a release follows from it.
     fn check(&mut self, image: &[u8]) -> u64 {
         self.disks += 1;
-        self.ask(&Request::new(Call::Check, image)).answer
+        let check = self.ask(&Request::new(Call::Check, image)).answer;
+        let release = self.ask(&Request::new(Call::CheckRelease, image)).answer;
+        let follows = waste::release(check, image);
+        assert_eq!(
+            compare::read_out(release),
+            compare::read_out(follows),
+            "the check before a release"
+        );
+        check
     }
 }
 
@@ -109,10 +119,10 @@ fn on_damaged(run: &mut Run, disk: &Disk, outcome: Outcome, title: &str, random:
         Outcome::Refused(number, slot) => assert_eq!(given, (number, slot), "{title}: another refusal follows"),
     }
     let facts = Facts::of(&disk.image);
-    for call in CALLS.into_iter().skip(1) {
+    for call in CALLS {
         let answer = run.ask(&asking::draw(call, &facts, random).on(&disk.image)).answer;
         assert!(
-            check == 0 || call.is_raw() || answer == check,
+            check == 0 || call.is_raw() || call == Call::CheckRelease || answer == check,
             "{title}: {call:?} and check differ"
         );
     }

@@ -121,7 +121,7 @@ fn read(lent: &mut Lent, disk: &Disk, file: &File, mut room: impl FnMut(usize) -
 fn cut(disk: &Disk, random: &mut Random) -> usize {
     const SAME: [usize; 6] = [9, 509, 510, 511, 512, 4_096];
     let mut lent = Lent::new(&disk.image);
-    for file in disk.files.iter().filter(|file| fields::is_carried(file.kind)) {
+    for file in disk.files.iter().filter(|file| fields::is_readable(file.kind)) {
         let same = random.pick(&SAME);
         read(&mut lent, disk, file, |_| same);
         let (mut turn, edges) = (0, [0, 1, 9, 509, 510, 511, 512]);

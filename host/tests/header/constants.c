@@ -16,7 +16,7 @@ static void check_reasons(void) {
         VARNUCHT_CHAIN_BROKEN,
         VARNUCHT_HEADER_DIFFERS,
         VARNUCHT_NAME_NOT_USABLE,
-        VARNUCHT_KIND_NOT_CARRIED,
+        VARNUCHT_WRONG_KIND,
         VARNUCHT_START_OUT_OF_RANGE,
         VARNUCHT_NAME_NOT_FOUND,
         VARNUCHT_NAME_TAKEN,
@@ -25,11 +25,13 @@ static void check_reasons(void) {
         VARNUCHT_TOO_FEW_SECTORS,
         VARNUCHT_BUFFER_TOO_SHORT,
         VARNUCHT_NO_SUCH_SECTOR,
+        VARNUCHT_WASTE_SECTORS,
     };
-    expect(sizeof reasons / sizeof reasons[0] == 22, "how many refusals", 22);
-    for (int number = 0; number < 22; number++) {
+    expect(sizeof reasons / sizeof reasons[0] == 23, "how many refusals", 23);
+    for (int number = 0; number < 23; number++) {
         expect(reasons[number] == number, "the number of a refusal", (unsigned long)number);
     }
+    expect(VARNUCHT_BODY_TOO_LONG == 25, "the number of a refusal", 25);
 }
 
 static void check_sizes(void) {
@@ -65,6 +67,10 @@ static void check_fields(void) {
 }
 
 static void check_kinds(void) {
+    expect(VARNUCHT_KIND_ZX_BASIC == 1, "ZX BASIC", 0);
+    expect(VARNUCHT_KIND_ZX_NUMBERS == 2, "ZX numeric array", 0);
+    expect(VARNUCHT_KIND_ZX_STRINGS == 3, "ZX string array", 0);
+    expect(VARNUCHT_KIND_ZX_GENERIC == 4, "ZX generic", 0);
     expect(VARNUCHT_KIND_BASIC == 16, "BASIC", 0);
     expect(VARNUCHT_KIND_NUMBERS == 17, "numeric array", 0);
     expect(VARNUCHT_KIND_STRINGS == 18, "string array", 0);

@@ -38,6 +38,11 @@ static uint64_t on_check(const int *how) {
     return varnucht_check(i.at, i.len);
 }
 
+static uint64_t on_check_release(const int *how) {
+    struct slice i = lent(image, sizeof image, how[0]);
+    return varnucht_check_release(i.at, i.len);
+}
+
 static uint64_t on_list(const int *how) {
     struct slice i = lent(image, sizeof image, how[0]), o = lent(out, sizeof out, how[1]);
     return varnucht_list(i.at, i.len, o.at, o.len);
@@ -95,6 +100,7 @@ static const struct {
     unsigned refusals[6];
 } calls[] = {
     {"check", on_check, 1, {1}},
+    {"check_release", on_check_release, 1, {1}},
     {"list", on_list, 2, {1, 20}},
     {"read", on_read, 3, {1, 12, 20}},
     {"open", on_open, 2, {1, 12}},

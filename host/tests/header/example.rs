@@ -158,7 +158,7 @@ fn the_example_saves_and_reads() {
         assert_eq!(done(run(&tunes, &[&disk])), b"files 0, free sectors 1560\n");
         assert_eq!(
             refused(run(&tunes, &[&disk, name])),
-            "read: refused 15, slot 0: no live slot has the name\n"
+            "read: refused 15, slot 0: no live slot has the name, capitals or not\n"
         );
         assert_eq!(done(run(&tunes, &[&disk, name, &file])), b"");
         let written = fs::read(&disk).expect("the disk");
@@ -170,7 +170,7 @@ fn the_example_saves_and_reads() {
         assert!(done(run(&tunes, &[&disk, name])) == body, "the saved file reads back");
         let lines = " 1 -- TUNES      kind 19, sectors   40, length  20000\nfiles 1, free sectors 1520\n";
         assert_eq!(String::from_utf8_lossy(&done(run(&tunes, &[&disk]))), lines);
-        let words = "save: refused 16, slot 1: a live slot has the new name\n";
+        let words = "save: refused 16, slot 1: a live slot has the new name, capitals or not\n";
         assert_eq!(refused(run(&tunes, &[&disk, name, &file])), words);
         assert!(fs::read(&disk).expect("the disk") == written, "a refused save writes nothing");
     }
@@ -192,7 +192,7 @@ fn the_player_reads_piece_by_piece() {
             let name = char::from(b'A' + place as u8).to_string();
             assert!(done(run(&play, &[&disk, Path::new(&name)])) == some_bytes(len), "{len} bytes");
         }
-        let words = "play: refused 15, slot 0: no live slot has the name\n";
+        let words = "play: refused 15, slot 0: no live slot has the name, capitals or not\n";
         assert_eq!(refused(run(&play, &[&disk, Path::new("TUNES")])), words);
         let long = folder.write("long", vec![0; IMAGE + 1]);
         let words = "play: refused 1, slot 0: the image is not 819,200 bytes\n";

@@ -65,7 +65,7 @@ static void check_refusals(void) {
     uint8_t status = image[0];
     image[0] = 5;
     uint64_t answer = varnucht_reader_open(&reader, image, sizeof image, tunes, 5);
-    expect(answer == VARNUCHT_KIND_NOT_CARRIED + 256 * 1, "a kind that is not carried", 0);
+    expect(answer == VARNUCHT_WRONG_KIND + 256 * 1, "a kind that cannot be read", 0);
     image[0] = 63;
     expect(varnucht_reader_open(&reader, image, sizeof image, tunes, 5) == VARNUCHT_KIND_UNKNOWN + 256 * 1, "a bad disk", 0);
     image[0] = status;

@@ -14,6 +14,7 @@ typedef uint64_t change_call(uint8_t *, size_t, const uint8_t *, size_t, uint8_t
 typedef uint64_t rename_call(uint8_t *, size_t, const uint8_t *, size_t, const uint8_t *, size_t, uint8_t *, size_t);
 
 static image_call *const volatile check = varnucht_check;
+static image_call *const volatile check_release = varnucht_check_release;
 static list_call *const volatile list = varnucht_list;
 static read_call *const volatile reading = varnucht_read;
 static start_call *const volatile opening = varnucht_open;
@@ -28,6 +29,7 @@ static change_call *const volatile changes[] = {varnucht_erase, varnucht_hide, v
 /* With nothing lent every call is there and answers 1, slot 0, and nothing else; but of the next piece that none comes. */
 void check_prototypes(void) {
     expect(check(NULL, 0) == 1, "check of nothing", 0);
+    expect(check_release(NULL, 0) == 1, "check for a release of nothing", 0);
     expect(list(NULL, 0, NULL, 0) == 1, "list of nothing", 0);
     expect(reading(NULL, 0, NULL, 0, NULL, 0) == 1, "read of nothing", 0);
     expect(opening(NULL, 0, NULL, 0) == 1, "open of nothing", 0);

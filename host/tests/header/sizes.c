@@ -46,6 +46,32 @@ static void check_longest_list(void) {
     expect(varnucht_check(image, sizeof image) == 0, "the disk is accepted", 0);
 }
 
+/* The greatest body of a kind of the Spectrum, which varnucht_open tells and a listing does not; and its greatest start. The
+ * file is saved as code and then given the other kind, with the header that goes with it. */
+static void check_greatest_spectrum(void) {
+    memset(image, 0, sizeof image);
+    expect(varnucht_refusal(save(tunes, 5, 65535, sizeof list)) == 0, "a file of 129 sectors", 0);
+    image[0] = VARNUCHT_KIND_ZX_GENERIC;
+    memset(image + 80 * 512, 255, 5);
+    uint64_t answer = varnucht_list(image, sizeof image, out, sizeof out);
+    expect(varnucht_refusal(answer) == 0 && varnucht_entry_spectrum(out), "a Spectrum file is listed", 0);
+    expect(varnucht_entry_length(out) == 0 && varnucht_entry_sectors(out) == 129, "without its length", 0);
+    answer = varnucht_open(image, sizeof image, tunes, 5);
+    expect(varnucht_refusal(answer) == 0 && varnucht_value(answer) == 65535, "its length", 0);
+    answer = varnucht_start(image, sizeof image, tunes, 5);
+    expect(varnucht_refusal(answer) == 0 && varnucht_value(answer) == 65535, "its start", 0);
+    expect(varnucht_read(image, sizeof image, tunes, 5, out, 65534) == VARNUCHT_BUFFER_TOO_SHORT, "too short", 0);
+    answer = varnucht_read(image, sizeof image, tunes, 5, out, 65535);
+    expect(varnucht_refusal(answer) == 0 && varnucht_value(answer) == 65535, "its body", 0);
+    expect(memcmp(out, body, 65535) == 0, "its body as it was saved", 0);
+    memset(image, 0, sizeof image);
+    expect(varnucht_refusal(save(tunes, 5, 501, sizeof list)) == 0, "a file of one sector", 0);
+    image[0] = VARNUCHT_KIND_ZX_BASIC;
+    expect(varnucht_refusal(varnucht_check(image, sizeof image)) == 0, "501 bytes fit", 0);
+    image[80 * 512 + 1] = 502 % 256;
+    expect(varnucht_check(image, sizeof image) == VARNUCHT_BODY_TOO_LONG + 256 * 1, "502 bytes do not", 0);
+}
+
 /* Eighty files fill the listing. The one after them is refused 18. */
 static void check_longest_listing(void) {
     memset(image, 0, sizeof image);
@@ -90,6 +116,7 @@ void check_size_limits(void) {
     }
     check_greatest_body();
     check_longest_list();
+    check_greatest_spectrum();
     check_longest_listing();
     check_other_lists();
     expect(varnucht_check(image, sizeof image) == 0, "the disk is accepted", 0);

@@ -1,5 +1,5 @@
 /* How much stack each call takes: it runs on a stack of its own, which was painted before, and the paint that is gone is
- * counted. The disks are those that make a call work longest: the greatest file, and eighty files; and for the check the
+ * counted. The disks are those that make a call work longest: the greatest file, and eighty files; and for the two checks the
  * greatest file with its last link but one leading back to its first sector, which is refused 10 where that comes again. For
  * the save also a disk whose directory ends at slot 2, with an old name behind it in another sector. */
 #define _XOPEN_SOURCE 700
@@ -27,6 +27,7 @@ static uint64_t save(uint8_t *to, const uint8_t *as, size_t as_len, size_t len) 
 
 static void nothing(void) {}
 static void check(void) { refusal = varnucht_refusal(varnucht_check(image, sizeof image)); }
+static void check_release(void) { refusal = varnucht_refusal(varnucht_check_release(image, sizeof image)); }
 static void listing(void) { refusal = varnucht_refusal(varnucht_list(image, sizeof image, body, sizeof body)); }
 static void reading(void) { refusal = varnucht_refusal(varnucht_read(image, sizeof image, name, 2, body, sizeof body)); }
 static void opening(void) { refusal = varnucht_refusal(varnucht_open(image, sizeof image, name, 2)); }
@@ -88,6 +89,7 @@ int main(void) {
     const uint8_t *const disks[] = {full, crowded};
     for (int i = 0; i < 2; i++) {
         say("check", check, disks[i]);
+        say("check_release", check_release, disks[i]);
         say("list", listing, disks[i]);
         say("read", reading, disks[i]);
         say("open", opening, disks[i]);
@@ -102,6 +104,7 @@ int main(void) {
         say("release", release, disks[i]);
     }
     say("check", check, ring);
+    say("check_release", check_release, ring);
     say("save", saving, blank);
     say("save", saving_on, ended);
     say("save", saving_last, crowded);

@@ -46,7 +46,7 @@ impl Asked {
 pub fn draw(call: Call, facts: &Facts, random: &mut Random) -> Asked {
     let asked = Asked::new(call);
     match call {
-        Call::Check => asked,
+        Call::Check | Call::CheckRelease => asked,
         Call::List => asked.with(OUT, buffer(258 * facts.live.len(), random)),
         Call::Open | Call::Start => asked.with(NAME, asked_name(facts, random)),
         Call::Next => readers::draw(facts, random),
@@ -59,10 +59,12 @@ pub fn draw(call: Call, facts: &Facts, random: &mut Random) -> Asked {
         Call::Save => wishes::draw(facts, random),
         Call::Rename => {
             let name = asked_name(facts, random);
-            let new = if random.one_in(8) {
-                name.clone()
-            } else {
-                new_name(facts, random)
+            let new = match random.below(8) {
+                0 => name.clone(),
+                1 | 2 => facts
+                    .find(&name)
+                    .map_or(name.clone(), |live| names::turned(live.name, random).to_vec()),
+                _ => new_name(facts, random),
             };
             asked.with(NAME, name).with(NEW, new).with(OUT, list(1, random))
         }
@@ -125,8 +127,9 @@ fn long_name(random: &mut Random) -> Vec<u8> {
     random.bytes(length)
 }
 
-/// Some of the spaces at the end may be left out.
+/// Some of the spaces at the end may be left out, and some of the letters turned.
 fn spelled(name: names::Name, random: &mut Random) -> Vec<u8> {
+    let name = names::turned(name, random);
     let least = names::without_spaces(&name).len().max(1);
     let length = if random.coin() { 10 } else { random.between(least, 10) };
     name[..length].to_vec()

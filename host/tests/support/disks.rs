@@ -4,7 +4,7 @@ use super::fields;
 use super::geometry::{BITS, PAYLOAD, SECTOR, SLOT, SLOTS, address, bit_place, fills, slot_place};
 use super::names::{self, Name};
 use super::random::Random;
-use super::shapes::{Ground, Shape};
+use super::shapes::Shape;
 
 #[derive(Clone)]
 pub struct File {
@@ -13,7 +13,7 @@ pub struct File {
     pub name: Name,
     /// The map bits in the order of the chain.
     pub chain: Vec<usize>,
-    /// Empty for a kind that is not carried.
+    /// Empty for a kind that cannot be read.
     pub body: Vec<u8>,
 }
 
@@ -40,7 +40,7 @@ pub fn of_shape(shape: &Shape, random: &mut Random) -> Disk {
     let mut free = shape.free(random);
     for &(slot, count) in &shape.files {
         let chain = free.drain(..count).collect();
-        let file = disk.write(slot, chain, shape.ground, random);
+        let file = disk.write(slot, chain, shape, random);
         disk.files.push(file);
     }
     for slot in 1..=SLOTS {
@@ -93,14 +93,14 @@ impl Disk {
         BITS - self.files.iter().map(|file| file.chain.len()).sum::<usize>()
     }
 
-    fn write(&mut self, slot: usize, chain: Vec<usize>, ground: Ground, random: &mut Random) -> File {
-        let kind = if random.one_in(3) {
-            random.pick(&fields::KNOWN)
-        } else {
-            random.between(16, 20) as u8
+    fn write(&mut self, slot: usize, chain: Vec<usize>, shape: &Shape, random: &mut Random) -> File {
+        let kind = match random.below(6) {
+            0 => random.between(1, 5) as u8,
+            1 => random.pick(&fields::KNOWN),
+            _ => random.between(16, 20) as u8,
         };
         let name = names::draw(random, &self.names());
-        let mut bytes = ground.bytes(SLOT, random);
+        let mut bytes = shape.ground.bytes(SLOT, random);
         bytes[0] = kind | random.byte() & (fields::HIDDEN | fields::PROTECTED);
         bytes[fields::NAME..fields::COUNT].copy_from_slice(&name);
         fields::set_count(&mut bytes, chain.len());
@@ -113,10 +113,16 @@ impl Disk {
         }
         start(&mut bytes, random);
         let body = if fields::is_carried(kind) {
-            let length = length(chain.len(), random);
+            let length = if shape.tidy {
+                tidy_length(chain.len(), random)
+            } else {
+                length(chain.len(), random)
+            };
             bytes[fields::PAGES] = (length / 16_384) as u8;
             bytes[fields::REMAINDER..fields::EXEC].copy_from_slice(&fields::remainder(length, random.byte()));
             self.carry(kind, &chain, length, random)
+        } else if fields::is_spectrum(kind) {
+            self.spectrum(&chain, random)
         } else {
             self.fill(&chain, &random.bytes(chain.len() * PAYLOAD));
             Vec::new()
@@ -139,6 +145,26 @@ impl Disk {
         payload[fields::HEADER_PAGES] = (length / 16_384) as u8;
         self.fill(chain, &payload);
         payload[fields::HEADER..fields::HEADER + length].to_vec()
+    }
+
+    /// The nine bytes and the body of a Spectrum file: length and start are there, and all else is rubbish. Gives the body.
+    fn spectrum(&mut self, chain: &[usize], random: &mut Random) -> Vec<u8> {
+        let mut payload = random.bytes(chain.len() * PAYLOAD);
+        let length = length(chain.len(), random).min(random.pick(&[65_535, 65_535, 65_534, 16_384, 500]));
+        let start = match random.below(4) {
+            0 => random.pick(&[0, 1, 255, 256, 16_384, 32_767, 32_768, 49_151, 49_152, 65_535]),
+            _ => random.below(65_536),
+        };
+        for (at, number) in [(fields::PLUS_D_LENGTH, length), (fields::PLUS_D_START, start)] {
+            payload[at..at + 2].copy_from_slice(&(number as u16).to_le_bytes());
+        }
+        self.fill(chain, &payload);
+        payload[fields::HEADER..fields::HEADER + length].to_vec()
+    }
+
+    /// The first sector of a file.
+    pub fn first(&self, file: &File) -> &[u8] {
+        &self.image[bit_place(file.chain[0])..][..SECTOR]
     }
 
     /// Payload and links along a chain.
@@ -214,5 +240,15 @@ fn length(sectors: usize, random: &mut Random) -> usize {
         3 => 0,
         4 => full - full % 16_384,
         _ => random.between(0, full),
+    }
+}
+
+/// The length of a body that needs all of so many sectors: the least, the most, or anything between.
+fn tidy_length(sectors: usize, random: &mut Random) -> usize {
+    let least = if sectors == 1 { 0 } else { fills(sectors - 1) + 1 };
+    match random.below(3) {
+        0 => least,
+        1 => fills(sectors),
+        _ => random.between(least, fills(sectors)),
     }
 }

@@ -2,7 +2,7 @@
 //! image gives what its bytes happen to say.
 
 use super::fields;
-use super::geometry::{BITS, SLOT, SLOTS, bit_place, number, sectors_for, slot_place, slot_sector};
+use super::geometry::{BITS, SLOT, SLOTS, bit_of, bit_place, number, sectors_for, slot_place, slot_sector};
 use super::names::{self, Name};
 
 pub struct Live {
@@ -10,7 +10,7 @@ pub struct Live {
     pub name: Name,
     pub kind: u8,
     pub protected: bool,
-    /// Of a carried kind; else 0.
+    /// Of a kind that can be read; else 0.
     pub length: usize,
     /// The numbers of the sectors in its map.
     pub sectors: Vec<usize>,
@@ -30,7 +30,7 @@ pub struct Facts {
 }
 
 impl Facts {
-    /// The image is long enough to hold the directory.
+    /// The image has the length of a disk.
     pub fn of(image: &[u8]) -> Facts {
         let slots = || (1..=SLOTS).map(|slot| (slot, &image[slot_place(slot)..][..SLOT]));
         let end = end(image);
@@ -41,11 +41,7 @@ impl Facts {
             name: fields::name(bytes),
             kind: fields::kind(bytes),
             protected: bytes[0] & fields::PROTECTED != 0,
-            length: if fields::is_carried(fields::kind(bytes)) {
-                fields::length(bytes)
-            } else {
-                0
-            },
+            length: length(image, bytes),
             sectors: fields::bits(bytes).into_iter().map(|bit| number(bit_place(bit))).collect(),
         });
         let live: Vec<Live> = live.collect();
@@ -76,12 +72,24 @@ impl Facts {
         sectors_for(length) + self.directory_sectors().len()
     }
 
-    /// The live slot that a name asked for finds.
+    /// The live slot that a name asked for finds, capitals or not.
     pub fn find(&self, given: &[u8]) -> Option<&Live> {
         let usable = (1..=10).contains(&given.len()) && given[0] != 0;
         usable
             .then(|| names::filled(given))
-            .and_then(|name| self.live.iter().find(|live| live.name == name))
+            .and_then(|name| self.live.iter().find(|live| names::same(&live.name, &name)))
+    }
+}
+
+/// The length that a live slot or the header of its file gives.
+fn length(image: &[u8], slot: &[u8]) -> usize {
+    match fields::kind(slot) {
+        kind if fields::is_carried(kind) => fields::length(slot),
+        kind if fields::is_spectrum(kind) => {
+            let first = bit_of([slot[fields::FIRST], slot[fields::FIRST + 1]]);
+            first.map_or(0, |bit| fields::plus_d(&image[bit_place(bit)..], fields::PLUS_D_LENGTH))
+        }
+        _ => 0,
     }
 }
 

@@ -17,7 +17,7 @@ pub const PAGES: usize = 239;
 pub const REMAINDER: usize = 240;
 pub const EXEC: usize = 242;
 
-/// The nine bytes at the front of a carried file's first sector.
+/// The nine bytes at the front of the first sector of a file that can be read.
 pub const HEADER: usize = 9;
 pub const HEADER_REMAINDER: usize = 1;
 pub const HEADER_OFFSET: usize = 3;
@@ -33,6 +33,25 @@ pub fn is_known(kind: u8) -> bool {
 
 pub fn is_carried(kind: u8) -> bool {
     (16..=20).contains(&kind)
+}
+
+/// The kinds of the Spectrum with a header of the Plus D: document 02, M-107.
+pub fn is_spectrum(kind: u8) -> bool {
+    (1..=4).contains(&kind)
+}
+
+/// The kinds that have a body and a start.
+pub fn is_readable(kind: u8) -> bool {
+    is_carried(kind) || is_spectrum(kind)
+}
+
+/// Where length and start stand in the nine bytes of a Spectrum file, two bytes each, low byte first.
+pub const PLUS_D_LENGTH: usize = 1;
+pub const PLUS_D_START: usize = 3;
+
+/// One of these numbers, from the first sector of such a file.
+pub fn plus_d(sector: &[u8], at: usize) -> usize {
+    usize::from(sector[at]) + 256 * usize::from(sector[at + 1])
 }
 
 pub fn kind(slot: &[u8]) -> u8 {

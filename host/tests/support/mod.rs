@@ -4,6 +4,7 @@
 //! - `random`, `settings`: numbers from a seed; which seeds and how many rounds.
 //! - `geometry`, `fields`: where sectors and slots stand in an image; where the fields of a slot stand.
 //! - `names`, `disks`, `shapes`: drawn disks that the rules accept.
+//! - `waste`: sectors behind a file that its length does not need, and what the check before a release says of them.
 //! - `damage`: one fault put into a drawn disk, with the refusal that follows from it, or none where the directory ends before.
 //! - `calls`: one request, asked of the C layer and of `paper`.
 //! - `compare`: the same request to both, with every buffer compared at return.
@@ -30,4 +31,5 @@ pub mod readers;
 pub mod settings;
 pub mod shapes;
 pub mod tally;
+pub mod waste;
 pub mod wishes;

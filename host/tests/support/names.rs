@@ -1,4 +1,5 @@
-//! Drawn names. A live slot's name may be any ten bytes but for the first, which is not 0; a new name keeps to 32 to 126.
+//! Drawn names. A live slot's name may be any ten bytes but for the first, which is not 0; a new name keeps to 32 to 126. Two
+//! names are the same where they differ in a to z against A to Z alone.
 
 use super::random::Random;
 
@@ -11,13 +12,39 @@ pub fn filled(given: &[u8]) -> Name {
     name
 }
 
+/// Whether two names are the same: a to z count as A to Z, and all other bytes as they are.
+pub fn same(one: &Name, other: &Name) -> bool {
+    one.iter().zip(other).all(|(&a, &b)| a == b || is_letter(a) && a ^ b == 32)
+}
+
+/// A to Z and a to z: the bytes that have a partner 32 away.
+pub fn is_letter(byte: u8) -> bool {
+    (65..=90).contains(&(byte & !32))
+}
+
+/// The name with some of its letters turned, often with none or all.
+pub fn turned(name: Name, random: &mut Random) -> Name {
+    let often = random.pick(&[1, 2, 2, 4, 1_000]);
+    name.map(|byte| {
+        if is_letter(byte) && random.one_in(often) {
+            byte ^ 32
+        } else {
+            byte
+        }
+    })
+}
+
 /// A new name that is usable, of 1 to 10 bytes; the edges of 32 to 126 are frequent, and so are names of few letters, which
 /// meet each other.
 pub fn usable(random: &mut Random) -> Vec<u8> {
     let length = random.between(1, 10);
-    let few = random.one_in(4);
+    let (few, letters) = (random.one_in(4), random.one_in(3));
     let mut name: Vec<u8> = (0..length)
-        .map(|_| if few { random.pick(b"Aa ~") } else { printable(random) })
+        .map(|_| match few {
+            true => random.pick(b"Aa ~"),
+            false if letters => random.pick(b"AZaz@[`{Mm"),
+            false => printable(random),
+        })
         .collect();
     while name[0] == 32 {
         name[0] = printable(random);
@@ -33,16 +60,16 @@ fn printable(random: &mut Random) -> u8 {
     }
 }
 
-/// A name that no slot of `taken` has: plain, or of any bytes, or one of those with a single byte changed.
+/// A name that no slot of `taken` has, capitals or not: plain, or of any bytes, or one of those with a single byte changed.
 pub fn draw(random: &mut Random, taken: &[Name]) -> Name {
     loop {
         let name = match random.below(5) {
             0 | 1 => filled(&usable(random)),
-            2 if !taken.is_empty() => changed(random.pick(taken), random),
+            2 if !taken.is_empty() => changed(turned(random.pick(taken), random), random),
             3 => zeroes_behind(random),
             _ => any(random),
         };
-        if name[0] != 0 && !taken.contains(&name) {
+        if name[0] != 0 && !taken.iter().any(|other| same(other, &name)) {
             return name;
         }
     }

@@ -11,6 +11,8 @@ pub struct Shape {
     pub end: Option<usize>,
     pub order: Order,
     pub ground: Ground,
+    /// Whether every carried file has no more sectors than it needs.
+    pub tidy: bool,
 }
 
 /// In which order the files take their sectors.
@@ -57,6 +59,7 @@ impl Shape {
             end,
             order,
             ground,
+            tidy: random.one_in(4),
         }
     }
 

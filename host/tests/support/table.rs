@@ -1,24 +1,33 @@
-/// The words of document 01's table, from number 1 on, copied from it; those of 3 and 18 as document 02 leaves them (M-103).
-pub const TABLE: [&str; 21] = [
-    "the image is not 819,200 bytes",
-    "the kind is not known",
-    "the first name byte is 0 (given no more)",
-    "the count is not 1 to 1,560",
-    "the map's set bits are not as many as the count",
-    "the first address is not a data sector, or its bit is clear",
-    "carried kind, and 510 × count is below 9 + length",
-    "the map shares a bit with an earlier live slot",
-    "the ten name bytes equal an earlier live slot's",
-    "the chain is broken",
-    "carried kind, and the header's first byte (whole), remainder (mod 16,384) or pages differ from the slot's kind, remainder, pages",
-    "the name is not usable",
-    "the kind asked for (save) or found (read, start address) is not carried",
-    "start page above 31, or offset outside 32,768 to 49,151 (save, start address)",
-    "no live slot has the name",
-    "a live slot has the new name",
-    "protected (erase, rename)",
-    "no slot before the end is erased and there is no end (save)",
-    "fewer free sectors than the save takes",
-    "a lent output buffer is too short",
-    "no such drive, track or sector",
+/// The words of document 01's table by number, copied from it; and those of the rows that document 02 moves or adds. Numbers
+/// between them belong to requests that have not landed.
+#[rustfmt::skip]
+pub const TABLE: [(u8, &str); 23] = [
+    (1, "the image is not 819,200 bytes"),
+    (2, "the kind is not known"),
+    (3, "the first name byte is 0 (given no more)"),
+    (4, "the count is not 1 to 1,560"),
+    (5, "the map's set bits are not as many as the count"),
+    (6, "the first address is not a data sector, or its bit is clear"),
+    (7, "carried kind, and 510 × count is below 9 + length"),
+    (8, "the map shares a bit with an earlier live slot"),
+    (9, "the name is an earlier live slot's, capitals or not"),
+    (10, "the chain is broken"),
+    (11, "carried kind, and the header's first byte (whole), remainder (mod 16,384) or pages differ from the slot's kind, remainder, pages"),
+    (12, "the name is not usable"),
+    (13, "the kind asked for (save) or found (read, start address) is not one that this call takes"),
+    (14, "start page above 31, or offset outside 32,768 to 49,151 (save, start address)"),
+    (15, "no live slot has the name, capitals or not"),
+    (16, "a live slot has the new name, capitals or not"),
+    (17, "protected (erase, rename)"),
+    (18, "no slot before the end is erased and there is no end (save)"),
+    (19, "fewer free sectors than the save takes"),
+    (20, "a lent output buffer is too short"),
+    (21, "no such drive, track or sector"),
+    (22, "carried kind, and the count is above the least that its length needs (waste sectors behind the file)"),
+    (25, "kind 1 to 4, and 510 × count is below 9 + the length in the header"),
 ];
+
+/// The words of a number, if it has any.
+pub fn words(number: u8) -> Option<&'static str> {
+    TABLE.iter().find(|(listed, _)| *listed == number).map(|(_, words)| *words)
+}

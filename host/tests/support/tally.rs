@@ -4,12 +4,16 @@ use super::calls::{CALLS, Call, refusal};
 use std::fmt::Write;
 
 #[derive(Default)]
-pub struct Tally([[usize; 22]; CALLS.len()]);
+pub struct Tally([[usize; 1 + MOST]; CALLS.len()]);
+
+/// The greatest number of refusal.
+const MOST: usize = 25;
 
 /// The numbers that a call can give, by document 01's table and document 02; 0 for an accepted request. 3 is given no more.
 pub fn possible(call: Call) -> Vec<u8> {
     let own: &[u8] = match call {
         Call::Check => &[],
+        Call::CheckRelease => &[22],
         Call::List => &[20],
         Call::Read => &[12, 13, 15, 20],
         Call::Open => &[12, 13, 15],
@@ -21,7 +25,8 @@ pub fn possible(call: Call) -> Vec<u8> {
         Call::Rename => &[12, 15, 16, 17, 20],
         Call::Hide | Call::Show | Call::Protect | Call::Release => &[12, 15, 20],
     };
-    (0..=11).filter(|&number| number != 3).chain(own.iter().copied()).collect()
+    let disk = (0..=11).filter(|&number| number != 3).chain([25]);
+    disk.chain(own.iter().copied()).collect()
 }
 
 impl Tally {
@@ -50,9 +55,9 @@ impl Tally {
     pub fn table(&self) -> String {
         let mut text = String::from("No.");
         for call in CALLS {
-            write!(text, "{:>8}", format!("{call:?}").to_lowercase()).expect("a string takes all");
+            write!(text, "{:>1$}", format!("{call:?}").to_lowercase(), width(call)).expect("a string takes all");
         }
-        for number in 0..=21 {
+        for number in 0..=MOST as u8 {
             write!(text, "\n{number:>3}").expect("a string takes all");
             for call in CALLS {
                 let count = self.0[call as usize][usize::from(number)];
@@ -61,9 +66,14 @@ impl Tally {
                 } else {
                     "-".into()
                 };
-                write!(text, "{shown:>8}").expect("a string takes all");
+                write!(text, "{shown:>0$}", width(call)).expect("a string takes all");
             }
         }
         text
     }
+}
+
+/// The width of a call's column: a space, and its name or a number of seven digits.
+fn width(call: Call) -> usize {
+    1 + format!("{call:?}").len().max(7)
 }

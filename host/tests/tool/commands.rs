@@ -1,5 +1,6 @@
 //! The tool's commands, each run as a process: what it prints, what it does to the file, and its exit status.
 use crate::support::*;
+use std::ffi::OsString;
 use std::fs;
 use varnucht::{LONGEST_BODY, Name};
 
@@ -58,6 +59,83 @@ number  track  sector
     );
 }
 
+/// A disk with the files ONE and TWO, of which TWO says in its slot and in its header that it has so many bytes.
+fn shortened(length: u16) -> Vec<u8> {
+    let mut bytes = disk(&[("ONE", 10), ("TWO", 1_000)]).into_image().into_bytes();
+    // ONE takes one sector, so TWO begins at track 4, sector 2.
+    for place in [256 + 240, 81 * 512 + 1] {
+        bytes[place..place + 2].copy_from_slice(&length.to_le_bytes());
+    }
+    bytes
+}
+
+#[test]
+fn check_before_a_release() {
+    let folder = Folder::new();
+    let words = "refusal 22 at slot 2: carried kind, and the count is above the least that its length needs \
+                 (waste sectors behind the file)";
+    for length in [0, 501, 502, 1_000] {
+        let image = folder.file("disk.mgt", &shortened(length));
+        assert_eq!(on("check", &image, NONE).done(), "accepted\n");
+        let run = on("check", &image, ["--release"]);
+        match length {
+            ..=501 => run.fails(1, &format!("disk.mgt: {words}: TWO has 2 sectors and needs 1\n")),
+            _ => assert_eq!(run.done(), "accepted\n"),
+        }
+        on("list", &image, ["--release"]).fails(2, "`list` has no option `--release`");
+    }
+    // What else is wrong behind it does not hide it; then the file is not named.
+    let mut bytes = shortened(1);
+    bytes[512..514].copy_from_slice(&[63, b'X']);
+    let image = folder.file("disk.mgt", &bytes);
+    on("check", &image, NONE).fails(1, "disk.mgt: refusal 2 at slot 3: ");
+    on("check", &image, ["--release"]).fails(1, &format!("disk.mgt: {words}\n"));
+}
+
+/// Several images: a line each, in their order, and the greatest status of all.
+#[test]
+fn check_of_several_images() {
+    let folder = Folder::new();
+    let good = folder.file("good.mgt", &shortened(1_000)).into_os_string();
+    let waste = folder.file("waste.mgt", &shortened(9)).into_os_string();
+    let short = folder.file("short.mgt", b"PK\x03\x04").into_os_string();
+    let missing = folder.path("missing.mgt").into_os_string();
+    let check = |words: &[&OsString]| run([&"check".into()].into_iter().chain(words.iter().copied()));
+    let (release, name) = (OsString::from("--release"), |path: &OsString| {
+        path.to_str().unwrap().to_string()
+    });
+    let accepted = |path: &OsString| format!("{}: accepted\n", name(path));
+
+    assert_eq!(check(&[&good, &waste]).done(), accepted(&good) + &accepted(&waste));
+    assert_eq!(check(&[&release, &good, &good, &good]).done(), accepted(&good).repeat(3));
+    let run = check(&[&good, &waste, &release, &good]);
+    assert_eq!((run.status, run.text()), (1, accepted(&good).repeat(2).as_str()));
+    assert_eq!(run.err.lines().count(), 1, "{}", run.err);
+    assert!(
+        run.err
+            .starts_with(&format!("varnucht: {}: refusal 22 at slot 2: ", name(&waste))),
+        "{}",
+        run.err
+    );
+
+    // Nothing stops the rest from being checked.
+    let run = check(&[&missing, &good, &short, &release, &waste]);
+    assert_eq!((run.status, run.text()), (3, accepted(&good).as_str()));
+    let said: Vec<&str> = run.err.lines().collect();
+    assert_eq!(said.len(), 4, "{}", run.err);
+    assert!(said[0].contains("missing.mgt: No such file") && said[1].contains("short.mgt: refusal 1: "));
+    assert!(said[2].starts_with("It looks like a file packed with zip") && said[3].contains("waste.mgt: refusal 22 "));
+    let run = check(&[&waste, &short]);
+    assert_eq!((run.status, run.text()), (1, accepted(&waste).as_str()));
+
+    // Standard input is one of them, once.
+    let piped = fed([&"check".into(), &good, &"-".into()], &shortened(9));
+    assert_eq!(piped.done(), accepted(&good) + "standard input: accepted\n");
+    fed([&"check".into(), &OsString::from("-"), &good, &"-".into()], &shortened(9))
+        .fails(2, "standard input can be read once");
+    assert_eq!(folder.names(), ["good.mgt", "short.mgt", "waste.mgt"]);
+}
+
 #[test]
 fn list_is_a_table() {
     let folder = Folder::new();
@@ -82,6 +160,60 @@ slot  marks  name   kind             sectors  length  start
     assert_eq!(on("list", &blank, NONE).done(), none);
 }
 
+/// Spectrum files: length and start are those of the file's header, and the body is read by it.
+#[test]
+fn spectrum_files_are_listed_and_read() {
+    let folder = Folder::new();
+    let files = [
+        ("BASIC", 400),
+        ("NUMBERS", 30),
+        ("STRINGS", 501),
+        ("GENERIC", 700),
+        ("SNAP", 9),
+        ("CODE", 10),
+    ];
+    let mut bytes = disk(&files).into_image().into_bytes();
+    let headers = [
+        (1, 80, 400, 23_755),
+        (2, 81, 0, 0),
+        (3, 82, 501, 65_535),
+        (4, 83, 1_011, 32_768),
+    ];
+    for (slot, (kind, sector, length, start)) in headers.into_iter().enumerate() {
+        let (length, start): (u16, u16) = (length, start);
+        bytes[slot * 256] = kind;
+        bytes[sector * 512 + 1..][..2].copy_from_slice(&length.to_le_bytes());
+        bytes[sector * 512 + 3..][..2].copy_from_slice(&start.to_le_bytes());
+    }
+    bytes[4 * 256] = 5;
+    let image = folder.file("disk.mgt", &bytes);
+    let table = "\
+slot  marks  name     kind              sectors  length  start
+   1  --     BASIC    ZX BASIC                1     400  23755
+   2  --     NUMBERS  ZX numeric array        1       0      0
+   3  --     STRINGS  ZX string array         1     501  65535
+   4  --     GENERIC  ZX generic              2    1011  32768
+   5  --     SNAP     ZX snapshot 48K         1       -      -
+   6  --     CODE     code                    1      10  32768
+6 files, 1553 sectors free: room for a file of 792021 bytes
+";
+    assert_eq!(on("list", &image, NONE).done(), table);
+    assert_eq!(on("read", &image, ["basic"]).out, body(400));
+    assert_eq!(on("read", &image, ["STRINGS"]).out, body(501));
+    assert_eq!(on("read", &image, ["NUMBERS"]).done(), "");
+    let generic = on("read", &image, ["GENERIC"]);
+    assert_eq!((generic.out.len(), &generic.out[..700]), (1_011, &body(700)[..]));
+    let words = "the kind asked for (save) or found (read, start address) is not one that this call takes\n";
+    on("read", &image, ["SNAP"]).fails(1, &format!("SNAP: refusal 13 at slot 5: {words}"));
+    on("save", &image, ["NEW", "/dev/null", "--kind", "4"]).fails(1, &format!("NEW: refusal 13: {words}"));
+    // A length that its sectors do not hold.
+    bytes[82 * 512 + 1..][..2].copy_from_slice(&502u16.to_le_bytes());
+    let image = folder.file("disk.mgt", &bytes);
+    let said = "refusal 25 at slot 3: kind 1 to 4, and 510 × count is below 9 + the length in the header\n";
+    on("check", &image, NONE).fails(1, said);
+    on("list", &image, NONE).fails(1, said);
+}
+
 #[test]
 fn list_of_a_full_disk() {
     let folder = Folder::new();
@@ -104,7 +236,7 @@ fn read_gives_the_body() {
     assert!(run.out == body(100_000));
     let run = on("read", &image, ["LONG", "-o", "-"]);
     assert!(run.out == body(100_000));
-    on("read", &image, ["NONE"]).fails(1, "disk.mgt: NONE: refusal 15: no live slot has the name\n");
+    on("read", &image, ["NONE"]).fails(1, "disk.mgt: NONE: refusal 15: no live slot has the name, capitals or not\n");
     on("read", &image, [""]).fails(1, "refusal 12: the name is not usable: it has ");
     on("read", &image, ["ELEVEN BYTE"]).fails(1, "refusal 12: the name is not usable: it has ");
 }
@@ -252,8 +384,10 @@ fn save_is_refused_in_the_papers_order() {
         )
         .fails(1, "TAKEN: refusal 14: ");
     }
-    on("save", &image, ["TAKEN".into(), long.clone()])
-        .fails(1, "TAKEN: refusal 16 at slot 1: a live slot has the new name\n");
+    on("save", &image, ["TAKEN".into(), long.clone()]).fails(
+        1,
+        "TAKEN: refusal 16 at slot 1: a live slot has the new name, capitals or not\n",
+    );
     on("save", &image, ["FREE".into(), long]).fails(1, "refusal 19: fewer free sectors than the save takes\n");
     assert!(fs::read(&image).unwrap() == before);
     let full: Vec<(String, usize)> = (1..=80).map(|number| (format!("FILE{number}"), 0)).collect();
@@ -282,7 +416,10 @@ fn the_other_changes() {
     assert_eq!(on("show", &image, ["ONE"]).done(), "showed ONE: 1 sector written\n");
     assert_eq!(on("release", &image, ["ONE"]).done(), "released ONE: 1 sector written\n");
     assert_eq!(marks(), [(false, false), (false, false)]);
-    on("rename", &image, ["ONE", "TWO"]).fails(1, "ONE to TWO: refusal 16 at slot 2: a live slot has the new name\n");
+    on("rename", &image, ["ONE", "TWO"]).fails(
+        1,
+        "ONE to TWO: refusal 16 at slot 2: a live slot has the new name, capitals or not\n",
+    );
     on("rename", &image, ["ONE", "ONE"]).fails(1, "refusal 16 at slot 1: ");
     on("rename", &image, ["ONE", ""]).fails(1, "refusal 12: ");
     assert_eq!(
@@ -291,7 +428,7 @@ fn the_other_changes() {
     );
     assert_eq!(on("erase", &image, ["NEW"]).done(), "erased NEW: 1 sector written\n");
     for command in ["erase", "hide", "show", "protect", "release"] {
-        on(command, &image, ["NEW"]).fails(1, "NEW: refusal 15: no live slot has the name\n");
+        on(command, &image, ["NEW"]).fails(1, "NEW: refusal 15: no live slot has the name, capitals or not\n");
     }
     assert_eq!(held(&image).listing().entries().len(), 1);
     assert_eq!(on("read", &image, ["TWO"]).out, body(600));

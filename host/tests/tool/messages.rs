@@ -121,6 +121,11 @@ fn refusal_12_says_why() {
     // A name that may be asked for is not found, and that is all that is said of it.
     for (name, _) in NOT_NEW {
         let run = on("read", &image, [name]);
-        assert!(run.err.ends_with(": refusal 15: no live slot has the name\n"), "{}", run.err);
+        assert!(
+            run.err
+                .ends_with(": refusal 15: no live slot has the name, capitals or not\n"),
+            "{}",
+            run.err
+        );
     }
 }

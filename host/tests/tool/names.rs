@@ -109,6 +109,36 @@ fn every_name_can_be_changed_away() {
     assert!((0..21).all(|place| names[place] == format!("NEW{place}")));
 }
 
+/// Capitals or not, a name finds its file; a rename may alter them alone, and `list` shows what is stored.
+#[test]
+fn names_in_capitals_or_not() {
+    let folder = Folder::new();
+    let image = folder.image(&disk(&[("TUNES", 10), ("Songs 2", 20), ("x", 0)]));
+    let names = || printed(on("list", &image, NONE).done());
+    assert_eq!(on("read", &image, ["tunes"]).out, body(10));
+    assert_eq!(on("read", &image, ["SONGS 2"]).out, body(20));
+    for command in ["hide", "show", "protect", "release"] {
+        assert!(on(command, &image, ["tunes"]).done().contains(" tunes: 1 sector written\n"));
+    }
+    assert_eq!(names(), ["TUNES", "Songs 2", "x"]);
+    assert_eq!(
+        on("rename", &image, ["tunes", "Tunes"]).done(),
+        "renamed tunes to Tunes: 1 sector written\n"
+    );
+    assert_eq!(names(), ["Tunes", "Songs 2", "x"]);
+    on("rename", &image, ["TUNES", "Tunes"]).fails(1, "TUNES to Tunes: refusal 16 at slot 1: a live slot has the new name");
+    on("rename", &image, ["TUNES", "songs 2"]).fails(1, "refusal 16 at slot 2: ");
+    on("save", &image, ["songs 2", "/dev/null"]).fails(1, "songs 2: refusal 16 at slot 2: ");
+    assert_eq!(on("erase", &image, ["tUNES"]).done(), "erased tUNES: 1 sector written\n");
+    assert_eq!(names(), ["Songs 2", "x"]);
+    // Two files whose names differ in their capitals alone are no sound disk.
+    let mut bytes = disk(&[("TUNES", 10), ("SONGS", 20)]).into_image().into_bytes();
+    bytes[256 + 1..][..5].copy_from_slice(b"tunes");
+    let image = folder.file("disk.mgt", &bytes);
+    let said = "refusal 9 at slot 2: the name is an earlier live slot's, capitals or not\n";
+    on("check", &image, NONE).fails(1, said);
+}
+
 /// Messages print names with the same escapes.
 #[test]
 fn messages_escape_names() {

@@ -5,9 +5,12 @@ mod arguments;
 mod bodies;
 mod buffers;
 mod ends;
+mod letters;
 mod names;
 mod order;
+mod release;
 mod slots;
+mod spectrum;
 
 use crate::support::asking::Asked;
 use crate::support::calls::{self, BODY, Call, NAME, OUT};

@@ -1,4 +1,4 @@
-//! Names asked for and new names: their lengths, their bytes at each place, their spellings.
+//! Names asked for and new names: their lengths, their bytes at each place, their spellings, capitals or not.
 
 use super::{disk, expect, save};
 use crate::support::asking::Asked;
@@ -7,7 +7,7 @@ use crate::support::disks::Disk;
 use crate::support::fields;
 
 /// The calls that ask for a name that is there.
-const ASKING: [Call; 9] = [
+pub const ASKING: [Call; 9] = [
     Call::Read,
     Call::Open,
     Call::Start,
@@ -20,7 +20,7 @@ const ASKING: [Call; 9] = [
 ];
 
 /// A disk with four short files; the first is carried, not protected, starts inside the range and has this name.
-fn named(name: &[u8; 10]) -> Disk {
+pub fn named(name: &[u8; 10]) -> Disk {
     let mut disk = disk(11, 4, 9);
     let file = disk
         .files
@@ -37,7 +37,7 @@ fn named(name: &[u8; 10]) -> Disk {
 }
 
 /// One request of this call for a name, with all else such that the name decides.
-fn asking(call: Call, name: &[u8]) -> Asked {
+pub fn asking(call: Call, name: &[u8]) -> Asked {
     let asked = Asked::new(call).with(NAME, name);
     match call {
         Call::Open | Call::Start => asked,
@@ -59,12 +59,13 @@ fn names_asked_for() {
     for length in 4..=10 {
         asked_for(&disk, &b"AB c      "[..length], 0);
     }
+    for spelled in [&b"ab c"[..], b"AB C", b"aB c ", b"Ab C      "] {
+        asked_for(&disk, spelled, 0);
+    }
     for absent in [
         &b"A"[..],
         b"AB",
         b"AB ",
-        b"ab c",
-        b"AB C",
         b" AB c",
         b"AB c     x",
         b"AB c\0",
@@ -159,8 +160,13 @@ fn new_names_that_are_there() {
         for name in [&b"old"[..], b"old ", b"old       "] {
             assert_eq!(calls::slot(expect(&new(call, name), &disk.image, 16).answer), slot);
         }
-        for name in [&b"Old"[..], b"olD", b"old      x", b"ol"] {
+        for name in [&b"old      x"[..], b"ol"] {
             expect(&new(call, name), &disk.image, 0);
+        }
+        // With other capitals a save finds it taken, and a rename of the file itself is accepted.
+        for name in [&b"Old"[..], b"olD", b"OLD       "] {
+            let left = expect(&new(call, name), &disk.image, if call == Call::Save { 16 } else { 0 });
+            assert_eq!(calls::slot(left.answer), if call == Call::Save { slot } else { 0 });
         }
     }
 }

@@ -1,5 +1,5 @@
-//! The order of the table: at a slot the lowest number; the lowest slot first; all slots for 2 to 9 before any for 10 and 11;
-//! and nothing from the directory's end on.
+//! The order of the table: at a slot the lowest number; the lowest slot first; all slots for 2 to 9 before any for 10, 11 and
+//! 25; and nothing from the directory's end on.
 
 use super::expect;
 use crate::support::asking::Asked;
@@ -134,7 +134,7 @@ fn rows_of_a_rename() {
     expect(&asked.with(OUT, [0, 0]), &disk.image, 0);
 }
 
-/// Reading, opening and start address: a kind that is not carried comes before the buffer and the offset; the buffer is the
+/// Reading, opening and start address: a kind that cannot be read comes before the buffer and the offset; the buffer is the
 /// last, and opening has none.
 #[test]
 fn rows_of_read_open_and_start() {

@@ -28,12 +28,14 @@ fn addresses() -> impl Iterator<Item = [u8; 2]> {
 fn byte_0() {
     let mut disk = disk();
     let (slot, kind) = (disk.files[1].slot, disk.files[1].kind);
+    let long = fields::plus_d(disk.first(&disk.files[1]), fields::PLUS_D_LENGTH) > 5 * 510 - 9;
     for byte in 0..=255 {
         disk.slot_mut(slot)[0] = byte;
         let number = match byte & 63 {
             _ if byte == 0 => 0,
             found if !fields::is_known(found) => 2,
             found if fields::is_carried(found) && found != kind => 11,
+            found if fields::is_spectrum(found) && long => 25,
             _ => 0,
         };
         refused(&disk, number);

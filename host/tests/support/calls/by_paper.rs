@@ -36,6 +36,7 @@ fn look(request: &Request, out: &mut [u8]) -> Result<Parts, Refused> {
     let [a, b, c] = request.numbers;
     match request.call {
         Call::Check => paper::check(image).map(|()| [0, 0, 0]),
+        Call::CheckRelease => paper::check_release(image).map(|()| [0, 0, 0]),
         Call::List => paper::list(image, out).map(|listed| [0, listed.files, listed.free]),
         Call::Read => paper::read(image, name, out).map(|length| [0, length, 0]),
         Call::Open => paper::open(image, name).map(|reader| at(reader, reader.left as usize)),

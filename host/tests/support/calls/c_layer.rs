@@ -28,6 +28,7 @@ pub unsafe fn ask_c(call: Call, numbers: [u32; 3], parts: &[Part; 8]) -> u64 {
     unsafe {
         match call {
             Call::Check => raw::varnucht_check(i, il),
+            Call::CheckRelease => raw::varnucht_check_release(i, il),
             Call::List => raw::varnucht_list(i, il, o, ol),
             Call::Read => raw::varnucht_read(i, il, n, nl, o, ol),
             Call::Open => raw::varnucht_open(i, il, n, nl),

@@ -15,6 +15,7 @@ pub const NOTHING_COMES: u64 = 1_600 << 8;
 #[derive(Clone, Copy, Debug, PartialEq, Eq)]
 pub enum Call {
     Check,
+    CheckRelease,
     List,
     Read,
     Open,
@@ -30,8 +31,9 @@ pub enum Call {
     Release,
 }
 
-pub const CALLS: [Call; 14] = [
+pub const CALLS: [Call; 15] = [
     Call::Check,
+    Call::CheckRelease,
     Call::List,
     Call::Read,
     Call::Open,
@@ -96,7 +98,7 @@ impl Call {
     /// The slices that this call takes.
     pub fn takes(self) -> &'static [usize] {
         match self {
-            Call::Check => &[IMAGE],
+            Call::Check | Call::CheckRelease => &[IMAGE],
             Call::List => &[IMAGE, OUT],
             Call::Read => &[IMAGE, NAME, OUT],
             Call::Next => &[IMAGE, OUT],

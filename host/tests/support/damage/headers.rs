@@ -1,4 +1,4 @@
-//! Damage to the nine bytes of a carried file and to what they must equal: number 11.
+//! Damage to the nine bytes of a carried file and to what they must equal: number 11; and to those of a Spectrum file: 25.
 
 use super::{Damage, Outcome};
 use crate::support::disks::Disk;
@@ -18,6 +18,10 @@ pub const ALL: &[&Damage] = &[
     &Damage { title: "bits 14 and 15 of the header's remainder", own: true, apply: header_junk },
     &Damage { title: "header offset, page and unused bytes", own: true, apply: unread },
     &Damage { title: "the longest length that fits", own: true, apply: longest },
+    &Damage { title: "the longest length that fits a Spectrum file", own: true, apply: spectrum_longest },
+    &Damage { title: "a Spectrum file's length one too much", own: true, apply: spectrum_too_long },
+    &Damage { title: "a Spectrum file's length far too much", own: true, apply: spectrum_far_too_long },
+    &Damage { title: "a Spectrum file's other header bytes", own: true, apply: spectrum_unread },
 ];
 
 /// Changes one byte of the header of a carried file.
@@ -112,5 +116,47 @@ fn longest(disk: &mut Disk, index: usize, random: &mut Random) -> Option<Outcome
     let sector = disk.sector_mut(first);
     sector[fields::HEADER_PAGES] = (length / 16_384) as u8;
     sector[fields::HEADER_REMAINDER..fields::HEADER_OFFSET].copy_from_slice(&fields::remainder(length, random.byte()));
+    Some(Outcome::Accepted)
+}
+
+/// Puts a length into the header of a Spectrum file; none where two bytes do not hold it.
+fn spectrum(disk: &mut Disk, index: usize, length: usize) -> Option<Outcome> {
+    let file = &disk.files[index];
+    fields::is_spectrum(file.kind).then_some(())?;
+    let bytes = u16::try_from(length).ok()?.to_le_bytes();
+    let (slot, first, most) = (file.slot, file.chain[0], fills(file.chain.len()));
+    disk.sector_mut(first)[fields::PLUS_D_LENGTH..][..2].copy_from_slice(&bytes);
+    Some(if length > most {
+        Outcome::Refused(25, slot)
+    } else {
+        Outcome::Accepted
+    })
+}
+
+fn spectrum_longest(disk: &mut Disk, index: usize, _: &mut Random) -> Option<Outcome> {
+    let length = fills(disk.files[index].chain.len()).min(65_535);
+    spectrum(disk, index, length)
+}
+
+fn spectrum_too_long(disk: &mut Disk, index: usize, _: &mut Random) -> Option<Outcome> {
+    let length = fills(disk.files[index].chain.len()) + 1;
+    spectrum(disk, index, length)
+}
+
+fn spectrum_far_too_long(disk: &mut Disk, index: usize, random: &mut Random) -> Option<Outcome> {
+    let least = fills(disk.files[index].chain.len()) + 1;
+    let length = (least <= 65_535).then(|| random.between(least, 65_535))?;
+    spectrum(disk, index, length)
+}
+
+/// Kind, start and the last four bytes are not compared with anything, and neither is what the slot says of a length.
+fn spectrum_unread(disk: &mut Disk, index: usize, random: &mut Random) -> Option<Outcome> {
+    let file = &disk.files[index];
+    fields::is_spectrum(file.kind).then_some(())?;
+    let (slot, first) = (file.slot, file.chain[0]);
+    let sector = disk.sector_mut(first);
+    sector[0] = random.byte();
+    random.fill(&mut sector[fields::PLUS_D_START..fields::HEADER]);
+    random.fill(&mut disk.slot_mut(slot)[fields::PAGES..fields::EXEC]);
     Some(Outcome::Accepted)
 }

@@ -3,7 +3,7 @@
 use super::{Damage, Outcome};
 use crate::support::disks::Disk;
 use crate::support::fields;
-use crate::support::geometry::BITS;
+use crate::support::geometry::{BITS, address};
 use crate::support::random::Random;
 
 #[rustfmt::skip]
@@ -13,6 +13,7 @@ pub const ALL: &[&Damage] = &[
     &Damage { title: "the first sector's bit moved", own: true, apply: first_moved },
     &Damage { title: "a later sector's bit moved", own: false, apply: later_moved },
     &Damage { title: "a bit and a count more", own: false, apply: counted_more },
+    &Damage { title: "a waste sector behind the file", own: false, apply: waste },
     &Damage { title: "a bit of an earlier file more", own: false, apply: shared_with_earlier },
     &Damage { title: "a bit of a later file more", own: false, apply: shared_with_later },
     &Damage { title: "a bit moved to an earlier file's", own: false, apply: moved_to_earlier },
@@ -51,6 +52,16 @@ fn counted_more(disk: &mut Disk, index: usize, random: &mut Random) -> Option<Ou
     Some(Outcome::Refused(10, counted(disk, index, bit)))
 }
 
+/// A free sector counted in and chained behind the last: no rule of the first check is against it.
+fn waste(disk: &mut Disk, index: usize, random: &mut Random) -> Option<Outcome> {
+    let bit = random.pick(&free(disk)?);
+    let last = *disk.files[index].chain.last()?;
+    counted(disk, index, bit);
+    disk.link(last, address(bit));
+    disk.link(bit, [0, 0]);
+    Some(Outcome::Accepted)
+}
+
 fn shared_with_earlier(disk: &mut Disk, index: usize, random: &mut Random) -> Option<Outcome> {
     let bit = bit_of_earlier(disk, index, random)?;
     Some(Outcome::Refused(8, counted(disk, index, bit)))
@@ -77,7 +88,7 @@ fn first_of_earlier(disk: &mut Disk, index: usize, random: &mut Random) -> Optio
     let to = bit_of_earlier(disk, index, random)?;
     let from = disk.files[index].chain[0];
     let slot = moved(disk, index, from, to);
-    let at = crate::support::geometry::address(to);
+    let at = address(to);
     disk.slot_mut(slot)[fields::FIRST..fields::MAP].copy_from_slice(&at);
     Some(Outcome::Refused(8, slot))
 }

@@ -93,8 +93,8 @@ fn somewhere(damage: &Damage, disk: &mut Disk, random: &mut Random) -> Option<(u
         .find_map(|index| Some((index, (damage.apply)(disk, index, random)?)))
 }
 
-/// All slots for 2 to 9 come before all slots for 10 and 11; then the lowest slot, and at a slot the lowest number. What stands
-/// behind the directory's end is not seen.
+/// All slots for 2 to 9 come before all slots for 10, 11 and 25; then the lowest slot, and at a slot the lowest number. What
+/// stands behind the directory's end is not seen.
 fn earlier(one: Outcome, other: Outcome) -> Outcome {
     let (one, other) = (seen_before(one, other), seen_before(other, one));
     let rank = |outcome: Outcome| match outcome {

@@ -11,6 +11,7 @@ pub const ALL: &[&Damage] = &[
     &Damage { title: "first name byte 0", own: true, apply: nameless },
     &Damage { title: "an earlier file's name", own: false, apply: name_of_earlier },
     &Damage { title: "a later file's name", own: false, apply: name_of_later },
+    &Damage { title: "its own name in other letters", own: true, apply: name_turned },
     &Damage { title: "nearly another file's name", own: false, apply: name_nearly },
 ];
 
@@ -24,7 +25,7 @@ fn name_of_earlier(disk: &mut Disk, index: usize, random: &mut Random) -> Option
     let name = disk.files[random.below(index.max(1))].name;
     let slot = disk.files[index].slot;
     (index > 0).then(|| {
-        rename(disk, slot, &name);
+        rename(disk, slot, &names::turned(name, random));
         Outcome::Refused(9, slot)
     })
 }
@@ -35,15 +36,23 @@ fn name_of_later(disk: &mut Disk, index: usize, random: &mut Random) -> Option<O
     }
     let later = random.between(index + 1, disk.files.len() - 1);
     let (slot, name) = (disk.files[index].slot, disk.files[later].name);
-    rename(disk, slot, &name);
+    rename(disk, slot, &names::turned(name, random));
     Some(Outcome::Refused(9, disk.files[later].slot))
 }
 
-/// Names compare byte for byte: one byte of another's name changed is a name of its own.
+/// The case of its letters makes no difference to the file itself.
+fn name_turned(disk: &mut Disk, index: usize, random: &mut Random) -> Option<Outcome> {
+    let slot = disk.files[index].slot;
+    let name = names::turned(disk.files[index].name, random);
+    rename(disk, slot, &name);
+    Some(Outcome::Accepted)
+}
+
+/// One byte of another's name changed, but not in its case alone, is a name of its own.
 fn name_nearly(disk: &mut Disk, index: usize, random: &mut Random) -> Option<Outcome> {
     let slot = disk.files[index].slot;
     let name = names::changed(random.pick(&disk.names()), random);
-    if name[0] == 0 || disk.names().contains(&name) {
+    if name[0] == 0 || disk.names().iter().any(|other| names::same(other, &name)) {
         return None;
     }
     rename(disk, slot, &name);

@@ -9,7 +9,8 @@ use crate::support::random::Random;
 #[rustfmt::skip]
 pub const ALL: &[&Damage] = &[
     &Damage { title: "unknown kind", own: true, apply: unknown_kind },
-    &Damage { title: "kind not carried", own: true, apply: kind_not_carried },
+    &Damage { title: "kind that cannot be read", own: true, apply: kind_not_read },
+    &Damage { title: "kind of the Spectrum", own: true, apply: kind_of_spectrum },
     &Damage { title: "hidden or protected turned", own: true, apply: marks },
     &Damage { title: "erased", own: true, apply: erased },
     &Damage { title: "count out of range", own: true, apply: count_outside },
@@ -33,13 +34,28 @@ fn unknown_kind(disk: &mut Disk, index: usize, random: &mut Random) -> Option<Ou
     Some(Outcome::Refused(2, slot))
 }
 
-/// A carried kind made one that is only known: its header is looked at no more.
-fn kind_not_carried(disk: &mut Disk, index: usize, random: &mut Random) -> Option<Outcome> {
+/// A kind made one that is only known: its header is looked at no more.
+fn kind_not_read(disk: &mut Disk, index: usize, random: &mut Random) -> Option<Outcome> {
+    set_kind(disk, index, random.pick(&[5, 6, 12, 21, 22, 23]));
+    Some(Outcome::Accepted)
+}
+
+/// A kind made one of the Spectrum: what stands in its first sector is then its header, and must not say too long a length.
+fn kind_of_spectrum(disk: &mut Disk, index: usize, random: &mut Random) -> Option<Outcome> {
+    set_kind(disk, index, random.between(1, 4) as u8);
+    let file = &disk.files[index];
+    let length = fields::plus_d(disk.first(file), fields::PLUS_D_LENGTH);
+    Some(if length > fills(file.chain.len()) {
+        Outcome::Refused(25, file.slot)
+    } else {
+        Outcome::Accepted
+    })
+}
+
+fn set_kind(disk: &mut Disk, index: usize, kind: u8) {
     let slot = disk.files[index].slot;
-    let kind = random.pick(&[1, 5, 12, 21, 22, 23]);
     let byte = &mut disk.slot_mut(slot)[0];
     *byte = *byte & 192 | kind;
-    Some(Outcome::Accepted)
 }
 
 fn marks(disk: &mut Disk, index: usize, random: &mut Random) -> Option<Outcome> {
