@@ -75,17 +75,17 @@ enum varnucht_size {
 };
 
 /* 3. REFUSALS, in the words of the rules (document 01), in the order in which they are tested: 1 first; then 2 to 9 at every
- * live slot, the lowest slot first and at a slot the lowest number; then 10, 11 and 25 likewise; then the lowest that applies
- * of 12 to 20. So 12 to 20 say that the disk itself is good. varnucht_check_release alone tests 22 too, at a slot directly after
- * 7. varnucht_sector tests 1 and then 21, and looks at no directory. varnucht_next refuses nothing. 3 is given no
- * more, by any call: its number stays reserved, and "1 to 11" below is without it.
+ * live slot, the lowest slot first and at a slot the lowest number; then 10, 11 and 25 likewise; then the lowest that
+ * applies of 12 to 20. So 12 to 20 say that the disk itself is good. varnucht_check_release alone tests 22 too, directly
+ * after 7 at a slot. varnucht_sector tests 1 and then 21, and looks at no directory. varnucht_next refuses nothing.
+ * 3 is given no more, by any call: its number stays reserved, and "1 to 11" below is without it.
  *
  * The slot comes with 2 to 11, 22 and 25; with 13 and 14 of varnucht_read, varnucht_open and varnucht_start, where it is the
  * file's; with 16, where it is that of the file which has the new name; and with 17. With all others, 13 and 14 of
  * varnucht_save too, it is 0. */
 enum varnucht_reason {
     VARNUCHT_ACCEPTED = 0,
-    /* The disk is not good. Every call can give these but varnucht_sector, which can give 1, and varnucht_next. */
+    /* The disk is not good. Every call can give these and 25 but varnucht_sector, which can give 1, and varnucht_next. */
     VARNUCHT_NOT_AN_IMAGE = 1,          /* the image is not 819,200 bytes */
     VARNUCHT_KIND_UNKNOWN = 2,          /* the kind is not known (1 to 12 and 16 to 23 are) */
     VARNUCHT_NAME_MISSING = 3,          /* reserved, given no more: where the first name byte is 0 the directory ends */
@@ -115,7 +115,7 @@ enum varnucht_reason {
     /* The disk is not fit to go out. */
     VARNUCHT_WASTE_SECTORS = 22,        /* carried kind, and the count is above the least that its length needs: the least n
                                            with 510 * n at least 9 + length (varnucht_check_release alone) */
-    /* The disk is not good, as with 1 to 11. */
+    /* The disk is not good, as with 1 to 11; the same calls can give it, but varnucht_sector. */
     VARNUCHT_BODY_TOO_LONG = 25         /* kind 1 to 4, and 510 * count is below 9 + the length in the file's header */
 };
 
@@ -165,9 +165,9 @@ static inline const char *varnucht_words(unsigned refusal) {
  * Refusals: 1 to 11, 25. */
 uint64_t varnucht_check(const uint8_t *image, size_t image_len);
 
-/* Whether the disk is good and fit to go out: no file of a carried kind has waste sectors behind it, which is where old texts
- * hide. A file has them where its count is above the least that its length needs. Every other call accepts such a disk.
- * Value: 0. Refusals: 1 to 11, 22, 25. Stack: 1,224 bytes. */
+/* Whether the disk is good and fit to go out: no file of a carried kind has waste sectors behind it, where old texts hide. A
+ * file has them where its count is above the least that its length needs. Every other call accepts such a disk still.
+ * Value: 0. Refusals: 1 to 11, 22, 25. Stack: 1,288 bytes. */
 uint64_t varnucht_check_release(const uint8_t *image, size_t image_len);
 
 /* Every file, hidden ones too, by rising slot, at 258 bytes each from the front of `out`; section 6 says how to read them.
@@ -177,7 +177,8 @@ uint64_t varnucht_list(const uint8_t *image, size_t image_len, uint8_t *out, siz
 
 /* A file's body, of kind 16 to 20 or 1 to 4, to the front of `out`. Value: its length in bytes, 0 to 795,591, and of kinds 1
  * to 4 at most 65,535. `out`: as long as the body, and VARNUCHT_BODY_BYTES always suffice. varnucht_open tells the length of
- * every file that can be read, and a listing that of kinds 16 to 20 (varnucht_entry_length). Refusals: 1 to 11, 25, 12, 13, 15, 20. */
+ * every file that can be read, and a listing that of kinds 16 to 20 (varnucht_entry_length).
+ * Refusals: 1 to 11, 25, 12, 13, 15, 20. */
 uint64_t varnucht_read(const uint8_t *image, size_t image_len, const uint8_t *name, size_t name_len, uint8_t *out,
                        size_t out_len);
 
@@ -203,7 +204,8 @@ uint64_t varnucht_read(const uint8_t *image, size_t image_len, const uint8_t *na
  * than that the call answers and touches nothing but `out`. */
 
 /* Finds a file. Value: the length of its body in bytes, 0 to 795,591. Slot: the sector that the body begins in, 0 to 1,599.
- * Free: the place of its first byte there, 9. Refusals: 1 to 11, 25, 12, 13, 15, as varnucht_read has them. Stack: 1,320 bytes. */
+ * Free: the place of its first byte there, 9. Refusals: 1 to 11, 25, 12, 13, 15, as varnucht_read has them.
+ * Stack: 1,368 bytes. */
 uint64_t varnucht_open(const uint8_t *image, size_t image_len, const uint8_t *name, size_t name_len);
 
 /* The next bytes, to the front of `out`: as many as it holds or as are left.
@@ -246,8 +248,8 @@ static inline size_t varnucht_reader_next(struct varnucht_reader *reader, const 
     return varnucht_value(answer);
 }
 
-/* The address that a file is loaded to. Value: page * 16,384 + offset - 16,384, which is 16,384 to 540,671; of kinds 1 to 4 the
- * start in the file's header as it stands, 0 to 65,535, with no 14.
+/* The address that a file is loaded to. Value: page * 16,384 + offset - 16,384, which is 16,384 to 540,671; of kinds 1 to 4
+ * the start in the file's header as it stands, 0 to 65,535, and never 14.
  * Refusals: 1 to 11, 25, 12, 13, 14, 15. */
 uint64_t varnucht_start(const uint8_t *image, size_t image_len, const uint8_t *name, size_t name_len);
 
@@ -368,8 +370,8 @@ static inline int varnucht_entry_carried(const uint8_t *entry) {
     return varnucht_entry_kind(entry) >= 16 && varnucht_entry_kind(entry) <= 20;
 }
 
-/* Whether the kind is one of the Spectrum's that can be read, 1 to 4. The entry has neither the length nor the start of such a
- * file, because they stand in the file itself: varnucht_open answers the one and varnucht_start the other. */
+/* Whether the kind is one of the Spectrum's that can be read, 1 to 4. The entry has neither the length nor the start of such
+ * a file, because they stand in the file itself: varnucht_open answers the one and varnucht_start the other. */
 static inline int varnucht_entry_spectrum(const uint8_t *entry) {
     return varnucht_entry_kind(entry) >= 1 && varnucht_entry_kind(entry) <= 4;
 }
@@ -416,8 +418,8 @@ static inline const uint8_t *varnucht_entry_exec(const uint8_t *entry) { return 
  * to 126 alone, and the first is not 32. Anything else is refused 12.
  *
  * A kind is a number. 1 to 12 and 16 to 23 are known, and their files are listed, erased, renamed and marked. Only the
- * carried kinds, 16 to 20, and those of the Spectrum with a header of the Plus D, 1 to 4, have a body and a start address for
- * these calls. Only the carried kinds can be saved. */
+ * carried kinds, 16 to 20, and those of the Spectrum with a header of the Plus D, 1 to 4, have a body and a start address
+ * for these calls. Only the carried kinds can be saved. */
 enum varnucht_kind {
     VARNUCHT_KIND_ZX_BASIC = 1,         /* kinds of the Spectrum */
     VARNUCHT_KIND_ZX_NUMBERS = 2,

@@ -48,8 +48,8 @@ pub enum Change<'a> {
     Save(NewFile<'a>),
     /// Erase a file. Refused 15 (no such file) and 17 (protected).
     Erase(Name),
-    /// Give a file another name, or the same with other capitals. Refused 15, 16 (another file has the name, or the file itself
-    /// has it byte for byte) and 17.
+    /// Give a file another name, or the same with other capitals. Refused 15, 16 (another file has the name, or the file
+    /// itself has it byte for byte) and 17.
     Rename(Name, NewName),
     /// Hide a file. Refused 15. One that is hidden already stays so.
     Hide(Name),

@@ -101,8 +101,8 @@ impl Disk {
         self.image.check_release()
     }
 
-    /// A file's body. Refused 15 where there is no such file, 13 with the slot where its kind is neither carried nor one of the
-    /// Spectrum's, 1 to 4.
+    /// A file's body. Refused 15 where there is no such file, 13 with the slot where its kind cannot be read: it is neither
+    /// carried nor [one of the Spectrum's](crate::Kind::is_spectrum).
     ///
     /// The whole disk is looked at, and the body is copied into a new vector of its length.
     pub fn read(&self, name: &Name) -> Result<Vec<u8>, Refused> {
@@ -122,16 +122,16 @@ impl Disk {
         Reader::open(&self.image, name)
     }
 
-    /// The length of a file's body, of every kind that can be read. Refused as [`read`](Disk::read) is. [`Entry::length`] gives
-    /// it too, but not for the kinds of the Spectrum, whose length stands in the file itself.
+    /// The length of a file's body, of every kind that can be read. Refused as [`read`](Disk::read) is. [`Entry::length`]
+    /// gives it too, but not for the kinds of the Spectrum, whose length stands in the file itself.
     pub fn length(&self, name: &Name) -> Result<u32, Refused> {
         let found = calls::open(self.image.as_bytes(), name.as_bytes()).decode()?;
         Ok(found.value)
     }
 
-    /// A file's start address; of a Spectrum kind, 1 to 4, the start in its header as it stands, 0 to 65,535. Refused 15 where
-    /// there is no such file; with the slot 13 where it has no start, because its kind is another, and 14 where a carried kind's
-    /// offset is out of range.
+    /// A file's start address; of a Spectrum kind, 1 to 4, the start in its header as it stands, 0 to 65,535. Refused 15
+    /// where there is no such file; with the slot 13 where its kind cannot be read, and 14 where a carried kind's offset is
+    /// out of range.
     pub fn start(&self, name: &Name) -> Result<u32, Refused> {
         calls::start(self.image.as_bytes(), name.as_bytes())
             .decode()

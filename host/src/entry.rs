@@ -69,8 +69,8 @@ impl Entry {
         (0..1_560).filter(set).filter_map(SectorNumber::of_bit)
     }
 
-    /// The length of the file's body; none for a kind that is not carried. That of a Spectrum kind, 1 to 4, stands not here but in
-    /// the file's header: [`Disk::length`](crate::Disk::length) gives it.
+    /// The length of the file's body; none for a kind that is not carried. That of a Spectrum kind, 1 to 4, stands not here
+    /// but in the file's header: [`Disk::length`](crate::Disk::length) gives it.
     pub fn length(&self) -> Option<u32> {
         self.kind().carried()?;
         let remainder = u16::from_le_bytes([self.bytes[240], self.bytes[241]]) & 0x3fff;
@@ -85,8 +85,8 @@ impl Entry {
         u16::try_from(sectors).ok()
     }
 
-    /// Where the file starts in memory; none for a kind that is not carried, and where the offset is out of its range. That of a
-    /// Spectrum kind stands in the file's header: [`Disk::start`](crate::Disk::start) gives it.
+    /// Where the file starts in memory; none for a kind that is not carried, and where the offset is out of its range. That
+    /// of a Spectrum kind stands in the file's header: [`Disk::start`](crate::Disk::start) gives it.
     pub fn start(&self) -> Option<Start> {
         self.kind().carried()?;
         let offset = u16::from_le_bytes([self.bytes[237], self.bytes[238]]);

@@ -56,8 +56,8 @@ impl Kind {
         WORDS.iter().find(|(number, _)| *number == self.0).map(|(_, words)| *words)
     }
 
-    /// Whether it is a Spectrum file with a header of the Plus D, 1 to 4. Its body can be read, and its length and start stand in
-    /// that header: [`Disk::length`](crate::Disk::length) and [`Disk::start`](crate::Disk::start) give them. It cannot be saved.
+    /// Whether it is a Spectrum file with a header of the Plus D, 1 to 4. It can be read and not saved. Its length and its
+    /// start stand in that header: [`Disk::length`](crate::Disk::length) and [`Disk::start`](crate::Disk::start) give them.
     pub fn is_spectrum(self) -> bool {
         matches!(self.0, 1..=4)
     }

@@ -82,9 +82,9 @@
 //!
 //! # Spectrum files
 //!
-//! The same disks hold files of the Spectrum. Those of kinds 1 to 4 have a header of the Plus D, and can be read whole or piece
-//! by piece; they cannot be saved. Their length and start stand in that header and not in the listing: [`Disk::length`] and
-//! [`Disk::start`] give them.
+//! The same disks hold files of the Spectrum. Those of kinds 1 to 4 have a header of the Plus D, and can be read whole or
+//! piece by piece; they cannot be saved. Their length and start stand in that header and not in the listing:
+//! [`Disk::length`] and [`Disk::start`] give them.
 //!
 //! # Before a compilation goes out
 //!

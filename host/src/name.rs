@@ -10,8 +10,8 @@ pub const NAME_LENGTH: usize = 10;
 
 /// A name that can be asked for: 1 to 10 bytes, the first not 0, filled with spaces to ten.
 ///
-/// Two names are equal when those ten bytes are, where a to z count as A to Z: then they find the same file. The bytes stay as
-/// they were given. As text it is printed without the spaces that fill it, and with the escapes of
+/// Two names are equal when those ten bytes are, where a to z count as A to Z: then they find the same file. The bytes stay
+/// as they were given. As text it is printed without the spaces that fill it, and with the escapes of
 /// [`escape`](mod@crate::escape), so that every name can be typed back.
 ///
 /// ```

@@ -37,8 +37,8 @@ pub enum Refusal {
     StartOutside,
     /// 15: no live slot has the name, capitals or not.
     NotFound,
-    /// 16: a live slot has the new name, capitals or not. A rename may alter the capitals of the file's own name; it is refused
-    /// where another file has the name, or the file itself has it byte for byte.
+    /// 16: a live slot has the new name, capitals or not. A rename may alter the capitals of the file's own name; it is
+    /// refused where another file has the name, or the file itself has it byte for byte.
     NameTaken,
     /// 17: the file is protected.
     Protected,

@@ -1,5 +1,5 @@
-//! The disks of the benchmark, made by `paper::save` and `paper::erase`; in one the sectors of the file are then shuffled, and in
-//! one the last file is made one of the Spectrum.
+//! The disks of the benchmark, made by `paper::save` and `paper::erase`; in one the sectors of the file are then shuffled,
+//! and in one the last file is made one of the Spectrum.
 
 use crate::geometry::{address, bit_place};
 use crate::random::Random;
@@ -60,8 +60,8 @@ pub fn one() -> Disk {
     made("1 x 795,591", 1, LONGEST, unlike)
 }
 
-/// The disk of one file of the Spectrum, kind 4, with the longest body that its header can say. Eight files of code stand
-/// before it.
+/// A disk whose last file is one of the Spectrum, kind 4, with the longest body that a header can say. Eight files of code
+/// stand before it.
 pub fn spectrum() -> Disk {
     let mut disk = made("9 x 65,535, kind 4", 9, 65_535, unlike);
     let mut image = disk.image.to_vec();
@@ -115,18 +115,23 @@ pub fn less_one(disk: &Disk, title: &'static str) -> Disk {
     }
 }
 
-/// Ten bytes that differ from file to file in the first byte.
+/// Ten bytes that differ from file to file in the first two bytes.
 fn unlike(file: u8) -> [u8; 10] {
-    let mut name = *b"-disk file";
-    name[0] = b'!' + file;
+    let mut name = *b"--disk one";
+    name[..2].copy_from_slice(&sign(file));
     name
 }
 
-/// Ten bytes that differ from file to file in the last byte alone.
+/// Ten bytes that differ from file to file in the last two bytes alone.
 fn alike(file: u8) -> [u8; 10] {
-    let mut name = *b"disk file-";
-    name[9] = b'!' + file;
+    let mut name = *b"disk one--";
+    name[8..].copy_from_slice(&sign(file));
     name
+}
+
+/// Two bytes for each file. The first are not enough alone, because capitals or not a letter is the same.
+fn sign(file: u8) -> [u8; 2] {
+    [b'!' + file / 2, b'0' + file % 2]
 }
 
 /// Bytes without a short period, so that no sector is like the next.

@@ -16,13 +16,13 @@ pub fn print_head(timer: Duration) {
     println!("region; the changed sectors are put back after each call, untimed.");
     println!("No buffer is cleared between calls, and both sides use the same image and buffer: the caches are warm.");
     println!(
-        "read, open and erase take the last file. Files have kind 19, but the last of a disk 'kind 4', and names of ten bytes"
+        "read, open and erase take the last file. Files have kind 19, but the last of a disk 'kind 4'. Their names have ten"
     );
     println!(
-        "that differ in the first byte; with 'names alike' in the tenth alone. 'less one', 'erased': the last file was erased"
+        "bytes that differ in the first two; with 'names alike' in the last two alone. 'less one', 'erased': the last file"
     );
     println!(
-        "before, so the save takes its slot and sectors. 'old slots': behind its end the directory is full of old bytes."
+        "was erased before, so the save takes its slot and sectors. 'old slots': behind its end the directory has old bytes."
     );
     println!();
     println!(

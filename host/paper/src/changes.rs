@@ -21,7 +21,8 @@ pub fn erase(image: &mut [u8], name: &[u8], list: &mut [u8]) -> Result<usize, Re
     Ok(1)
 }
 
-/// Changes the ten name bytes. The file's own name in other letters is accepted; its own bytes are not, nor is another's name.
+/// Changes the ten name bytes. The file's own name with other capitals is accepted; its own bytes are not, nor is another's
+/// name.
 pub fn rename(image: &mut [u8], name: &[u8], new: &[u8], list: &mut [u8]) -> Result<usize, Refused> {
     let image = whole_mut(image)?;
     survey(image)?;

@@ -1,4 +1,4 @@
-//! Document 01 in plain Rust, with M-100, M-102, M-103, M-105 and M-107 of document 02, written from the papers alone. The tests
+//! Document 01 in plain Rust, with those requests of document 02 that have landed, written from the papers alone. The tests
 //! and the benchmark compare the proved library with it.
 //!
 //! Every call takes any bytes and any numbers. A refused call changes no byte of anything lent.

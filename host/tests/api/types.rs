@@ -61,8 +61,8 @@ fn new_names() {
     println!("{} new names", names.len());
 }
 
-/// Two names are equal where the library finds a file of the one by the other; then they hash alike and stand at one place in an
-/// order. Their bytes stay as given.
+/// Two names are equal where the library finds a file of the one by the other; then they hash alike and stand at one place in
+/// an order. Their bytes stay as given.
 #[test]
 fn names_that_are_the_same() {
     let hash = |name: &Name| BuildHasherDefault::<DefaultHasher>::default().hash_one(name);

@@ -74,8 +74,8 @@ impl Usual {
     }
 }
 
-/// A drawn disk with a free slot, room for three sectors, no waste sectors, and a carried file of some length that starts inside
-/// the range and is not protected.
+/// A drawn disk with a free slot, room for three sectors, no waste sectors, and a carried file of some length that starts
+/// inside the range and is not protected.
 pub fn disk() -> (Disk, usize) {
     let fits = |disk: &Disk, i: usize| {
         let slot = disk.slot(disk.files[i].slot);

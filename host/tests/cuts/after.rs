@@ -22,8 +22,8 @@ pub fn examine(change: &Change) {
     seen(change);
 }
 
-/// A saved file reads back with the start asked for; an erased one is gone; a renamed one answers to its new name alone, unless
-/// the old one is the same in other letters.
+/// A saved file reads back with the start asked for; an erased one is gone; a renamed one answers to its new name alone,
+/// unless the old one is the same with other capitals.
 fn seen(change: &Change) {
     let slices = &change.asked.slices;
     match change.asked.call {

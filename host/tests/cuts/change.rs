@@ -1,7 +1,7 @@
 //! An accepted change: the old disk, the new one, and the sectors that it names.
 
 use crate::support::asking::Asked;
-use crate::support::calls::{self, BODY, Call, NAME, NEW, OUT};
+use crate::support::calls::{self, BODY, Call, NAME, NEW, OUT, Request};
 use crate::support::compare;
 use crate::support::facts::{self, Facts, Live};
 use crate::support::fields;
@@ -111,6 +111,15 @@ impl Change<'_> {
         let taken = whole && self.asked.call == Call::Save && facts.taken == facts.end;
         let end = facts.end.map(|end| end + usize::from(taken)).filter(|&end| end <= SLOTS);
         assert_eq!(facts::end(disk), end, "the directory ends elsewhere");
+    }
+
+    /// Where no file had waste sectors none has any now: the new disk may go out where the old one might.
+    pub fn leaves_no_waste(&self) {
+        let [old, new] = [self.old, &self.new].map(|disk| {
+            let request = Request::new(Call::CheckRelease, disk);
+            calls::refusal(compare::ask(&request, &mut Margins::default()).answer)
+        });
+        assert!(old != 0 || new == 0, "{:?} leaves waste sectors", self.asked.call);
     }
 
     /// The old disk with the first k named sectors taken from the new one.

@@ -128,6 +128,7 @@ fn cut(change: &Change, counts: &mut Counts, random: &mut Random) {
         } else {
             assert!(disk == change.new, "cut after all sectors, the disk is not the new one");
             answers::accepted(&disk);
+            change.leaves_no_waste();
         }
         counts.cuts += 1;
     }

@@ -46,6 +46,20 @@ fn the_archive_keeps_no_state() {
     }
 }
 
+/// The stack that the header says a call needs, for each call that it says it of.
+fn stack_said() -> Vec<(String, usize)> {
+    let figure = |piece: &str| {
+        let (bytes, after) = piece.split_once(" bytes. */\nuint64_t varnucht_")?;
+        let (call, _) = after.split_once('(')?;
+        Some((call.to_string(), bytes.replace(',', "").parse().ok()?))
+    };
+    let header = header_text();
+    let pieces = header.split("Stack: ").skip(1);
+    pieces
+        .map(|piece| figure(piece).expect("a figure, and then its call"))
+        .collect()
+}
+
 /// `stack.c` says of each call how many bytes of painted stack it wrote over. A save took less than 5,500 bytes and every
 /// other call at most 1,400 when the walk along a chain began to mark the sectors passed. The frames in the compiled code
 /// have fixed sizes and no call leads back to itself, so that their sum, about the same, holds for every input.
@@ -57,13 +71,16 @@ fn the_calls_need_little_stack() {
     let text = String::from_utf8_lossy(&output.stdout);
     println!("{text}");
     assert!(output.status.success());
-    let mut calls = BTreeSet::new();
+    let (mut calls, said) = (BTreeSet::new(), stack_said());
+    assert!(!said.is_empty(), "the header says nothing of the stack");
     for line in text.lines() {
         let words: Vec<&str> = line.split(' ').collect();
         let [call, bytes, "refused", number] = words[..] else {
             panic!("{line}")
         };
         let bytes: usize = bytes.parse().expect("a number");
+        let said = said.iter().find(|(name, _)| name == call).map(|(_, most)| *most);
+        assert!(said.is_none_or(|most| bytes <= most), "{line}: the header says {said:?}");
         let most = if call == "save" { 8192 } else { 2048 };
         assert!(bytes > 0 && bytes < most, "{line}");
         let checks = ["check", "check_release"].contains(&call);

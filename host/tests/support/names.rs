@@ -1,5 +1,5 @@
-//! Drawn names. A live slot's name may be any ten bytes but for the first, which is not 0; a new name keeps to 32 to 126. Two
-//! names are the same where they differ in a to z against A to Z alone.
+//! Drawn names. A live slot's name may be any ten bytes but for the first, which is not 0; a new name keeps to 32 to 126.
+//! Two names are the same where they differ in a to z against A to Z alone.
 
 use super::random::Random;
 

@@ -1,5 +1,5 @@
-//! Waste sectors, and what the check before a release says of them: document 02, M-102. A third opinion, from the bytes of the
-//! slots and from what the first check says.
+//! Waste sectors, and what the check before a release says of them: document 02, M-102. A third opinion, from the bytes of
+//! the slots and from what the first check says.
 
 use super::calls::{refusal, slot};
 use super::facts;

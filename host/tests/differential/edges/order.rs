@@ -1,5 +1,5 @@
-//! The order of the table: at a slot the lowest number; the lowest slot first; all slots for 2 to 9 before any for 10, 11 and
-//! 25; and nothing from the directory's end on.
+//! The order of the table: at a slot the lowest number; the lowest slot first; all slots for 2 to 9 before any for 10, 11
+//! and 25; and nothing from the directory's end on.
 
 use super::expect;
 use crate::support::asking::Asked;

@@ -1,5 +1,5 @@
-//! Kinds 1 to 4: every byte of their header, lengths around the most that the sectors hold, starts, and the place of 25 in the
-//! order.
+//! Kinds 1 to 4: every byte of their header, lengths around the most that the sectors hold, starts, and the place of 25 in
+//! the order.
 
 use super::expect;
 use crate::support::asking::Asked;
