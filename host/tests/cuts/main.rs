@@ -52,10 +52,13 @@ fn every_change_cut_anywhere() {
         "{:?}: {:?} changes, {:?} saves that clear a slot in the same sector and in another, {} cuts, {} answers",
         CHANGES, counts.changes, counts.clearing, counts.cuts, counts.answers
     );
-    let mut all = counts.changes.iter().chain(&counts.clearing);
     assert!(
-        !rounds.enough() || all.all(|&changes| changes >= 20),
+        !rounds.enough() || counts.changes.iter().all(|&changes| changes >= 20),
         "too few changes were accepted"
+    );
+    assert!(
+        !rounds.enough() || counts.clearing.iter().all(|&saves| saves >= 5),
+        "too few saves cleared a slot"
     );
 }
 
