@@ -55,10 +55,13 @@ fn every_change_cut_anywhere() {
          {} answers",
         CHANGES, counts.changes, counts.turned, counts.clearing, counts.cuts, counts.answers
     );
-    let mut all = counts.changes.iter().chain(&counts.clearing).chain([&counts.turned]);
     assert!(
-        !rounds.enough() || all.all(|&changes| changes >= 20),
+        !rounds.enough() || counts.changes.iter().chain([&counts.turned]).all(|&changes| changes >= 20),
         "too few changes were accepted"
+    );
+    assert!(
+        !rounds.enough() || counts.clearing.iter().all(|&saves| saves >= 5),
+        "too few saves cleared a slot"
     );
 }
 
