@@ -77,8 +77,8 @@ enum varnucht_size {
 /* 3. REFUSALS, in the words of the rules (document 01), in the order in which they are tested: 1 first; then 2 to 9 at every
  * live slot, the lowest slot first and at a slot the lowest number; then 10, 11 and 25 likewise; then the lowest that
  * applies of 12 to 20. So 12 to 20 say that the disk itself is good. varnucht_check_release alone tests 22 too, directly
- * after 7 at a slot. varnucht_sector tests 1 and then 21, and looks at no directory. varnucht_next refuses nothing. 3 is
- * given no more, by any call: its number stays reserved, and "1 to 11" below is without it.
+ * after 7 at a slot. varnucht_sector tests 1 and then 21, and looks at no directory. varnucht_next refuses nothing.
+ * 3 is given no more, by any call: its number stays reserved, and "1 to 11" below is without it.
  *
  * The slot comes with 2 to 11, 22 and 25; with 13 and 14 of varnucht_read, varnucht_open and varnucht_start, where it is the
  * file's; with 16, where it is that of the file which has the new name; and with 17. With all others, 13 and 14 of

@@ -185,8 +185,8 @@ mod tests {
         let mut image = case_l();
         for byte_0 in [0, 16, 63] {
             put(&mut image, 2, 0, &[byte_0]);
-            let image = whole(&image).expect("a whole image");
-            let survey = directory(image, Purpose::Use).unwrap_or_else(|refused| panic!("{refused:?}"));
+            let whole = whole(&image).expect("a whole image");
+            let survey = directory(whole, Purpose::Use).unwrap_or_else(|refused| panic!("{refused:?}"));
             assert_eq!((survey.files, survey.free(), survey.used.count()), (1, 1_540, 20));
         }
         let image = case_l_read_on();

@@ -8,7 +8,7 @@
 //! - `name`: names asked for and new names, and when two are the same
 //! - `slot`: what the 256 bytes of a directory slot say, and where the directory ends
 //! - `spectrum`: the header of kinds 1 to 4
-//! - `check`: refusals 1 to 11 and 25, and 22 before a release
+//! - `check`: refusals 1, 2, 4 to 11 and 25, and 22 before a release
 //! - `calls`: the two checks, list, read, start address, raw sector
 //! - `pieces`: a file's body a piece at a time
 //! - `save`: the change that takes slots and sectors

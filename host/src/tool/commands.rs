@@ -147,8 +147,8 @@ pub const COMMANDS: &[Command] = &[
         more: &[
             "Prints `accepted`, or says which slot is wrong and why. Of several images
 each gets its line, with its name in front, and the greatest status is given.",
-            "The directory ends at its first slot without a name, and what stands behind
-is not looked at.",
+            "The directory ends at its first slot without a name, and what stands behind is
+not looked at.",
             PIPE,
         ],
         run: check::run,

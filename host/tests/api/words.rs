@@ -34,7 +34,7 @@ fn every_refusal_is_met() {
         assert_eq!(parts(refused), (number, slot, format!("refusal {number}{at}: {words}")));
         met.push(number);
     }
-    let given = TABLE.iter().map(|(number, _)| number).filter(|number| **number != 3);
+    let given = TABLE.iter().map(|(number, _)| number).filter(|&&number| number != 3);
     assert!(met.iter().eq(given), "{met:?}");
 }
 

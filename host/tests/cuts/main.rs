@@ -28,10 +28,10 @@ use support::shapes::{Ground, Order, Shape};
 #[derive(Default)]
 struct Counts {
     changes: [usize; 7],
-    /// The renames among them that alter the case of the file's own name alone.
-    turned: usize,
     /// Saves that clear the slot behind the directory's end: in their slot's sector, and in another.
     clearing: [usize; 2],
+    /// The renames among them that alter the case of the file's own name alone.
+    turned: usize,
     cuts: usize,
     answers: usize,
 }
@@ -55,10 +55,13 @@ fn every_change_cut_anywhere() {
          {} answers",
         CHANGES, counts.changes, counts.turned, counts.clearing, counts.cuts, counts.answers
     );
-    let mut all = counts.changes.iter().chain(&counts.clearing);
     assert!(
-        !rounds.enough() || all.all(|&changes| changes >= 20),
+        !rounds.enough() || counts.changes.iter().chain([&counts.turned]).all(|&changes| changes >= 20),
         "too few changes were accepted"
+    );
+    assert!(
+        !rounds.enough() || counts.clearing.iter().all(|&saves| saves >= 5),
+        "too few saves cleared a slot"
     );
 }
 

@@ -28,6 +28,24 @@ static void check_greatest_body(void) {
     expect(varnucht_refusal(answer) == 0 && varnucht_value(answer) == 540671, "the greatest address", 0);
 }
 
+/* A file in slot 1, the directory's end at slot 2 and an old name in slot 3, which is in another sector: that is named too,
+ * behind the data. */
+static void check_longest_list(void) {
+    static const uint8_t first[] = {'A'};
+    const size_t rest = 510 * 1559 - 9;
+    memset(image, 0, sizeof image);
+    expect(varnucht_refusal(save(first, 1, 0, 4)) == 0, "a file in slot 1", 0);
+    image[2 * 256] = VARNUCHT_KIND_CODE;
+    image[2 * 256 + 1] = 'X';
+    expect(varnucht_check(image, sizeof image) == 0, "a slot behind the end is not looked at", 0);
+    expect(save(tunes, 5, rest, 2 * 1561 - 1) == VARNUCHT_BUFFER_TOO_SHORT, "a list too short for both", 0);
+    uint64_t answer = save(tunes, 5, rest, sizeof list);
+    expect(varnucht_refusal(answer) == 0 && varnucht_value(answer) == 1561, "the longest list", 0);
+    expect(varnucht_listed(list, 1559) == 1 && varnucht_listed(list, 1560) == 0, "its last two sectors", 0);
+    expect(image[2 * 256] == 0 && image[2 * 256 + 1] == 0, "the old name is gone", 0);
+    expect(varnucht_check(image, sizeof image) == 0, "the disk is accepted", 0);
+}
+
 /* The greatest body of a kind of the Spectrum, which varnucht_open tells and a listing does not; and its greatest start. The
  * file is saved as code and then given the other kind, with the header that goes with it. */
 static void check_greatest_spectrum(void) {
@@ -52,24 +70,6 @@ static void check_greatest_spectrum(void) {
     expect(varnucht_refusal(varnucht_check(image, sizeof image)) == 0, "501 bytes fit", 0);
     image[80 * 512 + 1] = 502 % 256;
     expect(varnucht_check(image, sizeof image) == VARNUCHT_BODY_TOO_LONG + 256 * 1, "502 bytes do not", 0);
-}
-
-/* A file in slot 1, the directory's end at slot 2 and an old name in slot 3, which is in another sector: that is named too,
- * behind the data. */
-static void check_longest_list(void) {
-    static const uint8_t first[] = {'A'};
-    const size_t rest = 510 * 1559 - 9;
-    memset(image, 0, sizeof image);
-    expect(varnucht_refusal(save(first, 1, 0, 4)) == 0, "a file in slot 1", 0);
-    image[2 * 256] = VARNUCHT_KIND_CODE;
-    image[2 * 256 + 1] = 'X';
-    expect(varnucht_check(image, sizeof image) == 0, "a slot behind the end is not looked at", 0);
-    expect(save(tunes, 5, rest, 2 * 1561 - 1) == VARNUCHT_BUFFER_TOO_SHORT, "a list too short for both", 0);
-    uint64_t answer = save(tunes, 5, rest, sizeof list);
-    expect(varnucht_refusal(answer) == 0 && varnucht_value(answer) == 1561, "the longest list", 0);
-    expect(varnucht_listed(list, 1559) == 1 && varnucht_listed(list, 1560) == 0, "its last two sectors", 0);
-    expect(image[2 * 256] == 0 && image[2 * 256 + 1] == 0, "the old name is gone", 0);
-    expect(varnucht_check(image, sizeof image) == 0, "the disk is accepted", 0);
 }
 
 /* Eighty files fill the listing. The one after them is refused 18. */
@@ -115,8 +115,8 @@ void check_size_limits(void) {
         body[i] = (uint8_t)(drawn() >> 32);
     }
     check_greatest_body();
-    check_greatest_spectrum();
     check_longest_list();
+    check_greatest_spectrum();
     check_longest_listing();
     check_other_lists();
     expect(varnucht_check(image, sizeof image) == 0, "the disk is accepted", 0);

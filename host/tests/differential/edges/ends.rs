@@ -1,6 +1,6 @@
 //! Where the directory ends (document 02, M-103): each end beside each fault behind it, and saves into the end.
 
-use super::{expect, save};
+use super::{expect, release, save};
 use crate::support::asking::Asked;
 use crate::support::calls::{self, CALLS, Call, NAME, OUT};
 use crate::support::disks::{self, Disk};
@@ -15,19 +15,16 @@ const ENDS: [usize; 12] = [1, 2, 3, 4, 19, 20, 21, 22, 41, 60, 79, 80];
 /// What the end's byte 0 may be: it counts for nothing there.
 const BYTES_0: [u8; 4] = [0, 19, 63, 255];
 
-/// A disk whose slots up to this one all have files of two sectors, and no end; they are carried and not empty.
+/// A disk whose slots up to this one all have files of two sectors, none of them waste, and no end; the last is carried.
 fn full_to(last: usize) -> Disk {
-    let fits = |disk: &Disk| {
-        let file = &disk.files[last - 1];
-        fields::is_carried(file.kind) && !file.body.is_empty()
-    };
+    let fits = |disk: &Disk| fields::is_carried(disk.files[last - 1].kind);
     let drawn = (0..).map(|seed| {
         let shape = Shape {
             files: (1..=last).map(|slot| (slot, 2)).collect(),
             end: None,
             order: Order::Scattered,
             ground: Ground::Rubbish,
-            tidy: false,
+            tidy: true,
         };
         disks::of_shape(&shape, &mut Random::new(700 + seed))
     });
@@ -48,6 +45,11 @@ fn spoil(disk: &mut Disk, number: u8) {
         8 => slot[fields::COUNT..fields::INFO].copy_from_slice(&like[fields::COUNT..fields::INFO]),
         9 => slot[fields::NAME..fields::COUNT].copy_from_slice(&like[fields::NAME..fields::COUNT]),
         10 => disk.link(bad.chain[1], [4, 1]),
+        22 => release::set_length(disk, disk.files.len() - 1, 501),
+        25 => {
+            slot[0] = 4;
+            disk.sector_mut(bad.chain[0])[1..3].fill(255);
+        }
         _ => disk.sector_mut(bad.chain[0])[0] ^= 1,
     }
 }
@@ -59,13 +61,14 @@ fn faults_behind_the_end() {
     for end in ENDS.into_iter().filter(|&end| end < SLOTS) {
         let bad = (end + 2).min(SLOTS);
         let drawn = full_to(bad);
-        for number in [2, 4, 5, 6, 7, 8, 9, 10, 11] {
+        for number in [2, 4, 5, 6, 7, 8, 9, 10, 11, 22, 25] {
             let mut disk = drawn.clone();
             spoil(&mut disk, number);
             disk.slot_mut(end)[0] = 0;
             // The last slot has no file between it and the end that it could be like.
             if bad == end + 2 || !matches!(number, 8 | 9) {
-                for call in CALLS.into_iter().filter(|call| !call.is_raw()) {
+                let refuses = |call: &Call| !call.is_raw() && (number != 22 || *call == Call::CheckRelease);
+                for call in CALLS.into_iter().filter(refuses) {
                     assert_eq!(calls::slot(expect(&Asked::new(call), &disk.image, number).answer), bad);
                 }
             }
@@ -81,6 +84,7 @@ fn faults_behind_the_end() {
 /// found.
 fn ends_at(disk: &Disk, end: usize) {
     expect(&Asked::new(Call::Check), &disk.image, 0);
+    expect(&Asked::new(Call::CheckRelease), &disk.image, 0);
     for call in CALLS.into_iter().filter(|call| call.takes().contains(&NAME)) {
         expect(&Asked::new(call), &disk.image, 12);
     }
