@@ -78,7 +78,7 @@ module _ (c : Change) (d new ss : List ℕ) (whole : cut d new ss (length ss) �
 
 -- ---- a change of a slot that is read
 
-touch-unread : (c : Change) (d n : List ℕ) (o : ℕ) (y : File → List ℕ) (Also : File → Type 0) (new ss : List ℕ) → checkDisk d ≡ none
+touch-unread : (c : Change) (d n : List ℕ) (o : ℕ) (y : File → List ℕ) (Also : ℕ → File → Type 0) (new ss : List ℕ) → checkDisk d ≡ none
     → cut d new ss (length ss) ≡ new → (t : Touched d n o y Also new ss) → o + length (y (t .file)) ≤ 256 → ((j : ℕ) → Writes c d j → ⊥) → Unread c d new ss
 touch-unread c d n o y Also new ss ok whole t k w =
     unread-of c d new ss whole
