@@ -33,7 +33,7 @@ cross v i s =
 abbrev pub rowsAt : Bool → ℕ → Directory → ℕ → List ℕ → List Row
 rowsAt release n v i s = own n (facts s) ++ (strict release (facts s) ++ cross v i s)
 
--- the first of them that holds: "at a slot the lowest number"
+-- the first of them that holds; in the first check, where their numbers rise, "at a slot the lowest number"
 unfoldable pub surveyAt : Bool → ℕ → Directory → ℕ → Reply
 surveyAt release n v i = held none (λ s. rows (suc i) (rowsAt release n v i s)) (v i)
 
