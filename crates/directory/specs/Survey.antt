@@ -28,7 +28,7 @@ cross v i s =
     ∷ (9 when earlier v i (λ t. sameName (nameOf t) (nameOf s)))
     ∷ []
 
--- rows 2 to 9 at slot i, with n directory tracks beyond the four: "at a slot the lowest number"
+-- rows 2 to 9 at slot i (3 is given no more), with n directory tracks beyond the four: "at a slot the lowest number"
 unfoldable pub surveyAt : ℕ → Directory → ℕ → Reply
 surveyAt n v i = held none (λ s. rows (suc i) (own n (facts s) ++ cross v i s)) (v i)
 

@@ -52,7 +52,7 @@ pub record Renames (d new : List ℕ) (f : File) : Type 0 where
   pub fresh : Fresh d new
   pub unprotected : Unprotected f
 
--- a slot that is erased, or whose first name byte is 0: the lowest of these is the directory's end
+-- a slot that is erased, or whose first name byte is 0; of the latter the lowest is the directory's end
 abbrev pub Empty : List ℕ → ℕ → Type 0
 Empty d i = (getD (slotBytes d i) 0 0 ≡ 0) ⊎ (getD (slotBytes d i) 1 0 ≡ 0)
 
