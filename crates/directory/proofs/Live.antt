@@ -7,8 +7,7 @@ use mathlib.Core.Logic.{⊎-elim}
 use mathlib.Core.Option.{Option, none, some, Option·some-ne-none}
 use native.Mathlib.Nat.{add-zero, add-suc}
 use native.Mathlib.Omega.{arith}
-use borrow.Author.Tests.{lt-ltb, le-ltb}
-use lib.Dec.{ltb}
+use borrow.Author.Tests.{le-ltb}
 use Rattle.buffers.specs.Bytes.{part, count}
 use Rattle.buffers.proofs.Lists.{below-or-not, part-part}
 use Rattle.buffers.proofs.Counts.{count-more, count-le, count-add, none-count}

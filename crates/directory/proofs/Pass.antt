@@ -8,8 +8,8 @@ use mathlib.Core.Option.{Option, none, some}
 use native.Mathlib.Numerals.{add-one}
 use native.Mathlib.Omega.{arith}
 use borrow.Author.Tests.{not-false, leb-true, eqb-true, le-leb, eq-eqb}
-use lib.Dec.{eqb, leb, ltb}
-use lib.ListN.{length, getD}
+use lib.Dec.{leb, ltb}
+use lib.ListN.{length}
 use Rattle.buffers.proofs.Counts.{any-none, none-any}
 use Rattle.buffers.specs.Bytes.{any}
 use Rattle.maps.specs.Bits.{has, bitsOf, share, clear, join}

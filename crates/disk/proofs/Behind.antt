@@ -11,11 +11,11 @@ use Rattle.geometry.specs.Disk.{bitPlace}
 use Rattle.slots.specs.Slot.{isLive}
 use Rattle.chains.specs.File.{sectorAt}
 use Rattle.chains.proofs.Laws.{map-small}
-use Rattle.directory.specs.Places.{slots, slotAt, slotBytes}
+use Rattle.directory.specs.Places.{slotAt, slotBytes}
 use Rattle.directory.specs.Directory.{nameless, directory}
 use Rattle.directory.proofs.Places.{slots-count, slots-apart, data-all, slot-data-apart}
 use Rattle.directory.proofs.Ends.{seen-agree, nameless-agree, unseen-later, unseen-nameless}
-use Rattle.directory.proofs.Live.{directory-unseen, directory-past}
+use Rattle.directory.proofs.Live.{directory-unseen}
 use Rattle.disk.specs.Look.{look}
 use Rattle.disk.specs.Behind.{AlikeTo}
 use Rattle.disk.proofs.Look.{look-agree}

@@ -4,7 +4,7 @@ use mathlib.Core.Path.{_≡_, refl, sym, ap, _∙_, subst}
 use mathlib.Core.Bool.{Bool, true, false, cond, not, _&&_, true≢false}
 use mathlib.Core.List.{List, [], _∷_, _++_, append-assoc}
 use mathlib.Core.Logic.{_⊎_, inl, inr}
-use mathlib.Core.Option.{Option, none, some}
+use mathlib.Core.Option.{Option, none}
 use native.Mathlib.Omega.{arith}
 use borrow.Author.Tests.{ltb-true, lt-ltb, eqb-true, eqb-false, ne-eqb}
 use lib.Dec.{eqb, ltb}
@@ -24,7 +24,7 @@ use Rattle.steps.specs.Sectors.{listed, Once}
 use Rattle.steps.specs.Steps.{Step, putAll, enact, numbers, commits, lastOf, Inside, AllInside, Does, Goes}
 use Rattle.steps.proofs.Sectors.{listed-append, once-snoc}
 use Rattle.steps.proofs.Steps.{enact-append, goes-long, goes-append}
-use Rattle.plans.specs.Plan.{upd, slotPut, slotStep, oldName, together, endPut, cleared, endSteps, endPuts, dirSectors, endStep}
+use Rattle.plans.specs.Plan.{upd, slotPut, slotStep, oldName, together, noName, endPut, cleared, endSteps, endPuts, dirSectors, endStep}
 use Rattle.plans.proofs.Frame.{Reach, holds, inside-slot, there-slot, slot-new, slot-else, files-stay, slot-quiet}
 use Rattle.plans.proofs.Free.{FreeSlot}
 use Rattle.plans.proofs.Kept.{sound-long}
@@ -146,8 +146,8 @@ module _ (m : List ℕ) (ok : Sound (look m)) (i : ℕ) (h : i < slots) (old : B
   abbrev ended : List ℕ
   ended = cleared old i m
 
-  quiet : old ≡ true → look (put m (slotAt (suc i) + 0) (0 ∷ 0 ∷ [])) ≡ look m
-  quiet e = slot-quiet m (sound-long m ok) (suc i) (r .end e .1) 0 (0 ∷ 0 ∷ []) (omega arith) i (omega arith) (r .end e .0)
+  quiet : old ≡ true → look (put m (slotAt (suc i) + 0) noName) ≡ look m
+  quiet e = slot-quiet m (sound-long m ok) (suc i) (r .end e .1) 0 noName (omega arith) i (omega arith) (r .end e .0)
 
   pub end-look : look (cleared old i m) ≡ look m
   end-look = by old refl
@@ -163,8 +163,8 @@ module _ (m : List ℕ) (ok : Sound (look m)) (i : ℕ) (h : i < slots) (old : B
       by : (t : Bool) → old ≡ t → (u : Bool) → Goes look Sound m (behind old i (t && not u))
       by true e false = (
         record {
-          there = there-slot m (sound-long m ok) (suc i) (r .end e .1) 0 (0 ∷ 0 ∷ []) (omega arith);
-          inside = (inside-slot m (sound-long m ok) (suc i) (r .end e .1) 0 (0 ∷ 0 ∷ []) (omega arith), tt);
+          there = there-slot m (sound-long m ok) (suc i) (r .end e .1) 0 noName (omega arith);
+          inside = (inside-slot m (sound-long m ok) (suc i) (r .end e .1) 0 noName (omega arith), tt);
           sees = quiet e;
           ok = ok;
         },
@@ -178,15 +178,15 @@ module _ (m : List ℕ) (ok : Sound (look m)) (i : ℕ) (h : i < slots) (old : B
   end-else j n = by old refl
     where
       by : (t : Bool) → old ≡ t → slotBytes (cleared t i m) j ≡ slotBytes m j
-      by true e = slot-else m (sound-long m ok) (suc i) (r .end e .1) 0 (0 ∷ 0 ∷ []) (omega arith) j (n e)
+      by true e = slot-else m (sound-long m ok) (suc i) (r .end e .1) 0 noName (omega arith) j (n e)
       by false e = refl
 
-  end-next : old ≡ true → nameless (put m (slotAt (suc i) + 0) (0 ∷ 0 ∷ [])) (suc i) ≡ true
+  end-next : old ≡ true → nameless (put m (slotAt (suc i) + 0) noName) (suc i) ≡ true
   unfolding nameless
   end-next e =
       let l = part-long (slotAt (suc i)) 256 m (omega (arith, sound-long m ok, slot-front (suc i) (r .end e .1))) in
-      ap isNameless (slot-new m (sound-long m ok) (suc i) (r .end e .1) 0 (0 ∷ 0 ∷ []) (omega arith))
-      ∙ ap (λ (x : ℕ). eqb x 0) (put-in (slotBytes m (suc i)) 0 (0 ∷ 0 ∷ []) 1 (omega arith) (omega arith))
+      ap isNameless (slot-new m (sound-long m ok) (suc i) (r .end e .1) 0 noName (omega arith))
+      ∙ ap (λ (x : ℕ). eqb x 0) (put-in (slotBytes m (suc i)) 0 noName 1 (omega arith) (omega arith))
 
   -- and of the data sectors
   pub end-sectors : (x : List ℕ) → sectorsOf (cleared old i m) x ≡ sectorsOf m x
@@ -194,7 +194,7 @@ module _ (m : List ℕ) (ok : Sound (look m)) (i : ℕ) (h : i < slots) (old : B
   end-sectors x = by old refl
     where
       by : (t : Bool) → old ≡ t → sectorsOf (cleared t i m) x ≡ sectorsOf m x
-      by true e = ap (λ (f : File). f .sectors) (files-stay m (sound-long m ok) (suc i) (r .end e .1) 0 (0 ∷ 0 ∷ []) (omega arith) x)
+      by true e = ap (λ (f : File). f .sectors) (files-stay m (sound-long m ok) (suc i) (r .end e .1) 0 noName (omega arith) x)
       by false e = refl
 
   -- the slot can be written, and behind it no old name stands
@@ -223,8 +223,8 @@ module _ (m : List ℕ) (ok : Sound (look m)) (i : ℕ) (h : i < slots) (old : B
 
         by : (t : Bool) → old ≡ t → (u : Bool) → eqb (dirSector (suc i)) (dirSector i) ≡ u → AllInside (dirSector i) (cond (t && u) (endPut i) [] ++ slotPut i o y)
         by true e true q = (
-          subst (λ (s : ℕ). Inside s (record { place = slotAt (suc i) + 0; bytes = 0 ∷ 0 ∷ [] })) (eqb-true (dirSector (suc i)) (dirSector i) q)
-              (inside-slot m (sound-long m ok) (suc i) (r .end e .1) 0 (0 ∷ 0 ∷ []) (omega arith)),
+          subst (λ (s : ℕ). Inside s (record { place = slotAt (suc i) + 0; bytes = noName })) (eqb-true (dirSector (suc i)) (dirSector i) q)
+              (inside-slot m (sound-long m ok) (suc i) (r .end e .1) 0 noName (omega arith)),
           (last, tt),
         )
         by true e false q = (last, tt)

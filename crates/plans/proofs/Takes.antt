@@ -31,7 +31,7 @@ use Rattle.steps.proofs.Sectors.{at-sector}
 use Rattle.steps.proofs.Steps.{goes-long, goes-other}
 use Rattle.plans.specs.Change.{Wish, save}
 use Rattle.plans.specs.Saving.{freeBit, stream, block, nextTrack, nextSector, slotByte}
-use Rattle.plans.specs.Plan.{dataSteps, oldName, cleared, saveSteps, made, run}
+use Rattle.plans.specs.Plan.{dataSteps, oldName, noName, cleared, saveSteps, made, run}
 use Rattle.plans.specs.Accepted.{many, Unused, Takes}
 use Rattle.plans.specs.After.{Outside, AfterSave}
 use Rattle.plans.proofs.Frame.{slots-some, slot-file, disk-sound, upd-same, holds, holds-sector}
@@ -153,10 +153,10 @@ module _ (d : List ℕ) (w : Wish) (room : ℕ) (new ss : List ℕ) (e : run (sa
       ap (λ (x : List ℕ). getD x (slotAt (suc (k .slot)) + j) 0) new-is
       ∙ put-after clean (slotAt (k .slot)) (saved .bytes) (slotAt (suc (k .slot)) + j) (omega arith)
       ∙ ap (λ (t : Bool). getD (cleared t (k .slot) mid) (slotAt (suc (k .slot)) + j) 0) e
-      ∙ ap (λ (p : ℕ). getD (put mid (slotAt (suc (k .slot)) + 0) (0 ∷ 0 ∷ [])) p 0) (omega arith)
-      ∙ put-in mid (slotAt (suc (k .slot)) + 0) (0 ∷ 0 ∷ []) j h (omega (arith, sound-long d (disk-sound d ok))) ∙ zeros j h
+      ∙ ap (λ (p : ℕ). getD (put mid (slotAt (suc (k .slot)) + 0) noName) p 0) (omega arith)
+      ∙ put-in mid (slotAt (suc (k .slot)) + 0) noName j h (omega (arith, sound-long d (disk-sound d ok))) ∙ zeros j h
     where
-      zeros : (j : ℕ) → j < 2 → _≡_ {A = ℕ} (getD (0 ∷ 0 ∷ []) j 0) 0
+      zeros : (j : ℕ) → j < 2 → _≡_ {A = ℕ} (getD noName j 0) 0
       zeros zero h = refl
       zeros (suc zero) h = refl
       zeros (suc (suc j)) h = absurd (omega arith)
@@ -172,8 +172,8 @@ module _ (d : List ℕ) (w : Wish) (room : ℕ) (new ss : List ℕ) (e : run (sa
   clean-else : (m : ℕ) (t : Bool) → oldName d (k .slot) ≡ t → (oldName d (k .slot) ≡ true → Outside m (slotAt (suc (k .slot))) 2)
       → getD (cleared t (k .slot) mid) m 0 ≡ getD mid m 0
   clean-else m true e c =
-      ⊎-elim (λ (q : m < slotAt (suc (k .slot))). put-before mid (slotAt (suc (k .slot)) + 0) (0 ∷ 0 ∷ []) m (omega arith))
-      (λ (q : slotAt (suc (k .slot)) + 2 ≤ m). put-after mid (slotAt (suc (k .slot)) + 0) (0 ∷ 0 ∷ []) m (omega arith)) (c e)
+      ⊎-elim (λ (q : m < slotAt (suc (k .slot))). put-before mid (slotAt (suc (k .slot)) + 0) noName m (omega arith))
+      (λ (q : slotAt (suc (k .slot)) + 2 ≤ m). put-after mid (slotAt (suc (k .slot)) + 0) noName m (omega arith)) (c e)
   clean-else m false e c = refl
 
   others-now : (m : ℕ) → Outside m (slotAt (k .slot)) 256 → (oldName d (k .slot) ≡ true → Outside m (slotAt (suc (k .slot))) 2) → ((j : ℕ) → j < many w → Outside m (bitPlace (getD (k .bits) j 0)) 512) → getD new m 0 ≡ getD d m 0

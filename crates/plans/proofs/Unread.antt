@@ -5,19 +5,19 @@ use mathlib.Core.Path.{_≡_, refl, sym, ap, _∙_, subst}
 use mathlib.Core.Bool.{Bool, true, false, cond, not, _&&_, true≢false}
 use mathlib.Core.List.{List, [], _∷_, _++_, append-assoc, map}
 use mathlib.Core.Logic.{_⊎_, inl, inr, ⊎-elim}
-use mathlib.Core.Option.{Option, none, some}
+use mathlib.Core.Option.{none, some}
 use native.Mathlib.Nat.{eq-or-lt-of-le}
 use native.Mathlib.Omega.{arith}
 use borrow.Author.Tests.{ltb-true, ltb-false, eqb-true, eqb-false, ne-eqb, not-true}
 use lib.Dec.{eqb, ltb}
 use lib.ListN.{length, getD, take}
-use Rattle.buffers.specs.Bytes.{part, put}
+use Rattle.buffers.specs.Bytes.{part}
 use Rattle.buffers.proofs.Lists.{below-or-not}
 use Rattle.buffers.proofs.Tests.{and-both}
 use Rattle.geometry.specs.Disk.{bitNumber}
 use Rattle.slots.specs.Name.{padded}
 use Rattle.chains.specs.File.{File}
-use Rattle.directory.specs.Places.{slots, slotAt, slotBytes, dirSector}
+use Rattle.directory.specs.Places.{slots, slotBytes, dirSector}
 use Rattle.directory.specs.Directory.{isSlot, nameless, endOf, slotsRead, seen}
 use Rattle.directory.proofs.Places.{slots-count, data-all, dir-not-data}
 use Rattle.directory.proofs.Ends.{end-some, some-end, none-end, read-seen, unread, unseen-read, seen-is, unseen-later, unseen-past, unseen-nameless, seen-next, unread-kept}

@@ -61,7 +61,7 @@ pub record Renames (d new : List ℕ) (i : ℕ) (f : File) : Type 0 where
 abbrev pub Bars : List ℕ → List ℕ → ℕ → File → ℕ → Type 0
 Bars d new i f j = ((j ≡ i) × (nameOf (f .bytes) ≡ padded new)) ⊎ ((j ≡ i → ⊥) × (g : File) × Named d new j g)
 
--- a slot that is erased, or whose first name byte is 0: the lowest of these is the directory's end
+-- a slot that is erased, or whose first name byte is 0; of the latter the lowest is the directory's end
 abbrev pub Empty : List ℕ → ℕ → Type 0
 Empty d i = (getD (slotBytes d i) 0 0 ≡ 0) ⊎ (getD (slotBytes d i) 1 0 ≡ 0)
 

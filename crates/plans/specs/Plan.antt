@@ -65,12 +65,15 @@ unfoldable pub together : ℕ → Bool
 together i = eqb (dirSector (suc i)) (dirSector i)
 
 -- "the save also sets that next slot's bytes 0 and 1 to 0, so that no old name comes back."
+abbrev pub noName : List ℕ
+noName = 0 ∷ 0 ∷ []
+
 abbrev pub endPut : ℕ → List Put
-endPut i = slotPut (suc i) 0 (0 ∷ 0 ∷ [])
+endPut i = slotPut (suc i) 0 noName
 
 -- a disk so, where there is such a name
 abbrev pub cleared : Bool → ℕ → List ℕ → List ℕ
-cleared old i d = cond old (put d (slotAt (suc i) + 0) (0 ∷ 0 ∷ [])) d
+cleared old i d = cond old (put d (slotAt (suc i) + 0) noName) d
 
 -- "That sector is written after the data and before the saved slot's sector": where it is another, a quiet step of its own
 unfoldable pub endSteps : Bool → ℕ → List (Step Look)

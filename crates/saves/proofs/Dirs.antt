@@ -1,18 +1,18 @@
 -- The sectors of the directory that a save writes, one or two, and the old name behind its slot.
 use Prim.Native.Nat.{ℕ, suc, _+_, _≤_, _<_}
-use mathlib.Core.Path.{_≡_, refl, sym, ap, ap₂, _∙_}
-use mathlib.Core.Bool.{Bool, true, false, cond, not, _&&_}
+use mathlib.Core.Path.{_≡_, sym, ap, ap₂, _∙_}
+use mathlib.Core.Bool.{Bool, true, false, not, _&&_}
 use mathlib.Core.List.{List, [], _∷_}
 use native.Mathlib.Nat.{add-zero}
 use native.Mathlib.Numerals.{add-one}
 use native.Mathlib.Omega.{arith}
 use borrow.Author.Tests.{lt-ltb, le-ltb}
-use lib.Dec.{eqb, ltb}
+use lib.Dec.{eqb}
 use lib.ListN.{length, set}
 use Rattle.buffers.specs.Bytes.{put}
 use Rattle.buffers.proofs.Lists.{put-one, put-append}
 use Rattle.slots.specs.Slot.{isNameless}
-use Rattle.directory.specs.Places.{slots, slotAt, slotPlace, slotBytes, dirSector}
+use Rattle.directory.specs.Places.{slots, slotAt, slotPlace, dirSector}
 use Rattle.directory.specs.Directory.{isSlot, nameless, slotOr}
 use Rattle.directory.proofs.Places.{slot-placed}
 use Rattle.directory.proofs.Ends.{slot-read}

@@ -1,4 +1,4 @@
--- The reply of rows 2 to 7 by the tests that lead to it.
+-- The reply of rows 2 and 4 to 7 by the tests that lead to it.
 use Prim.Native.Nat.{ℕ, _+_, _*_}
 use mathlib.Core.Path.{_≡_, refl, ap, sym, _∙_}
 use mathlib.Core.Bool.{Bool, true, false, cond, _&&_}

@@ -30,7 +30,7 @@ returns c =
     let s = c .before .before in
     let l = s .before in
     let a = l .before .loop in
-    (sym (end-here _ (a .i) (a .inv .1) (l .loop-test .taken) (s .slot-at .ensures) (c .before .is-nameless .ensures) (c .if1 .taken)), omega (arith, l .loop-test .taken))
+    (sym (end-here _ (a .i) (a .inv .1) (omega (arith, l .loop-test .taken)) (s .slot-at .ensures) (c .before .is-nameless .ensures) (c .if1 .taken)), omega (arith, l .loop-test .taken))
 
 add-i : tie.Need-add-i Inv-loop μ-loop
 add-i c = search needs
@@ -43,10 +43,10 @@ loop-again c =
     let s = c .before .before in
     let l = s .before in
     let a = l .before .loop in
-    (omega (arith, l .loop-test .taken), end-on _ (a .i) (a .inv .1) (l .loop-test .taken) (s .slot-at .ensures) (c .before .is-nameless .ensures) (c .if1 .left))
+    (omega (arith, l .loop-test .taken), end-on _ (a .i) (a .inv .1) (omega (arith, l .loop-test .taken)) (s .slot-at .ensures) (c .before .is-nameless .ensures) (c .if1 .left))
 
 returns-2 : tie.Need-returns-2 Inv-loop μ-loop
-returns-2 c = let a = c .before .loop in (sym (end-past _ (a .i) (a .inv .1) (c .loop-test .left)), omega arith)
+returns-2 c = let a = c .before .loop in (sym (end-past _ (a .i) (a .inv .1) (omega (arith, c .loop-test .left))), omega arith)
 
 pub slots-read-spec : {M : Type 1} → statement M
 slots-read-spec =

@@ -1,8 +1,8 @@
--- `points_changing::listed_at` is safe: a number of the list fits a wider type.
+-- `points::listed_at` is safe: a number of the list fits a wider type.
 use native.Mathlib.Omega.{arith}
 use borrow.Author.Needs.{needs}
-use Rattle.points_changing.proofs.listed_at.Statement.{statement}
-use Rattle.points_changing.proofs.listed_at.Tie as tie
+use Rattle.points.proofs.listed_at.Statement.{statement}
+use Rattle.points.proofs.listed_at.Tie as tie
 
 mul-result : tie.Need-mul-result
 mul-result c = search needs
