@@ -35,12 +35,13 @@
  * free a place in it. The functions beside them in section 4 see to that.
  *
  * An image is the whole disk in memory, 819,200 bytes. Its sectors have 512 bytes and are numbered 0 to 1,599; sector s is
- * the bytes from 512 * s. 40 of them are the directory: 80 slots of 256 bytes. A slot is live when it holds a file, and free
- * when its byte 0 is zero. It says the file's kind and name, how many sectors the file has (its count), which they are (its
- * map, a bit for each data sector) and which is the first. The other 1,560 are the data sectors. Each holds 510 bytes of a
- * file and the address of the file's next sector; that is its chain. A file that can be read (section 7) begins with a
- * header of 9 bytes, and its body follows. Every call but varnucht_sector and varnucht_next checks the whole disk first: you
- * need not call varnucht_check before it.
+ * the bytes from 512 * s. 40 of them are the directory: 80 slots of 256 bytes. It ends at the first slot whose first name
+ * byte is 0: that slot was never used, and it and all later ones are free and are not looked at, whatever they hold. A slot
+ * before the end is erased, and free too, when its byte 0 is zero; else it is live and holds a file. It says the file's kind
+ * and name, how many sectors the file has (its count), which they are (its map, a bit for each data sector) and which is the
+ * first. The other 1,560 are the data sectors. Each holds 510 bytes of a file and the address of the file's next sector; that
+ * is its chain. A file that can be read (section 7) begins with a header of 9 bytes, and its body follows. Every call but
+ * varnucht_sector and varnucht_next checks the whole disk first: you need not call varnucht_check before it.
  */
 #ifndef VARNUCHT_H
 #define VARNUCHT_H
@@ -69,7 +70,7 @@ enum varnucht_size {
     VARNUCHT_ENTRY_BYTES = 258,         /* one file of a listing */
     VARNUCHT_LISTING_BYTES = 20640,     /* `out` of varnucht_list: 80 * 258 */
     VARNUCHT_BODY_BYTES = 795591,       /* `out` of varnucht_read; the longest body on an empty disk: 510 * 1,560 - 9 */
-    VARNUCHT_SAVE_LIST_BYTES = 3122,    /* `list` of varnucht_save: 2 * 1,561 */
+    VARNUCHT_SAVE_LIST_BYTES = 3124,    /* `list` of varnucht_save: 2 * 1,562, the data sectors and two of the directory */
     VARNUCHT_CHANGE_LIST_BYTES = 2      /* `list` of every other change */
 };
 
@@ -77,6 +78,7 @@ enum varnucht_size {
  * live slot, the lowest slot first and at a slot the lowest number; then 10, 11 and 25 likewise; then the lowest that
  * applies of 12 to 20. So 12 to 20 say that the disk itself is good. varnucht_check_release alone tests 22 too, directly
  * after 7 at a slot. varnucht_sector tests 1 and then 21, and looks at no directory. varnucht_next refuses nothing.
+ * 3 is given no more, by any call: its number stays reserved, and "1 to 11" below is without it.
  *
  * The slot comes with 2 to 11, 22 and 25; with 13 and 14 of varnucht_read, varnucht_open and varnucht_start, where it is the
  * file's; with 16, where it is that of the file which has the new name; and with 17. With all others, 13 and 14 of
@@ -86,7 +88,7 @@ enum varnucht_reason {
     /* The disk is not good. Every call can give these and 25 but varnucht_sector, which can give 1, and varnucht_next. */
     VARNUCHT_NOT_AN_IMAGE = 1,          /* the image is not 819,200 bytes */
     VARNUCHT_KIND_UNKNOWN = 2,          /* the kind is not known (1 to 12 and 16 to 23 are) */
-    VARNUCHT_NAME_MISSING = 3,          /* the first name byte is 0 */
+    VARNUCHT_NAME_MISSING = 3,          /* reserved, given no more: where the first name byte is 0 the directory ends */
     VARNUCHT_COUNT_OUT_OF_RANGE = 4,    /* the count is not 1 to 1,560 */
     VARNUCHT_BITS_DIFFER = 5,           /* the map's set bits are not as many as the count */
     VARNUCHT_FIRST_NOT_OWN = 6,         /* the first address is not a data sector, or its bit is clear */
@@ -106,7 +108,7 @@ enum varnucht_reason {
     VARNUCHT_NAME_NOT_FOUND = 15,       /* no live slot has the name, capitals or not */
     VARNUCHT_NAME_TAKEN = 16,           /* a live slot has the new name, capitals or not; varnucht_rename says more */
     VARNUCHT_FILE_PROTECTED = 17,       /* protected (erase, rename) */
-    VARNUCHT_NO_FREE_SLOT = 18,         /* no slot has byte 0 zero: 80 files are there (save) */
+    VARNUCHT_NO_FREE_SLOT = 18,         /* no slot before the end is erased and there is no end: 80 files are there (save) */
     VARNUCHT_TOO_FEW_SECTORS = 19,      /* fewer free sectors than the save takes */
     VARNUCHT_BUFFER_TOO_SHORT = 20,     /* a lent output buffer is too short; tested last, and the buffer is unchanged */
     VARNUCHT_NO_SUCH_SECTOR = 21,       /* no such drive, track or sector (varnucht_sector alone) */
@@ -123,7 +125,7 @@ static inline const char *varnucht_words(unsigned refusal) {
     case VARNUCHT_ACCEPTED: return "accepted";
     case VARNUCHT_NOT_AN_IMAGE: return "the image is not 819,200 bytes";
     case VARNUCHT_KIND_UNKNOWN: return "the kind is not known";
-    case VARNUCHT_NAME_MISSING: return "the first name byte is 0";
+    case VARNUCHT_NAME_MISSING: return "the first name byte is 0 (given no more)";
     case VARNUCHT_COUNT_OUT_OF_RANGE: return "the count is not 1 to 1,560";
     case VARNUCHT_BITS_DIFFER: return "the map's set bits are not as many as the count";
     case VARNUCHT_FIRST_NOT_OWN: return "the first address is not a data sector, or its bit is clear";
@@ -143,7 +145,7 @@ static inline const char *varnucht_words(unsigned refusal) {
     case VARNUCHT_NAME_NOT_FOUND: return "no live slot has the name, capitals or not";
     case VARNUCHT_NAME_TAKEN: return "a live slot has the new name, capitals or not";
     case VARNUCHT_FILE_PROTECTED: return "protected (erase, rename)";
-    case VARNUCHT_NO_FREE_SLOT: return "no slot has byte 0 zero (save)";
+    case VARNUCHT_NO_FREE_SLOT: return "no slot before the end is erased and there is no end (save)";
     case VARNUCHT_TOO_FEW_SECTORS: return "fewer free sectors than the save takes";
     case VARNUCHT_BUFFER_TOO_SHORT: return "a lent output buffer is too short";
     case VARNUCHT_NO_SUCH_SECTOR: return "no such drive, track or sector";
@@ -159,13 +161,13 @@ static inline const char *varnucht_words(unsigned refusal) {
  * only varnucht_next refuses nothing. A name has 1 to 10 bytes (section 7). What a call does not fill of `out` stays as it
  * was. */
 
-/* Whether the disk is good. Its directory, sector maps and chains agree exactly when this accepts. Value: 0.
+/* Whether the disk is good. Its directory up to its end, sector maps and chains agree exactly when this accepts. Value: 0.
  * Refusals: 1 to 11, 25. */
 uint64_t varnucht_check(const uint8_t *image, size_t image_len);
 
 /* Whether the disk is good and fit to go out: no file of a carried kind has waste sectors behind it, where old texts hide. A
  * file has them where its count is above the least that its length needs. Every other call accepts such a disk still.
- * Value: 0. Refusals: 1 to 11, 22, 25. Stack: 1,336 bytes. */
+ * Value: 0. Refusals: 1 to 11, 22, 25. Stack: 1,352 bytes. */
 uint64_t varnucht_check_release(const uint8_t *image, size_t image_len);
 
 /* Every file, hidden ones too, by rising slot, at 258 bytes each from the front of `out`; section 6 says how to read them.
@@ -203,7 +205,7 @@ uint64_t varnucht_read(const uint8_t *image, size_t image_len, const uint8_t *na
 
 /* Finds a file. Value: the length of its body in bytes, 0 to 795,591. Slot: the sector that the body begins in, 0 to 1,599.
  * Free: the place of its first byte there, 9. Refusals: 1 to 11, 25, 12, 13, 15, as varnucht_read has them.
- * Stack: 1,416 bytes. */
+ * Stack: 1,432 bytes. */
 uint64_t varnucht_open(const uint8_t *image, size_t image_len, const uint8_t *name, size_t name_len);
 
 /* The next bytes, to the front of `out`: as many as it holds or as are left.
@@ -290,7 +292,8 @@ uint64_t varnucht_sector(const uint8_t *one, size_t one_len, const uint8_t *two,
 /* The sector number at place i of a list, i below the value answered. */
 static inline unsigned varnucht_listed(const uint8_t *list, size_t i) { return list[2 * i] + 256u * list[2 * i + 1]; }
 
-/* Saves a new file into the lowest free slot and the lowest free sectors, neither hidden nor protected.
+/* Saves a new file into the lowest free slot, an erased one before the directory's end or else the end, and into the lowest
+ * free sectors, neither hidden nor protected.
  *   kind     16 to 20
  *   name     a new name (section 7)
  *   page     start page, 0 to 31
@@ -300,8 +303,11 @@ static inline unsigned varnucht_listed(const uint8_t *list, size_t i) { return l
  *   info     what the SAM keeps of the kind, such as the mode of a screen. Eleven bytes are kept and any beyond are ignored;
  *            fewer are filled with 0
  *   body     the file's bytes, none allowed, at most 795,591 on an empty disk
- * The save takes the least n sectors with 510 * n at least 9 + body_len, and names those n and last the directory's.
- * Value: n + 1, 2 to 1,561. `list`: 2 * (n + 1) bytes. Refusals: 1 to 11, 25, 12, 13, 14, 16, 18, 19, 20. */
+ * The save takes the least n sectors with 510 * n at least 9 + body_len, and names those n and last the slot's. Where the
+ * slot is the directory's end and an old name stands in the next one, that slot's bytes 0 and 1 are set to 0, so that the
+ * name does not come back; its sector, if it is another, is named between them.
+ * Value: n + 1 or n + 2. `list`: two bytes for each, 2 * (n + 2) always suffice. Refusals: 1 to 11, 25, 12, 13, 14, 16, 18,
+ * 19, 20. */
 uint64_t varnucht_save(uint8_t *image, size_t image_len, uint32_t kind, const uint8_t *name, size_t name_len, uint32_t page,
                        uint32_t offset, const uint8_t *exec, size_t exec_len, const uint8_t *info, size_t info_len,
                        const uint8_t *body, size_t body_len, uint8_t *list, size_t list_len);

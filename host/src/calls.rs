@@ -2,7 +2,7 @@
 //!
 //! Each function hands its slices to the C layer and gives back the [`Answer`]. Nothing is decided here. A refused call
 //! changes no byte of anything lent. In the changes, `list` takes the numbers of the sectors to write, two bytes to a number,
-//! low byte first; 3,122 bytes are enough for every change.
+//! low byte first; 3,124 bytes are enough for every change.
 //!
 //! All unsafe code of the crate stands in this file, but for one question to the system in `store`.
 use crate::answer::Answer;

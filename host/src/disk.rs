@@ -36,15 +36,15 @@ impl Eq for Disk {}
 impl Disk {
     /// Opens a disk: checks the image and lists it. Refused 2 to 11 and 25 with the slot; the error hands the image back.
     ///
-    /// Every slot is looked at, and every sector of every file. The image is not copied.
+    /// Every slot before the directory's end is looked at, and every sector of every file. The image is not copied.
     ///
     /// ```
     /// use varnucht::{Disk, Image};
     ///
     /// let mut image = Image::blank();
-    /// image.as_bytes_mut()[0] = 19; // a file of code without a name in slot 1
+    /// image.as_bytes_mut()[..2].copy_from_slice(&[13, b'A']); // a file of no known kind in slot 1
     /// let unsound = Disk::open(image).unwrap_err();
-    /// assert_eq!(unsound.to_string(), "refusal 3 at slot 1: the first name byte is 0");
+    /// assert_eq!(unsound.to_string(), "refusal 2 at slot 1: the kind is not known");
     /// let image = unsound.image; // nothing is lost
     /// # let _ = image;
     /// ```

@@ -53,7 +53,8 @@ impl Image {
     }
 
     /// Whether the image is an accepted disk: refused 2 to 11 and 25, with the slot. [`Disk::open`](crate::Disk::open) asks
-    /// the same and keeps the answer in the type. Every slot is looked at, and every sector of every file.
+    /// the same and keeps the answer in the type. Every slot before the directory's end is looked at, and every sector of
+    /// every file.
     pub fn check(&self) -> Result<(), Refused> {
         calls::check(self.as_bytes()).decode().map(|_| ())
     }

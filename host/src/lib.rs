@@ -124,7 +124,9 @@
 //!
 //! # Words
 //!
-//! "Document 01" and "the paper" are the rules that the library is proved against. A refusal prints their words. Below the
+//! "Document 01" and "the paper" are the rules that the library is proved against. A refusal prints their words. The
+//! directory's end is its first slot whose first name byte is 0: that slot and all later ones are free, and what stands there
+//! is no file and is not looked at; a save clears the old name that would come back when it takes that slot. Below the
 //! types stand [`calls`], the fifteen calls on byte slices, and [`raw`], the C layer itself.
 #![warn(missing_docs)]
 

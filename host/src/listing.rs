@@ -43,7 +43,7 @@ impl Listing {
         self.free
     }
 
-    /// How many of the 80 slots are free.
+    /// How many of the 80 slots are free: those that are erased, and all from the directory's end on.
     pub fn free_slots(&self) -> usize {
         SLOTS.saturating_sub(self.entries.len())
     }

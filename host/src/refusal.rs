@@ -11,7 +11,7 @@ pub enum Refusal {
     ImageLength,
     /// 2: the kind is not known.
     UnknownKind,
-    /// 3: the first name byte is 0.
+    /// 3: the first name byte is 0. It is given no more, since the directory ends there, and the number stays reserved.
     NoFirstNameByte,
     /// 4: the count is not 1 to 1,560.
     Count,
@@ -42,7 +42,7 @@ pub enum Refusal {
     NameTaken,
     /// 17: the file is protected.
     Protected,
-    /// 18: no slot is free.
+    /// 18: no slot is free: none before the directory's end is erased, and it has no end.
     NoFreeSlot,
     /// 19: fewer free sectors than the save takes.
     NoRoom,
@@ -62,7 +62,7 @@ pub enum Refusal {
 const TABLE: [(u8, Refusal, &str); 23] = [
     (1, Refusal::ImageLength, "the image is not 819,200 bytes"),
     (2, Refusal::UnknownKind, "the kind is not known"),
-    (3, Refusal::NoFirstNameByte, "the first name byte is 0"),
+    (3, Refusal::NoFirstNameByte, "the first name byte is 0 (given no more)"),
     (4, Refusal::Count, "the count is not 1 to 1,560"),
     (5, Refusal::MapCount, "the map's set bits are not as many as the count"),
     (
@@ -94,7 +94,11 @@ const TABLE: [(u8, Refusal, &str); 23] = [
     (15, Refusal::NotFound, "no live slot has the name, capitals or not"),
     (16, Refusal::NameTaken, "a live slot has the new name, capitals or not"),
     (17, Refusal::Protected, "protected (erase, rename)"),
-    (18, Refusal::NoFreeSlot, "no slot has byte 0 zero (save)"),
+    (
+        18,
+        Refusal::NoFreeSlot,
+        "no slot before the end is erased and there is no end (save)",
+    ),
     (19, Refusal::NoRoom, "fewer free sectors than the save takes"),
     (20, Refusal::ShortBuffer, "a lent output buffer is too short"),
     (21, Refusal::NoSuchSector, "no such drive, track or sector"),

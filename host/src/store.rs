@@ -68,8 +68,8 @@ pub enum WriteError {
 }
 
 impl WriteError {
-    /// Whether the sector that failed was the last. Before it only free sectors were written, so the old disk is as it was.
-    /// The last one holds the directory: where it failed it may have been written or not.
+    /// Whether the sector that failed was the last. Before it only free sectors were written, or slots behind the directory's
+    /// end, so the old disk is as it was. The last one holds the directory: where it failed it may have been written or not.
     pub fn at_last(&self) -> bool {
         matches!(self, WriteError::Stopped { written, of, .. } if written + 1 >= *of)
     }

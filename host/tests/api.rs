@@ -69,6 +69,16 @@ fn damaged(changes: &[(usize, u8)]) -> Image {
     image
 }
 
+/// The pair with old bytes in every slot behind it; the directory ends at slot 3.
+fn pair_that_ends() -> Image {
+    let mut image = pair().into_image();
+    for slot in 3..=80 {
+        image.as_bytes_mut()[slot_place(slot)..][..256].fill(99);
+    }
+    image.as_bytes_mut()[slot_place(3) + 1] = 0;
+    image
+}
+
 /// The pair with a body of so many bytes in slot 2, which has two sectors: by its slot and by its header.
 fn shortened(length: u16) -> Disk {
     let [low, high] = length.to_le_bytes();

@@ -1,4 +1,4 @@
--- A change with a list of bytes is the change with a list of numbers: no change names more than 1,561 sectors, so that many numbers are always room enough.
+-- A change with a list of bytes is the change with a list of numbers: no change names more than 1,562 sectors, so that many numbers are always room enough.
 use Prim.Native.Nat.{ℕ, suc, _+_, _-_, _/_, _≤_, _<_, min}
 use mathlib.Core.Path.{_≡_, refl, sym, ap, _∙_, subst}
 use mathlib.Core.Bool.{Bool, true, false, cond, not, _&&_}
@@ -27,9 +27,10 @@ use Rattle.files.specs.Calls.{fileAt}
 use Rattle.steps.specs.Steps.{enact, numbers}
 use Rattle.plans.specs.Change.{Wish, Change, save, erase, rename, mark, marked, between, usable}
 use Rattle.plans.specs.Saving.{taken, lowestSlot, slotTaken}
-use Rattle.plans.specs.Plan.{touch, saveSteps, Plan, no, go, orNo, byName, takenAt, nameTaken, takenBy, renameTaken, isProtected, saveReply, planOf, plan, Result, stopped, made, settle, checked, run, Changed, changed, changedBy, change}
+use Rattle.plans.specs.Plan.{touch, oldName, saveSteps, Plan, no, go, orNo, byName, takenAt, nameTaken, takenBy, renameTaken, isProtected, saveReply, planOf, plan, Result, stopped, made, settle, checked, run, Changed, changed, changedBy, change}
 use Rattle.plans.proofs.Respelt.{taken-found}
 use Rattle.plans.proofs.Free.{taken-long}
+use Rattle.plans.proofs.Ended.{dirs-some}
 use Rattle.plans.proofs.Refused.{save-long}
 use Rattle.plans.proofs.Sure.{save-tested}
 use Rattle.plans.proofs.Demand3.{run-room}
@@ -40,12 +41,12 @@ use Rattle.bytelists.proofs.Table.{Small, small-else, small-row, check-
 
 -- how many sectors a change names at most
 abbrev pub most : Change → ℕ
-most (save w) = 1561
+most (save w) = 1562
 most (erase n) = 1
 most (rename n new) = 1
 most (mark m n) = 1
 
-pub most-few : (c : Change) → most c ≤ 1561
+pub most-few : (c : Change) → most c ≤ 1562
 most-few (save w) = omega arith
 most-few (erase n) = omega arith
 most-few (rename n new) = omega arith
@@ -108,9 +109,9 @@ small-save n v w =
     r19 : Reply
     r19 = row 19 0 (ltb (free n v) (sectorsFor (length (w .body))))
 
-mild-save : (l : Look) (w : Wish) → Mild 1561 (planOf (save w) l)
+mild-save : (old : ℕ → Bool) (l : Look) (w : Wish) → Mild 1562 (planOf old (save w) l)
 unfolding planOf
-mild-save l w = by (saveReply n v w) refl (small-save n v w)
+mild-save old l w = by (saveReply n v w) refl (small-save n v w)
   where
     n : ℕ
     n = extra l
@@ -118,24 +119,29 @@ mild-save l w = by (saveReply n v w) refl (small-save n v w)
     v : Directory
     v = slotsOf l
 
-    by : (q : Reply) → saveReply n v w ≡ q → Small q → Mild 1561 (orNo q (go (saveSteps l (slotTaken n v) w (taken n v w))))
-    by (some r) e a = a
-    by none e a = omega (arith, save-long l (slotTaken n v) w (taken n v w), taken-long l w (save-tested n v w e .room), free-few n v, save-tested n v w e .room)
+    i : ℕ
+    i = slotTaken n v
 
-mild : (c : Change) (l : Look) → Mild (most c) (planOf c l)
+    by : (q : Reply) → saveReply n v w ≡ q → Small q → Mild 1562 (orNo q (go (saveSteps (old i) l i w (taken n v w))))
+    by (some r) e a = a
+    by none e a =
+        let t = save-tested n v w e .room in
+        omega (arith, save-long (old i) l i w (taken n v w), dirs-some (old i) i, taken-long l w t, free-few n v)
+
+mild : (old : ℕ → Bool) (c : Change) (l : Look) → Mild (most c) (planOf old c l)
 unfolding planOf numbers
-mild (save w) l = mild-save l w
-mild (erase n) l =
+mild old (save w) l = mild-save old l w
+mild old (erase n) l =
     mild-or 1 (row 12 0 (not (askable n))) (byName l n (λ i f. orNo (isProtected i f) (go (touch l i f 0 (0 ∷ []))))) (small-row 12 0 (not (askable n)) (omega arith) (omega arith))
     (mild-named l n 1 (λ i f. orNo (isProtected i f) (go (touch l i f 0 (0 ∷ []))))
     (λ i h. mild-or 1 (isProtected i (fileAt l i)) (go (touch l i (fileAt l i) 0 (0 ∷ []))) (small-protected i (fileAt l i) h) (omega arith)))
-mild (rename n new) l =
+mild old (rename n new) l =
     mild-or 1 (row 12 0 (not (askable n && usable new))) (byName l n (λ i f. orNo (renameTaken (slotsOf l) i f new else isProtected i f) (go (touch l i f 1 (padded new)))))
     (small-row 12 0 (not (askable n && usable new)) (omega arith) (omega arith))
     (mild-named l n 1 (λ i f. orNo (renameTaken (slotsOf l) i f new else isProtected i f) (go (touch l i f 1 (padded new))))
     (λ i h. mild-or 1 (renameTaken (slotsOf l) i (fileAt l i) new else isProtected i (fileAt l i)) (go (touch l i (fileAt l i) 1 (padded new)))
     (small-else (renameTaken (slotsOf l) i (fileAt l i) new) (isProtected i (fileAt l i)) (small-renamed (slotsOf l) i (fileAt l i) new) (small-protected i (fileAt l i) h)) (omega arith)))
-mild (mark m n) l =
+mild old (mark m n) l =
     mild-or 1 (row 12 0 (not (askable n))) (byName l n (λ i f. go (touch l i f 0 (marked m (getD (f .bytes) 0 0) ∷ [])))) (small-row 12 0 (not (askable n)) (omega arith) (omega arith))
     (mild-named l n 1 (λ i f. go (touch l i f 0 (marked m (getD (f .bytes) 0 0) ∷ []))) (λ i h. omega arith))
 
@@ -147,7 +153,7 @@ Settled m (made new ss) = length ss ≤ m
 
 pub mild-run : (c : Change) (d : List ℕ) (room : ℕ) → Settled (most c) (run c d room)
 unfolding run checkDisk
-mild-run c d room = by (checkDisk d) (plan c d) (check-small (look d)) (mild c (look d))
+mild-run c d room = by (checkDisk d) (plan c d) (check-small (look d)) (mild (oldName d) c (look d))
   where
     room-or : (t : Bool) (new ss : List ℕ) → length ss ≤ most c → Settled (most c) (cond t (stopped (refuse 20 0)) (made new ss))
     room-or true new ss h = (omega arith, omega arith)
@@ -161,7 +167,7 @@ mild-run c d room = by (checkDisk d) (plan c d) (check-small (look d)) (mild c (
 -- more room than a change can need makes no difference
 run-same : (c : Change) (d : List ℕ) (a b : ℕ) → ((x : ℕ) → x ≤ most c → ltb a x ≡ ltb b x) → run c d a ≡ run c d b
 unfolding run
-run-same c d a b h = ap (checked (checkDisk d)) (by (plan c d) (mild c (look d)))
+run-same c d a b h = ap (checked (checkDisk d)) (by (plan c d) (mild (oldName d) c (look d)))
   where
     by : (p : Plan) → Mild (most c) p → settle d a p ≡ settle d b p
     by (no r) w = refl

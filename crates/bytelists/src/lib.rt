@@ -71,10 +71,10 @@ pub fn set_mark(image: &mut [u8], name: &[u8], marking: Marking, list: &mut [u8]
 }
 
 // Room for the numbers of every save: 1,560 data sectors and one of the directory.
-fn no_numbers() -> [u16; 1561]
-    ensures { λ r. ⌜ length r ≡ 1561 ⌝ }
+fn no_numbers() -> [u16; 1562]
+    ensures { λ r. ⌜ length r ≡ 1562 ⌝ }
 {
-    [0u16; 1561]
+    [0u16; 1562]
 }
 
 // Saves a file.
@@ -92,7 +92,7 @@ pub fn save(
     ensures { λ r. ⌜ Returns (save (wish kind (now (name .entry)) page offset (now (exec .entry)) (now (info .entry)) (now (body .entry)))) (now (image .entry)) (now (list .entry)) r (now (image .exit)) (now (list .exit)) ⌝ }
 {
     let mut numbers = no_numbers();
-    let room = buffers::lesser(list.len() / 2, 1561);
+    let room = buffers::lesser(list.len() / 2, 1562);
     let saved = saves::save(
         image,
         kind,

@@ -1,10 +1,11 @@
 -- Laws of the text: the lines of the slots one after another, the text as a whole, and what the call gives.
-use Prim.Native.Nat.{ℕ, zero, suc, _+_, _*_, _≤_, _<_}
+use Prim.Native.Nat.{ℕ, zero, suc, _+_, _-_, _*_, _≤_, _<_}
 use mathlib.Core.Path.{_≡_, refl, sym, ap, _∙_}
 use mathlib.Core.Bool.{Bool, true, false, cond}
-use mathlib.Core.List.{List, [], _++_}
+use mathlib.Core.List.{List, [], _++_, append-nil}
 use mathlib.Core.Logic.{⊎-elim}
 use mathlib.Core.Option.{Option, none, some}
+use native.Mathlib.Nat.{add-zero, add-suc}
 use native.Mathlib.Numerals.{add-one}
 use native.Mathlib.Omega.{arith}
 use borrow.Author.Tests.{lt-ltb, le-ltb}
@@ -25,7 +26,8 @@ use Rattle.directory.specs.Places.{slots}
 use Rattle.directory.specs.Directory.{held, Directory, slotsRead, directory, slotOr}
 use Rattle.directory.specs.Survey.{survey, usedMap, usedOr, freeOf, free}
 use Rattle.directory.specs.declared.UsedMap.{UsedMap}
-use Rattle.directory.proofs.Live.{directory-front, directory-read}
+use Rattle.directory.proofs.Ends.{read-most}
+use Rattle.directory.proofs.Live.{directory-front, directory-read, directory-unread}
 use Rattle.directory.proofs.Pass.{survey-passed}
 use Rattle.catalogue.specs.Text.{lines, replyTo, textBy, text, catalogueOf}
 
@@ -39,9 +41,15 @@ lines-more d k h = rw (add-one, directory-read d k h) (ap (λ (l : List ℕ). li
     by false s = refl
 
 -- after the slots that are read there is no line
+lines-rest : (v : Directory) (i m : ℕ) → ((j : ℕ) → i ≤ j → v j ≡ none) → lines v (i + m) ≡ lines v i
+unfolding lines
+lines-rest v i zero h = rw add-zero
+lines-rest v i (suc m) h = rw (add-suc i m, h (i + m) (omega arith), append-nil) (lines-rest v i m h)
+
 pub lines-read : (d : List ℕ) → lines (directory d) (slotsRead d) ≡ lines (directory d) slots
-unfolding slotsRead
-lines-read d = refl
+lines-read d =
+    let e : slotsRead d + (slots - slotsRead d) ≡ slots = omega (arith, read-most d) in
+    sym (ap (lines (directory d)) (sym e) ∙ lines-rest (directory d) (slotsRead d) (slots - slotsRead d) (directory-unread d))
 
 pub lines-turn : (d : List ℕ) (k : ℕ) {s p e f : List ℕ} {a b : ℕ} → k < slotsRead d → s ≡ slotOr d k → Wrote p 0 (lines (directory d) k) e a
     → Wrote e a (entry (k + 1) s) f b → Wrote p 0 (lines (directory d) (k + 1)) f b

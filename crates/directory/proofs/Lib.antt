@@ -1,4 +1,5 @@
 pub mod Places
+pub mod Ends
 pub mod Live
 pub mod Keys
 pub mod Union

@@ -7,8 +7,7 @@ use mathlib.Core.Logic.{⊎-elim}
 use mathlib.Core.Option.{Option, none, some, Option·some-ne-none}
 use native.Mathlib.Nat.{add-zero, add-suc}
 use native.Mathlib.Omega.{arith}
-use borrow.Author.Tests.{ltb-true, lt-ltb, le-ltb}
-use lib.Dec.{ltb}
+use borrow.Author.Tests.{le-ltb}
 use Rattle.buffers.specs.Bytes.{part, count}
 use Rattle.buffers.proofs.Lists.{below-or-not, part-part}
 use Rattle.buffers.proofs.Counts.{count-more, count-le, count-add, none-count}
@@ -17,12 +16,9 @@ use Rattle.slots.specs.Name.{sameName}
 use Rattle.directory.specs.Places.{slots, slotAt, slotPlace, slotBytes}
 use Rattle.directory.specs.Directory.{held, Directory, slotsRead, seen, directory, slotOr, liveAmong}
 use Rattle.directory.proofs.Places.{slot-front, slot-placed}
+use Rattle.directory.proofs.Ends.{slot-read, read-most, seen-read, unread, seen-is, unseen-past, seen-agree, nameless-agree}
 
 -- ---- the bytes of a slot
-
-pub slot-read : (d : List ℕ) (i : ℕ) → i < slots → slotOr d i ≡ slotBytes d i
-unfolding slotOr
-slot-read d i h = rw (lt-ltb i slots h)
 
 pub slot-there : (d : List ℕ) (i : ℕ) → i < slots → {a : ℕ} → a ≡ slotPlace i → {s : List ℕ} → s ≡ part a 256 d → s ≡ slotOr d i
 slot-there d i h p e = e ∙ ap (λ (a : ℕ). part a 256 d) (p ∙ slot-placed i h) ∙ sym (slot-read d i h)
@@ -31,51 +27,45 @@ pub slot-past : (d : List ℕ) (i : ℕ) → slots ≤ i → slotOr d i ≡ []
 unfolding slotOr
 slot-past d i h = rw (le-ltb i slots h)
 
--- ---- how many slots are read
+-- ---- live, erased, unread, or none at all
 
-pub read-most : (d : List ℕ) → slotsRead d ≤ slots
-unfolding slotsRead
-read-most d = omega arith
+pub directory-live : (d : List ℕ) (i : ℕ) → seen d i ≡ true → isLive (slotBytes d i) ≡ true → directory d i ≡ some (slotBytes d i)
+unfolding directory
+directory-live d i h e = rw (h, e)
 
-pub seen-read : (d : List ℕ) (i : ℕ) → i < slotsRead d → seen d i ≡ true
-unfolding seen
-seen-read d i h = lt-ltb i (slotsRead d) h
+pub directory-unseen : (d : List ℕ) (i : ℕ) → seen d i ≡ false → directory d i ≡ none
+unfolding directory
+directory-unseen d i h = rw h
 
-pub unread : (d : List ℕ) (i : ℕ) → slotsRead d ≤ i → seen d i ≡ false
-unfolding seen
-unread d i h = le-ltb i (slotsRead d) h
-
--- ---- live, erased, or none at all
-
-pub directory-live : (d : List ℕ) (i : ℕ) → i < slots → isLive (slotBytes d i) ≡ true → directory d i ≡ some (slotBytes d i)
-unfolding directory seen slotsRead
-directory-live d i h e = rw (lt-ltb i slots h, e)
-
-pub directory-dead : (d : List ℕ) (i : ℕ) → i < slots → isLive (slotBytes d i) ≡ false → directory d i ≡ none
-unfolding directory seen slotsRead
-directory-dead d i h e = rw (lt-ltb i slots h, e)
+-- read or not
+pub directory-dead : (d : List ℕ) (i : ℕ) → isLive (slotBytes d i) ≡ false → directory d i ≡ none
+unfolding directory
+directory-dead d i e = by (seen d i)
+  where
+    by : (t : Bool) → cond (t && isLive (slotBytes d i)) (some (slotBytes d i)) none ≡ none
+    by true = rw e
+    by false = refl
 
 pub directory-unread : (d : List ℕ) (i : ℕ) → slotsRead d ≤ i → directory d i ≡ none
-unfolding directory
-directory-unread d i h = rw (unread d i h)
+directory-unread d i h = directory-unseen d i (unread d i h)
 
 pub directory-past : (d : List ℕ) (i : ℕ) → slots ≤ i → directory d i ≡ none
-directory-past d i h = directory-unread d i (omega (arith, read-most d))
+directory-past d i h = directory-unseen d i (unseen-past d i h)
 
 -- by the bytes of a slot that is read
 pub directory-read : (d : List ℕ) (i : ℕ) → i < slotsRead d → directory d i ≡ cond (isLive (slotOr d i)) (some (slotOr d i)) none
 unfolding directory
 directory-read d i h = rw (seen-read d i h, slot-read d i (omega (arith, read-most d)))
 
-pub directory-some : (d : List ℕ) (i : ℕ) (s : List ℕ) → directory d i ≡ some s → (i < slots) × (s ≡ slotBytes d i) × (isLive s ≡ true)
-unfolding directory seen slotsRead
-directory-some d i s e = by (ltb i slots) (isLive (slotBytes d i)) refl refl e
+pub directory-some : (d : List ℕ) (i : ℕ) (s : List ℕ) → directory d i ≡ some s → (i < slots) × (s ≡ slotBytes d i) × (isLive s ≡ true) × (seen d i ≡ true)
+unfolding directory
+directory-some d i s e = by (seen d i) (isLive (slotBytes d i)) refl refl e
   where
-    by : (t l : Bool) → ltb i slots ≡ t → isLive (slotBytes d i) ≡ l → cond (t && l) (some (slotBytes d i)) none ≡ some s
-        → (i < slots) × (s ≡ slotBytes d i) × (isLive s ≡ true)
+    by : (t l : Bool) → seen d i ≡ t → isLive (slotBytes d i) ≡ l → cond (t && l) (some (slotBytes d i)) none ≡ some s
+        → (i < slots) × (s ≡ slotBytes d i) × (isLive s ≡ true) × (seen d i ≡ true)
     by true true p q w =
         let z : s ≡ slotBytes d i = cc in
-        (ltb-true i slots p, z, ap isLive z ∙ q)
+        (seen-is d i p .0, z, ap isLive z ∙ q, p)
     by true false p q w = absurd (Option·some-ne-none s (sym w))
     by false l p q w = absurd (Option·some-ne-none s (sym w))
 
@@ -99,8 +89,13 @@ slot-in-front : (d : List ℕ) (i : ℕ) → i < slots → slotBytes (part 0 409
 slot-in-front d i h = part-part 0 40960 (slotAt i) 256 d (slot-front i h) ∙ ap (λ (a : ℕ). part a 256 d) (omega arith)
 
 at-front : (d : List ℕ) (i : ℕ) → directory d i ≡ directory (part 0 40960 d) i
-unfolding directory seen slotsRead
-at-front d i = ⊎-elim (λ h. rw (lt-ltb i slots h, slot-in-front d i h)) (λ h. rw (le-ltb i slots h)) (below-or-not i slots)
+unfolding directory
+at-front d i =
+    ⊎-elim
+    (λ (h : i < slots).
+    let n : seen (part 0 40960 d) i ≡ seen d i = seen-agree d (part 0 40960 d) i (λ j k. nameless-agree d (part 0 40960 d) j (slot-in-front d j (omega arith))) in
+    rw (n, slot-in-front d i h))
+    (λ h. directory-past d i h ∙ sym (directory-past (part 0 40960 d) i h)) (below-or-not i slots)
 
 pub directory-front : (d : List ℕ) → directory d ≡ directory (part 0 40960 d)
 directory-front d = fun-ext (at-front d)

@@ -8,8 +8,8 @@ use mathlib.Core.Option.{Option, none, some}
 use native.Mathlib.Numerals.{add-one}
 use native.Mathlib.Omega.{arith}
 use borrow.Author.Tests.{not-false, leb-true, eqb-true, le-leb, eq-eqb}
-use lib.Dec.{eqb, leb, ltb}
-use lib.ListN.{length, getD}
+use lib.Dec.{leb, ltb}
+use lib.ListN.{length}
 use Rattle.buffers.proofs.Counts.{any-none, none-any}
 use Rattle.buffers.specs.Bytes.{any}
 use Rattle.maps.specs.Bits.{has, bitsOf, share, clear, join}
@@ -28,7 +28,8 @@ use Rattle.directory.specs.Survey.{earlier, cross, rowsAt, surveyAt, sur
 use Rattle.directory.specs.Steps.{Apart, Keyed, Reached, Surveyed}
 use Rattle.directory.specs.declared.Survey.{Survey}
 use Rattle.directory.specs.declared.UsedMap.{UsedMap}
-use Rattle.directory.proofs.Live.{read-most, directory-unread, live-read}
+use Rattle.directory.proofs.Ends.{read-most}
+use Rattle.directory.proofs.Live.{directory-unread, live-read}
 use Rattle.directory.proofs.Union.{union-dead, union-live, union-rest, length-union, share-union, counted-bytes, counted-count}
 
 -- ---- an earlier live slot, as a loop looks for it
@@ -135,7 +136,6 @@ plain-at release n v i s e h =
 
 pub record Passed (n : ℕ) (v : Directory) (i : ℕ) (s : List ℕ) : Type 0 where
   pub kind : known (kindOf s) ≡ true
-  pub named : eqb (getD s 1 0) 0 ≡ false
   pub least : 1 ≤ countOf s
   pub most : countOf s ≤ dataCount n
   pub bits : bitsOf (mapOf s) ≡ countOf s
@@ -148,17 +148,16 @@ pub passed-at : (n : ℕ) (v : Directory) (i : ℕ) (s : List ℕ) → v i ≡ s
 unfolding surveyAt facts
 passed-at n v i s e h =
     let c = rows-clear (suc i) (rowsAt false n v i s) (rw e at h) in
-    let r = and-eq-true-iff (leb 1 (countOf s)) (leb (countOf s) (dataCount n)) .0 (not-false _ (c .1 .1 .0)) in
+    let r = and-eq-true-iff (leb 1 (countOf s)) (leb (countOf s) (dataCount n)) .0 (not-false _ (c .1 .0)) in
     record {
       kind = not-false (known (kindOf s)) (c .0);
-      named = c .1 .0;
       least = leb-true 1 (countOf s) (r .0);
       most = leb-true (countOf s) (dataCount n) (r .1);
-      bits = eqb-true (bitsOf (mapOf s)) (countOf s) (not-false _ (c .1 .1 .1 .0));
-      first = not-false (has (mapOf s) (firstOf s)) (c .1 .1 .1 .1 .0);
-      fits = c .1 .1 .1 .1 .1 .0;
-      unshared = c .1 .1 .1 .1 .1 .1 .0;
-      single = c .1 .1 .1 .1 .1 .1 .1 .0;
+      bits = eqb-true (bitsOf (mapOf s)) (countOf s) (not-false _ (c .1 .1 .0));
+      first = not-false (has (mapOf s) (firstOf s)) (c .1 .1 .1 .0);
+      fits = c .1 .1 .1 .1 .0;
+      unshared = c .1 .1 .1 .1 .1 .0;
+      single = c .1 .1 .1 .1 .1 .1 .0;
     }
 
 pub at-passed : (n : ℕ) (v : Directory) (i : ℕ) (s : List ℕ) → v i ≡ some s → Passed n v i s → surveyAt false n v i ≡ none
@@ -166,7 +165,7 @@ unfolding surveyAt facts
 at-passed n v i s e h =
     rw e
     (clear-rows (suc i) (rowsAt false n v i s)
-    (rw (h .kind), (h .named, (rw (le-leb 1 (countOf s) (h .least), le-leb (countOf s) (dataCount n) (h .most)), (rw (eq-eqb (bitsOf (mapOf s)) (countOf s) (h .bits)), (rw (h .first), (h .fits, (h .unshared, (h .single, tt)))))))))
+    (rw (h .kind), (rw (le-leb 1 (countOf s) (h .least), le-leb (countOf s) (dataCount n) (h .most)), (rw (eq-eqb (bitsOf (mapOf s)) (countOf s) (h .bits)), (rw (h .first), (h .fits, (h .unshared, (h .single, tt))))))))
 
 -- every live slot of a directory that is not refused
 pub survey-passed : (n : ℕ) (v : Directory) → survey n v ≡ none → (i : ℕ) (s : List ℕ) → i < slots → v i ≡ some s → Passed n v i s

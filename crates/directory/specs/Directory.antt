@@ -5,7 +5,8 @@ use mathlib.Core.List.{List, []}
 use mathlib.Core.Option.{Option, none, some}
 use lib.Dec.{ltb}
 use Rattle.buffers.specs.Bytes.{count}
-use Rattle.slots.specs.Slot.{isLive}
+use Rattle.refusals.specs.Order.{sweep}
+use Rattle.slots.specs.Slot.{isLive, isNameless}
 use Rattle.directory.specs.Places.{slots, slotBytes}
 
 -- by what a slot holds: nothing, or this
@@ -17,15 +18,30 @@ module _ {A B : Type 0} where
 abbrev pub Directory : Type 0
 Directory = ℕ → Option (List ℕ)
 
--- how many slots are read: all of them
-unfoldable pub slotsRead : List ℕ → ℕ
-slotsRead d = slots
+-- slot i is one of the directory's
+unfoldable pub isSlot : List ℕ → ℕ → Bool
+isSlot d i = ltb i slots
 
--- slot i is read
+-- "a slot whose first name byte is 0 was never used"
+unfoldable pub nameless : List ℕ → ℕ → Bool
+nameless d i = isNameless (slotBytes d i)
+
+abbrev pub endAt : List ℕ → ℕ → Option ℕ
+endAt d i = cond (nameless d i) (some i) none
+
+-- the end of the directory: the lowest such slot, where there is one
+unfoldable pub endOf : List ℕ → Option ℕ
+endOf d = sweep slots (endAt d)
+
+-- "and directory reading stops there": how many slots are read, all of them where there is no end
+unfoldable pub slotsRead : List ℕ → ℕ
+slotsRead d = held slots (λ i. i) (endOf d)
+
+-- "Now that slot, whatever its byte 0, and all later ones are unread": slot i is read
 unfoldable pub seen : List ℕ → ℕ → Bool
 seen d i = ltb i (slotsRead d)
 
--- "Byte 0 zero means erased or free." "Erased slots are not examined."
+-- "Byte 0 zero means erased or free." "Erased slots are not examined." Unread ones "count as free: none of them is a live slot"
 unfoldable pub directory : List ℕ → Directory
 directory d i = cond (seen d i && isLive (slotBytes d i)) (some (slotBytes d i)) none
 

@@ -29,7 +29,7 @@ cross v i s =
     ∷ (9 when earlier v i (λ t. sameName (nameOf t) (nameOf s)))
     ∷ []
 
--- rows 2 to 9 of the live slot i, with n directory tracks beyond the four, and 22 "directly after 7"
+-- rows 2 to 9 of the live slot i (3 is given no more), with n directory tracks beyond the four, and 22 "directly after 7"
 abbrev pub rowsAt : Bool → ℕ → Directory → ℕ → List ℕ → List Row
 rowsAt release n v i s = own n (facts s) ++ (strict release (facts s) ++ cross v i s)
 

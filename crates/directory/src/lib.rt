@@ -55,13 +55,6 @@ pub fn dir_sector(i: usize) -> usize
     i / 20 * 20 + i % 20 / 2
 }
 
-// How many slots are read.
-pub fn slots_read(dir: &[u8]) -> usize
-    ensures { λ r. ⌜ (r ≡ slotsRead (now (dir .entry))) × (r ≤ 80) ⌝ }
-{
-    SLOTS
-}
-
 // The 256 bytes of slot `i`, counted from 0, uncopied; none past the last slot.
 pub fn slot_at(dir: &[u8], i: usize) -> &[u8]
     ensures { λ r. ⌜ now r ≡ slotOr (now (dir .entry)) i ⌝ }
@@ -72,7 +65,21 @@ pub fn slot_at(dir: &[u8], i: usize) -> &[u8]
     buffers::part_at(dir, slot_place(i), 256)
 }
 
-// Whether slot `j` is live and has that name.
+// How many slots are read: those before the first that has no name.
+pub fn slots_read(dir: &[u8]) -> usize
+    ensures { λ r. ⌜ (r ≡ slotsRead (now (dir .entry))) × (r ≤ 80) ⌝ }
+{
+    let mut i: usize = 0;
+    while i < SLOTS {
+        if slots::is_nameless(slot_at(dir, i)) {
+            return i;
+        }
+        i += 1;
+    }
+    SLOTS
+}
+
+// Whether slot `j`, which is read, is live and has that name.
 fn is_named(dir: &[u8], j: usize, name: &[u8]) -> bool
     requires { ⌜ j < slotsRead (now dir) ⌝ }
     ensures { λ r. ⌜ r ≡ held false (λ t. sameName (nameOf t) (now (name .entry))) (directory (now (dir .entry)) j) ⌝ }

@@ -3,4 +3,5 @@ pub mod Rows
 pub mod Sound
 pub mod Look
 pub mod Examined
+pub mod Behind
 pub mod Release

@@ -4,7 +4,7 @@ use mathlib.Core.Path.{_≡_, refl, ap}
 use mathlib.Core.Bool.{Bool, true, false, not, _&&_, _||_, false≢true}
 use mathlib.Core.List.{List, [], _∷_, _++_}
 use mathlib.Core.Logic.{_⊎_, inl, inr, ⊎-elim}
-use borrow.Author.Tests.{eqb-true, eqb-false, eq-eqb, ne-eqb, leb-true, le-leb, ltb-false, le-ltb, not-false}
+use borrow.Author.Tests.{eqb-true, eq-eqb, leb-true, le-leb, ltb-false, le-ltb, not-false}
 use lib.Dec.{eqb, leb, ltb}
 use lib.ListN.{getD}
 use Rattle.buffers.proofs.Tests.{and-both, both-and, or-either, either-or}
@@ -65,7 +65,6 @@ is-spectrum k h = in-range 1 k 4 h
 -- no row of one slot's own holds: the tests as facts
 pub record Own (n : ℕ) (s : List ℕ) : Type 0 where
   pub kind : Known (kindOf s)
-  pub named : getD s 1 0 ≡ 0 → ⊥
   pub some-sectors : 1 ≤ countOf s
   pub few-sectors : countOf s ≤ dataCount n
   pub bits : bitsOf (mapOf s) ≡ countOf s
@@ -75,17 +74,16 @@ pub record Own (n : ℕ) (s : List ℕ) : Type 0 where
 pub own-clear : (n : ℕ) (s : List ℕ) → Clear (own n (facts s)) → Own n s
 unfolding facts
 own-clear n s c =
-    let q = range 1 (countOf s) (dataCount n) (not-false (leb 1 (countOf s) && leb (countOf s) (dataCount n)) (c .1 .1 .0)) in
+    let q = range 1 (countOf s) (dataCount n) (not-false (leb 1 (countOf s) && leb (countOf s) (dataCount n)) (c .1 .0)) in
     record {
       kind = known-is (kindOf s) (not-false (known (kindOf s)) (c .0));
-      named = eqb-false (getD s 1 0) 0 (c .1 .0);
       some-sectors = q .0;
       few-sectors = q .1;
-      bits = eqb-true (bitsOf (mapOf s)) (countOf s) (not-false (eqb (bitsOf (mapOf s)) (countOf s)) (c .1 .1 .1 .0));
-      first-own = not-false (has (mapOf s) (firstOf s)) (c .1 .1 .1 .1 .0);
+      bits = eqb-true (bitsOf (mapOf s)) (countOf s) (not-false (eqb (bitsOf (mapOf s)) (countOf s)) (c .1 .1 .0));
+      first-own = not-false (has (mapOf s) (firstOf s)) (c .1 .1 .1 .0);
       fits = λ h.
           ltb-false (510 * countOf s) (9 + lengthOf (facts s))
-          (guard (carried (kindOf s)) (ltb (510 * countOf s) (9 + lengthOf (facts s))) (c .1 .1 .1 .1 .1 .0) (is-carried (kindOf s) h));
+          (guard (carried (kindOf s)) (ltb (510 * countOf s) (9 + lengthOf (facts s))) (c .1 .1 .1 .1 .0) (is-carried (kindOf s) h));
     }
 
 pub clear-own : (n : ℕ) (s : List ℕ) → Own n s → Clear (own n (facts s))
@@ -93,18 +91,15 @@ unfolding facts
 clear-own n s w = (
   ap not (is-known (kindOf s) (w .kind)),
   (
-    ne-eqb (getD s 1 0) 0 (w .named),
+    ap not (in-range 1 (countOf s) (dataCount n) (w .some-sectors, w .few-sectors)),
     (
-      ap not (in-range 1 (countOf s) (dataCount n) (w .some-sectors, w .few-sectors)),
+      ap not (eq-eqb (bitsOf (mapOf s)) (countOf s) (w .bits)),
       (
-        ap not (eq-eqb (bitsOf (mapOf s)) (countOf s) (w .bits)),
+        ap not (w .first-own),
         (
-          ap not (w .first-own),
-          (
-            guarded (carried (kindOf s)) (ltb (510 * countOf s) (9 + lengthOf (facts s)))
-                (λ e. le-ltb (510 * countOf s) (9 + lengthOf (facts s)) (w .fits (carried-is (kindOf s) e))),
-            tt,
-          ),
+          guarded (carried (kindOf s)) (ltb (510 * countOf s) (9 + lengthOf (facts s)))
+              (λ e. le-ltb (510 * countOf s) (9 + lengthOf (facts s)) (w .fits (carried-is (kindOf s) e))),
+          tt,
         ),
       ),
     ),

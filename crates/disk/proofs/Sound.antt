@@ -43,7 +43,6 @@ good n f o c =
     let h = later-clear (f .bytes) (f .sectors) c in
     record {
       kind = o .kind;
-      named = o .named;
       some-sectors = o .some-sectors;
       few-sectors = o .few-sectors;
       bits = o .bits;
@@ -58,7 +57,6 @@ good n f o c =
 good-own : (n : ℕ) (f : File) → GoodFile n f → Own n (f .bytes)
 good-own n f g = record {
   kind = g .kind;
-  named = g .named;
   some-sectors = g .some-sectors;
   few-sectors = g .few-sectors;
   bits = g .bits;

@@ -2,4 +2,5 @@ pub mod Look
 pub mod Check
 pub mod Sound
 pub mod Given
+pub mod Behind
 pub mod Release

@@ -11,7 +11,8 @@ use Rattle.chains.specs.File.{File, fileOf}
 use Rattle.directory.specs.Directory.{held, Directory, directory, slotOr}
 use Rattle.directory.specs.Find.{find}
 use Rattle.directory.specs.Places.{slots}
-use Rattle.directory.proofs.Live.{directory-some, slot-read}
+use Rattle.directory.proofs.Ends.{slot-read}
+use Rattle.directory.proofs.Live.{directory-some}
 use Rattle.directory.proofs.Search.{find-some}
 use Rattle.disk.specs.Look.{Look, look, slotsOf}
 use Rattle.disk.specs.Check.{checkLook, checkDisk}

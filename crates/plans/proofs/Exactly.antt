@@ -8,7 +8,8 @@ use mathlib.Core.Option.{Option, none, some, Option·some-ne-none}
 use native.Mathlib.Omega.{arith}
 use borrow.Author.Tests.{ltb-true, ltb-false, lt-ltb, le-ltb, eqb-true, eqb-false, eq-eqb, not-true, not-false}
 use lib.Dec.{eqb, ltb}
-use lib.ListN.{getD}
+use lib.ListN.{length, getD}
+use Rattle.buffers.proofs.Lists.{below-or-not}
 use Rattle.buffers.proofs.Tests.{or-neither}
 use Rattle.refusals.specs.Order.{Refusal, refuse, _else_, SlotRow, FirstOf}
 use Rattle.slots.specs.Slot.{protected, carried, nameOf}
@@ -17,24 +18,26 @@ use Rattle.slots.proofs.Names.{not-bytes}
 use Rattle.slots.specs.Rows.{dataCount}
 use Rattle.chains.specs.File.{File, sectorsOf}
 use Rattle.directory.specs.Places.{slots, slotBytes}
-use Rattle.directory.specs.Directory.{held, Directory}
+use Rattle.directory.specs.Directory.{held, Directory, nameless, seen}
 use Rattle.directory.specs.Survey.{usedMap, freeOf, free}
 use Rattle.directory.specs.Find.{find}
+use Rattle.directory.proofs.Ends.{seen-next, unseen-nameless}
+use Rattle.directory.proofs.Live.{directory-dead, directory-unseen}
 use Rattle.disk.specs.Look.{Look, look, slotsOf, extra}
 use Rattle.disk.specs.Check.{checkDisk}
-use Rattle.disk.proofs.Look.{look-slots}
+use Rattle.disk.proofs.Look.{look-none, look-slots}
 use Rattle.disk.proofs.Rows.{carried-is, is-carried}
 use Rattle.files.specs.Calls.{noFile, fileAt, fileNamed}
 use Rattle.files.specs.Asked.{someNamed, slotNamed, startOutside, row20, by-check, by-row}
 use Rattle.files.proofs.Asked.{some-named, none-named}
 use Rattle.plans.specs.Change.{Wish, Mark, save, erase, rename, mark, usable}
-use Rattle.plans.specs.Saving.{lowestSlot}
-use Rattle.plans.specs.Plan.{respells, stopped, run}
-use Rattle.plans.specs.Refused.{someFree, renameRow16, row18, row19, changeRows, Refuses, Accepts}
-use Rattle.plans.specs.Accepted.{Named, Fresh, FreshBut, Unprotected, Allowed, Renames, Empty, NoSlot, Asked, many, freeSectors, Savable}
-use Rattle.plans.proofs.Frame.{disk-sound, entry-live, entry-dead, holds, look-entry}
+use Rattle.plans.specs.Saving.{lowestSlot, slotTaken}
+use Rattle.plans.specs.Plan.{oldName, respells, stopped, run}
+use Rattle.plans.specs.Refused.{someFree, renameRow16, row18, row19, listLong, changeRows, Refuses, Accepts}
+use Rattle.plans.specs.Accepted.{Named, Fresh, FreshBut, Unprotected, Allowed, Renames, Empty, NoSlot, FirstEmpty, dirNumbers, Asked, many, freeSectors, Savable}
+use Rattle.plans.proofs.Frame.{disk-sound, entry-live, holds, look-entry}
 use Rattle.plans.proofs.Named.{fresh-find, find-fresh, found-file, found-here}
-use Rattle.plans.proofs.Free.{free-slot, no-free-slot}
+use Rattle.plans.proofs.Free.{FreeSlot, free-slot, no-free-slot}
 use Rattle.plans.proofs.Effect.{erased, marked-so, renamed}
 use Rattle.plans.proofs.Refused.{some-free, none-free, refused-exactly, accepted-exactly}
 
@@ -179,24 +182,44 @@ module _ (d n : List ℕ) (room : ℕ) where
         }),
   )
 
--- ---- slots with byte 0 zero
+-- ---- slots that are erased or have no name
 
-empty-none : (d : List ℕ) (i : ℕ) → i < slots → Empty d i → look d .files i ≡ none
-empty-none d i h e =
-    look-entry d i h ∙ entry-dead (slotBytes d i) (sectorsOf d (slotBytes d i)) (ap not (eq-eqb (getD (slotBytes d i) 0 0) 0 e))
+-- they hold no file
+empty-none : (d : List ℕ) (i : ℕ) → Empty d i → look d .files i ≡ none
+unfolding nameless
+empty-none d i e =
+    look-none d i
+    (⊎-elim (λ q. directory-dead d i (ap not (eq-eqb (getD (slotBytes d i) 0 0) 0 q)))
+    (λ q. directory-unseen d i (unseen-nameless d i (eq-eqb (getD (slotBytes d i) 1 0) 0 q))) e)
 
-pub none-empty : (d : List ℕ) (i : ℕ) → i < slots → look d .files i ≡ none → Empty d i
-none-empty d i h e = by (eqb (getD (slotBytes d i) 0 0) 0) refl
+-- a slot that is read and holds no file is erased
+none-erased : (d : List ℕ) (i : ℕ) → seen d i ≡ true → look d .files i ≡ none → getD (slotBytes d i) 0 0 ≡ 0
+none-erased d i h e = by (eqb (getD (slotBytes d i) 0 0) 0) refl
   where
-    by : (t : Bool) → eqb (getD (slotBytes d i) 0 0) 0 ≡ t → Empty d i
+    by : (t : Bool) → eqb (getD (slotBytes d i) 0 0) 0 ≡ t → getD (slotBytes d i) 0 0 ≡ 0
     by true q = eqb-true (getD (slotBytes d i) 0 0) 0 q
     by false q =
         absurd
         (Option·some-ne-none (record { bytes = slotBytes d i; sectors = sectorsOf d (slotBytes d i) })
         (sym (entry-live (slotBytes d i) (sectorsOf d (slotBytes d i)) (ap not q)) ∙ sym (look-entry d i h) ∙ e))
 
-pub full-not : (d : List ℕ) (i : ℕ) (f : File) → look d .files i ≡ some f → Empty d i → ⊥
-full-not d i f q e = Option·some-ne-none f (sym q ∙ empty-none d i (holds d i f q .here) e)
+full-not : (d : List ℕ) (i : ℕ) (f : File) → look d .files i ≡ some f → Empty d i → ⊥
+full-not d i f q e = Option·some-ne-none f (sym q ∙ empty-none d i e)
+
+-- the lowest slot that holds no file is erased, or it is the end
+pub first-empty : (d : List ℕ) (i : ℕ) → FreeSlot (look d) i → FirstEmpty d i
+unfolding nameless
+first-empty d i w = record { below = w .below; empty = by (nameless d i) refl; before = λ k h. let f = w .before k h in full-not d k (f .0) (f .1) }
+  where
+    by : (t : Bool) → nameless d i ≡ t → Empty d i
+    by true q = inr (eqb-true (getD (slotBytes d i) 1 0) 0 q)
+    by false q = inl (none-erased d i (seen-next d i (w .below) (λ j h. let f = w .before j h in holds d j (f .0) (f .1) .read) q) (w .empty))
+
+-- there is one lowest
+pub first-one : (d : List ℕ) (i j : ℕ) → FirstEmpty d i → FirstEmpty d j → i ≡ j
+first-one d i j a b =
+    ⊎-elim (λ h. absurd (b .before i h (a .empty)))
+    (λ (h : j ≤ i). ⊎-elim (λ k. absurd (a .before j k (b .empty))) (λ (k : i ≤ j). omega arith) (below-or-not j i)) (below-or-not i j)
 
 -- by whether a slot is free
 by-slot : (d : List ℕ) (P : Type 0) → ((i : ℕ) → lowestSlot (extra (look d)) (slotsOf (look d)) ≡ some i → P)
@@ -215,18 +238,26 @@ free-none d e = by-slot d (NoSlot d) (λ i q. absurd (true≢false (sym (some-fr
 
 none-is-free : (d : List ℕ) → NoSlot d → someFree (look d) ≡ false
 none-is-free d n =
-    by-slot d (someFree (look d) ≡ false) (λ i q. let w = free-slot (look d) i q in absurd (n i (w .below) (none-empty d i (w .below) (w .empty))))
+    by-slot d (someFree (look d) ≡ false) (λ i q. let w = first-empty d i (free-slot (look d) i q) in absurd (n i (w .below) (w .empty)))
     (none-free (look d))
 
-slot-is-free : (d : List ℕ) (i : ℕ) → i < slots → Empty d i → someFree (look d) ≡ true
-slot-is-free d i h e = by-slot d (someFree (look d) ≡ true) (some-free (look d)) (λ q. absurd (all-full d q i h e))
+-- the slot that is taken, its number from 0
+abbrev takenAt : List ℕ → ℕ
+takenAt d = slotTaken (extra (look d)) (slotsOf (look d))
 
-slot-free : (d : List ℕ) → someFree (look d) ≡ true → (i : ℕ) × (i < slots) × Empty d i
+slot-is-free : (d : List ℕ) (i : ℕ) → FirstEmpty d i → (someFree (look d) ≡ true) × (takenAt d ≡ i)
+slot-is-free d i e =
+    by-slot d ((someFree (look d) ≡ true) × (takenAt d ≡ i))
+    (λ j q. (some-free (look d) j q, ap (held 0 (λ i. i)) q ∙ first-one d j i (first-empty d j (free-slot (look d) j q)) e))
+    (λ q. absurd (all-full d q i (e .below) (e .empty)))
+
+slot-free : (d : List ℕ) → someFree (look d) ≡ true → FirstEmpty d (takenAt d)
 slot-free d e =
-    by-slot d ((i : ℕ) × (i < slots) × Empty d i) (λ i q. let w = free-slot (look d) i q in (i, w .below, none-empty d i (w .below) (w .empty)))
+    by-slot d (FirstEmpty d (takenAt d))
+    (λ i q. subst (FirstEmpty d) (sym (ap (held 0 (λ i. i)) q)) (first-empty d i (free-slot (look d) i q)))
     (λ q. absurd (true≢false (sym e ∙ none-free (look d) q)))
 
--- the test of slots says whether one has byte 0 zero
+-- the test of slots says whether one is erased or has no name
 pub free-exactly : (d : List ℕ) → (someFree (look d) ≡ false) ↔ NoSlot d
 free-exactly d = (free-none d, none-is-free d)
 
@@ -250,16 +281,21 @@ module _ (d : List ℕ) (w : Wish) (room : ℕ) where
 
   -- the rows 18 to 20
   abbrev last : List SlotRow
-  last = row18 l ∷ row19 l w ∷ row20 room (many w + 1) ∷ []
+  last = row18 l ∷ row19 l w ∷ row20 room (listLong (oldName d) l w) ∷ []
+
+  -- the list's numbers, where slot i is taken
+  long-is : (i : ℕ) → takenAt d ≡ i → listLong (oldName d) l w ≡ many w + length (dirNumbers d i)
+  unfolding listLong
+  long-is i q = ap (λ (i : ℕ). many w + length (dirNumbers d i)) q
 
   start-in : Asked d w → startOutside (w .page) (w .offset) ≡ false
   start-in a = rw (le-ltb 31 (w .page) (a .page), le-ltb (w .offset) 32768 (a .low), le-ltb 49151 (w .offset) (a .high))
 
-  late : (r : Refusal) → Asked d w → FirstOf r (changeRows (save w) l room) → FirstOf r last
+  late : (r : Refusal) → Asked d w → FirstOf r (changeRows (oldName d) (save w) l room) → FirstOf r last
   unfolding changeRows
   late r a f = peel (fresh-named d (w .name) (a .fresh)) (peel (start-in a) (peel (ap not (is-carried (w .kind) (a .kind))) (peel (ap not (a .name)) f)))
 
-  early : (r : Refusal) → Asked d w → FirstOf r last → FirstOf r (changeRows (save w) l room)
+  early : (r : Refusal) → Asked d w → FirstOf r last → FirstOf r (changeRows (oldName d) (save w) l room)
   unfolding changeRows
   early r a f =
       inr (ap not (a .name), inr (ap not (is-carried (w .kind) (a .kind)), inr (start-in a, inr (fresh-named d (w .name) (a .fresh), f))))
@@ -274,7 +310,7 @@ module _ (d : List ℕ) (w : Wish) (room : ℕ) where
   first-save : (r : Refusal) → Asked d w → FirstOf r last → run (save w) d room ≡ stopped r
   first-save r a f = refused-exactly (save w) d room r .1 (by-row (a .disk) (early r a f))
 
-  -- refused 18 exactly when no slot has byte 0 zero
+  -- refused 18 exactly when no slot before the end is erased and there is no end
   pub save-18 : Asked d w → (run (save w) d room ≡ stopped (refuse 18 0)) ↔ NoSlot d
   save-18 a = (
     λ e.
@@ -284,9 +320,12 @@ module _ (d : List ℕ) (w : Wish) (room : ℕ) where
     λ n. first-save (refuse 18 0) a (inl (ap not (none-is-free d n), refl)),
   )
 
-  module _ (a : Asked d w) (i : ℕ) (h : i < slots) (e : Empty d i) where
+  module _ (a : Asked d w) (i : ℕ) (e : FirstEmpty d i) where
     has-slot : not (someFree l) ≡ false
-    has-slot = ap not (slot-is-free d i h e)
+    has-slot = ap not (slot-is-free d i e .0)
+
+    list-is : listLong (oldName d) l w ≡ many w + length (dirNumbers d i)
+    list-is = long-is i (slot-is-free d i e .1)
 
     -- with a slot, 19 exactly when the free sectors are fewer than the save takes
     pub save-19 : (run (save w) d room ≡ stopped (refuse 19 0)) ↔ (freeSectors d < many w)
@@ -302,17 +341,17 @@ module _ (d : List ℕ) (w : Wish) (room : ℕ) where
       has-sectors : ltb (free (extra l) (slotsOf l)) (many w) ≡ false
       has-sectors = le-ltb (free (extra l) (slotsOf l)) (many w) (omega (arith, free-sectors d))
 
-      -- with both, 20 exactly when the list is shorter than the sectors and the directory sector
-      pub save-20 : (run (save w) d room ≡ stopped (refuse 20 0)) ↔ (room < many w + 1)
+      -- with both, 20 exactly when the list is shorter than the sectors and those of the directory
+      pub save-20 : (run (save w) d room ≡ stopped (refuse 20 0)) ↔ (room < many w + length (dirNumbers d i))
       save-20 = (
         λ q.
-            ⊎-elim (λ f. ltb-true room (many w + 1) (f .0)) (λ f. absurd (f .1))
+            ⊎-elim (λ f. subst (λ (n : ℕ). room < n) list-is (ltb-true room (listLong (oldName d) l w) (f .0))) (λ f. absurd (f .1))
             (peel has-sectors (peel has-slot (save-first (refuse 20 0) a q))),
-        λ q. first-save (refuse 20 0) a (inr (has-slot, inr (has-sectors, inl (lt-ltb room (many w + 1) q, refl)))),
+        λ q. first-save (refuse 20 0) a (inr (has-slot, inr (has-sectors, inl (lt-ltb room (listLong (oldName d) l w) (omega (arith, list-is)), refl)))),
       )
 
       -- else accepted
-      pub save-else : many w + 1 ≤ room → Accepts (save w) d room
+      pub save-else : many w + length (dirNumbers d i) ≤ room → Accepts (save w) d room
       unfolding changeRows
       save-else q =
           accepted-exactly (save w) d room .1
@@ -322,7 +361,7 @@ module _ (d : List ℕ) (w : Wish) (room : ℕ) where
               ap not (a .name),
               (
                 ap not (is-carried (w .kind) (a .kind)),
-                (start-in a, (fresh-named d (w .name) (a .fresh), (has-slot, (has-sectors, (le-ltb room (many w + 1) q, tt))))),
+                (start-in a, (fresh-named d (w .name) (a .fresh), (has-slot, (has-sectors, (le-ltb room (listLong (oldName d) l w) (omega (arith, list-is)), tt))))),
               ),
             );
           })
@@ -345,11 +384,10 @@ module _ (d : List ℕ) (w : Wish) (room : ℕ) where
             high = ltb-false 49151 (w .offset) (q .1);
             fresh = named-fresh d (w .name) (p .rows .1 .1 .1 .0);
           };
-          slot = s .0;
-          below = s .1;
-          empty = s .2;
+          slot = takenAt d;
+          free = s;
           sectors = subst (λ (n : ℕ). many w ≤ n) (free-sectors d) (ltb-false (free (extra l) (slotsOf l)) (many w) (p .rows .1 .1 .1 .1 .1 .0));
-          list = ltb-false room (many w + 1) (p .rows .1 .1 .1 .1 .1 .1 .0);
+          list = subst (λ (n : ℕ). n ≤ room) (long-is (takenAt d) refl) (ltb-false room (listLong (oldName d) l w) (p .rows .1 .1 .1 .1 .1 .1 .0));
         },
-    λ s. save-else (s .asked) (s .slot) (s .below) (s .empty) (s .sectors) (s .list),
+    λ s. save-else (s .asked) (s .slot) (s .free) (s .sectors) (s .list),
   )

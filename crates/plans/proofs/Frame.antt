@@ -1,26 +1,27 @@
 -- What bytes put into one slot, or into one data sector, change of a look, and what they leave.
-use Prim.Native.Nat.{ℕ, _+_, _*_, _≤_, _<_}
+use Prim.Native.Nat.{ℕ, suc, _+_, _*_, _%_, _≤_, _<_}
 use mathlib.Core.Path.{_≡_, refl, sym, ap, ap₂, _∙_, fun-ext}
-use mathlib.Core.Bool.{Bool, true, false, cond, _&&_}
+use mathlib.Core.Bool.{Bool, true, false, cond, _&&_, false≢true}
 use mathlib.Core.List.{List}
-use mathlib.Core.Logic.{⊎-elim}
+use mathlib.Core.Logic.{_⊎_, inl, inr, ⊎-elim}
 use mathlib.Core.Option.{Option, none, some, Option·some-ne-none, Option·some-injective}
 use native.Mathlib.Omega.{arith}
 use borrow.Author.Tests.{eqb-true, eqb-false, eq-eqb, ne-eqb}
-use lib.Dec.{eqb, ltb}
+use lib.Dec.{eqb}
 use lib.ListN.{length, getD}
 use Rattle.buffers.specs.Bytes.{part, put}
-use Rattle.buffers.proofs.Lists.{below-or-not, length-put, part-long, part-put, part-put-before, part-put-after, part-at, put-in, put-before, put-after, put-is}
+use Rattle.buffers.proofs.Lists.{below-or-not, length-put, part-long, part-put, part-put-before, part-put-after, part-part, part-at, put-in, put-before, put-after, put-is}
 use Rattle.geometry.specs.Disk.{imageSize, bitNumber, bitPlace}
 use Rattle.geometry.proofs.Laws.{place-inside, number-injective}
 use Rattle.maps.specs.Bits.{has}
-use Rattle.slots.specs.Slot.{isLive, mapOf}
+use Rattle.slots.specs.Slot.{isLive, isNameless, mapOf}
 use Rattle.chains.specs.File.{File, sectorAt, sectorsOf, fileOf}
 use Rattle.chains.proofs.Laws.{map-small, sectors-own, file-agree}
 use Rattle.directory.specs.Places.{slots, slotAt, slotBytes, dirSector}
-use Rattle.directory.specs.Directory.{held, slotsRead, seen, directory}
+use Rattle.directory.specs.Directory.{held, nameless, seen, directory}
 use Rattle.directory.proofs.Places.{slots-count, slot-front, slot-sector, slots-apart, data-all, dir-not-data, slot-data-apart}
-use Rattle.directory.proofs.Live.{directory-some, directory-live, directory-dead, directory-past}
+use Rattle.directory.proofs.Ends.{seen-is, seen-lower, seen-next, seen-agree, nameless-agree, unseen-later, unseen-past, unseen-nameless}
+use Rattle.directory.proofs.Live.{directory-some, directory-live, directory-dead, directory-unseen, directory-past}
 use Rattle.disk.specs.Look.{Look, look, slotsOf, extra}
 use Rattle.disk.specs.Check.{checkDisk}
 use Rattle.disk.specs.Sound.{Sound}
@@ -112,6 +113,7 @@ module _ (s : List ℕ) (sec : ℕ → List ℕ) where
 -- slot i of an image is live, and f is its file
 pub record Holds (d : List ℕ) (i : ℕ) (f : File) : Type 0 where
   pub here : i < slots
+  pub read : seen d i ≡ true
   pub live : directory d i ≡ some (f .bytes)
   pub bytes : slotBytes d i ≡ f .bytes
   pub alive : isLive (f .bytes) ≡ true
@@ -130,6 +132,7 @@ module _ (d : List ℕ) (i : ℕ) (f : File) (e : look d .files i ≡ some f) wh
           let p = directory-some d i s q in
           record {
             here = p .0;
+            read = p .3;
             live = q ∙ ap {B = Option (List ℕ)} some b;
             bytes = sym (p .1) ∙ b;
             alive = ap isLive (sym b) ∙ p .2;
@@ -142,19 +145,49 @@ module _ (d : List ℕ) (i : ℕ) (f : File) (e : look d .files i ≡ some f) wh
   pub holds-sector : (b : ℕ) → has (mapOf (f .bytes)) b ≡ true → sectorAt d b ≡ f .sectors b
   holds-sector b m = sym (sectors-own d (f .bytes) b m) ∙ ap (λ (s : ℕ → List ℕ). s b) (holds .sectors)
 
+  -- it has a name
+  pub holds-named : isNameless (f .bytes) ≡ false
+  unfolding nameless
+  holds-named = ap isNameless (sym (holds .bytes)) ∙ seen-is d i (holds .read) .1 i (omega arith)
+
 -- the file of a slot that is read, live or not
-pub look-entry : (d : List ℕ) (i : ℕ) → i < slots → look d .files i ≡ entryOf (slotBytes d i) (sectorsOf d (slotBytes d i))
+pub look-entry : (d : List ℕ) (i : ℕ) → seen d i ≡ true → look d .files i ≡ entryOf (slotBytes d i) (sectorsOf d (slotBytes d i))
 unfolding fileOf
 look-entry d i h = by (isLive (slotBytes d i)) refl
   where
     by : (t : Bool) → isLive (slotBytes d i) ≡ t → look d .files i ≡ entryOf (slotBytes d i) (sectorsOf d (slotBytes d i))
     by true q = look-some d i (slotBytes d i) (directory-live d i h q) ∙ sym (entry-live (slotBytes d i) (sectorsOf d (slotBytes d i)) q)
-    by false q = look-none d i (directory-dead d i h q) ∙ sym (entry-dead (slotBytes d i) (sectorsOf d (slotBytes d i)) q)
+    by false q = look-none d i (directory-dead d i q) ∙ sym (entry-dead (slotBytes d i) (sectorsOf d (slotBytes d i)) q)
 
--- an image with the same bytes in a slot says the same of it
-directory-stays : (d e : List ℕ) (j : ℕ) → slotBytes e j ≡ slotBytes d j → directory e j ≡ directory d j
-unfolding directory seen slotsRead
-directory-stays d e j q = ap (λ (s : List ℕ). cond (ltb j slots && isLive s) (some s) none) q
+-- an image with the same bytes in a slot, which is read as before, says the same of it
+directory-stays : (d e : List ℕ) (j : ℕ) → seen e j ≡ seen d j → slotBytes e j ≡ slotBytes d j → directory e j ≡ directory d j
+unfolding directory
+directory-stays d e j n q = ap₂ (λ (t : Bool) (s : List ℕ). cond (t && isLive s) (some s) none) n q
+
+-- a slot is half of its sector
+pub slot-half : (d : List ℕ) (i : ℕ) → part (256 * (i % 2)) 256 (sector d (dirSector i)) ≡ slotBytes d i
+slot-half d i = part-part (dirSector i * 512) 512 (256 * (i % 2)) 256 d (omega arith) ∙ ap (λ (a : ℕ). part a 256 d) (omega (arith, slot-sector i))
+
+-- Slot i can be written: those before it are read. Where an old name stands behind it (old), it is the directory's end; where
+-- none does, it is read, or the next slot, if there is one, has no name either.
+pub record Reach (d : List ℕ) (old : Bool) (i : ℕ) : Type 0 where
+  pub before : (j : ℕ) → j < i → seen d j ≡ true
+  pub next : old ≡ false → (seen d i ≡ true) ⊎ (suc i < slots → nameless d (suc i) ≡ true)
+  pub end : old ≡ true → (nameless d i ≡ true) × (suc i < slots)
+
+pub reach-read : (d : List ℕ) (i : ℕ) → seen d i ≡ true → Reach d false i
+reach-read d i e = record { before = λ j h. seen-lower d i j (omega arith) e; next = λ q. inl e; end = λ q. absurd (false≢true q) }
+
+-- by the bytes of the slots alone
+pub reach-agree : (d e : List ℕ) → ((j : ℕ) → j < slots → slotBytes e j ≡ slotBytes d j) → (old : Bool) (i : ℕ) → i < slots → Reach d old i → Reach e old i
+reach-agree d e s old i h r = record {
+  before = λ j l. same-seen j (omega arith) ∙ r .before j l;
+  next = λ q. ⊎-elim (λ w. inl (same-seen i h ∙ w)) (λ w. inr (λ l. nameless-agree d e (suc i) (s (suc i) l) ∙ w l)) (r .next q);
+  end = λ q. let w = r .end q in (nameless-agree d e i (s i h) ∙ w .0, w .1);
+}
+  where
+    same-seen : (j : ℕ) → j < slots → seen e j ≡ seen d j
+    same-seen j l = seen-agree d e j (λ k m. nameless-agree d e k (s k (omega arith)))
 
 -- ---- bytes put inside one slot
 
@@ -194,25 +227,73 @@ module _ (d : List ℕ) (z : length d ≡ imageSize) (i : ℕ) (h : i < slots) (
       put-other (dirSector i) (record { place = slotAt i + o; bytes = y }) d inside-slot (bitNumber b)
       (dir-not-data 0 b i (omega arith) (data-all b l) (omega (arith, slots-count)))
 
-  files-stay : (s : List ℕ) → fileOf new s ≡ fileOf d s
+  pub files-stay : (s : List ℕ) → fileOf (put d (slotAt i + o) y) s ≡ fileOf d s
   files-stay s = file-agree new d s (λ b m. data-stays b (map-small s b m))
 
-  -- the look changes in that slot alone: it then holds what its new bytes say
-  pub slot-look : (x : List ℕ) (sec : ℕ → List ℕ) → put (slotBytes d i) o y ≡ x → sectorsOf d x ≡ sec
-      → look (put d (slotAt i + o) y) ≡ upd (look d) i (entryOf x sec)
-  unfolding look upd fileOf
-  slot-look x sec ex es = λ q. record { long = length-put d (slotAt i + o) y q; files = λ j. by j (eqb j i) refl q }
-    where
-      here : look new .files i ≡ entryOf x sec
-      here =
-          look-entry new i h
-          ∙ ap₂ entryOf (slot-new ∙ ex) (ap (λ (f : File). f .sectors) (files-stay (slotBytes new i)) ∙ ap (sectorsOf d) (slot-new ∙ ex) ∙ es)
+  nameless-else : (j : ℕ) → (j ≡ i → ⊥) → nameless new j ≡ nameless d j
+  nameless-else j n = nameless-agree d new j (slot-else j n)
 
-      by : (j : ℕ) (t : Bool) → eqb j i ≡ t → look new .files j ≡ cond t (entryOf x sec) (look d .files j)
-      by j true q = ap (look new .files) (eqb-true j i q) ∙ here
-      by j false q =
-          ap₂ (λ (f : List ℕ → File) (v : Option (List ℕ)). held none (λ s. some (f s)) v) (fun-ext files-stay)
-          (directory-stays d new j (slot-else j (eqb-false j i q)))
+  -- behind a slot without a name nothing is seen to change
+  pub slot-quiet : (e : ℕ) → e < i → nameless d e ≡ true → look (put d (slotAt i + o) y) ≡ look d
+  slot-quiet e l n = look-agree new d (length-put d (slotAt i + o) y) (fun-ext same) (λ j s q b m. data-stays b (map-small s b m))
+    where
+      rest : (x : List ℕ) → nameless x e ≡ true → (j : ℕ) → e ≤ j → directory x j ≡ none
+      rest x q j k = directory-unseen x j (unseen-later x e j k (unseen-nameless x e q))
+
+      same : (j : ℕ) → directory new j ≡ directory d j
+      same j =
+          ⊎-elim
+          (λ (k : j < e). directory-stays d new j (seen-agree d new j (λ t h. nameless-else t (omega arith))) (slot-else j (omega arith)))
+          (λ (k : e ≤ j). rest new (nameless-else e (omega arith) ∙ n) j k ∙ sym (rest d n j k)) (below-or-not j e)
+
+  -- with a name, slot i is read then, and of the others those that were
+  module _ (r : Reach d false i) (n : isNameless (put (slotBytes d i) o y) ≡ false) where
+    named-new : nameless new i ≡ false
+    unfolding nameless
+    named-new = ap isNameless slot-new ∙ n
+
+    seen-before : (j : ℕ) → j < i → seen new j ≡ seen d j
+    seen-before j l = seen-agree d new j (λ k m. nameless-else k (omega arith))
+
+    pub seen-here : seen (put d (slotAt i + o) y) i ≡ true
+    seen-here = seen-next new i h (λ j l. seen-before j l ∙ r .before j l) named-new
+
+    -- behind an end with no old name
+    unseen-behind : (e : List ℕ) → (suc i < slots → nameless e (suc i) ≡ true) → (j : ℕ) → i < j → seen e j ≡ false
+    unseen-behind e q j l =
+        ⊎-elim (λ (m : suc i < slots). unseen-later e (suc i) j l (unseen-nameless e (suc i) (q m)))
+        (λ (m : slots ≤ suc i). unseen-past e j (omega arith))
+        (below-or-not (suc i) slots)
+
+    pub seen-else : (j : ℕ) → (j ≡ i → ⊥) → seen (put d (slotAt i + o) y) j ≡ seen d j
+    seen-else j u =
+        ⊎-elim (seen-before j)
+        (λ (l : i ≤ j).
+        ⊎-elim (λ s. seen-agree d new j (λ k m. by k s (eqb k i) refl))
+        (λ q. unseen-behind new (λ m. nameless-else (suc i) (omega arith) ∙ q m) j (omega arith) ∙ sym (unseen-behind d q j (omega arith)))
+        (r .next refl))
+        (below-or-not j i)
+      where
+        by : (k : ℕ) → seen d i ≡ true → (t : Bool) → eqb k i ≡ t → nameless new k ≡ nameless d k
+        by k s true e = ap (nameless new) (eqb-true k i e) ∙ named-new ∙ sym (seen-is d i s .1 i (omega arith)) ∙ ap (nameless d) (sym (eqb-true k i e))
+        by k s false e = nameless-else k (eqb-false k i e)
+
+    -- the look changes in that slot alone: it then holds what its new bytes say
+    pub slot-look : (x : List ℕ) (sec : ℕ → List ℕ) → put (slotBytes d i) o y ≡ x → sectorsOf d x ≡ sec
+        → look (put d (slotAt i + o) y) ≡ upd (look d) i (entryOf x sec)
+    unfolding look upd fileOf
+    slot-look x sec ex es = λ q. record { long = length-put d (slotAt i + o) y q; files = λ j. by j (eqb j i) refl q }
+      where
+        here : look new .files i ≡ entryOf x sec
+        here =
+            look-entry new i seen-here
+            ∙ ap₂ entryOf (slot-new ∙ ex) (ap (λ (f : File). f .sectors) (files-stay (slotBytes new i)) ∙ ap (sectorsOf d) (slot-new ∙ ex) ∙ es)
+
+        by : (j : ℕ) (t : Bool) → eqb j i ≡ t → look new .files j ≡ cond t (entryOf x sec) (look d .files j)
+        by j true q = ap (look new .files) (eqb-true j i q) ∙ here
+        by j false q =
+            ap₂ (λ (f : List ℕ → File) (v : Option (List ℕ)). held none (λ s. some (f s)) v) (fun-ext files-stay)
+            (directory-stays d new j (seen-else j (eqb-false j i q)) (slot-else j (eqb-false j i q)))
 
 -- ---- a data sector put
 
@@ -253,4 +334,8 @@ module _ (d : List ℕ) (z : length d ≡ imageSize) (c : ℕ) (hc : c < 1560) (
       (λ w. free i (fileOf d s) (look-some d i s (sym (same i) ∙ q)) (ap (has (mapOf s)) (sym w) ∙ m)))
     where
       same : (i : ℕ) → directory after i ≡ directory d i
-      same i = ⊎-elim (λ h. directory-stays d after i (slots-stay i h)) (λ h. directory-past after i h ∙ sym (directory-past d i h)) (below-or-not i slots)
+      same i =
+          ⊎-elim
+          (λ (h : i < slots).
+          directory-stays d after i (seen-agree d after i (λ j k. nameless-agree d after j (slots-stay j (omega arith)))) (slots-stay i h))
+          (λ h. directory-past after i h ∙ sym (directory-past d i h)) (below-or-not i slots)

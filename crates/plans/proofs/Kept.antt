@@ -13,7 +13,7 @@ use Rattle.buffers.specs.Bytes.{put}
 use Rattle.buffers.proofs.Lists.{below-or-not, part-put, part-put-after, put-in, put-before, put-after}
 use Rattle.geometry.specs.Disk.{imageSize, bitOf}
 use Rattle.maps.specs.Bits.{has}
-use Rattle.slots.specs.Slot.{isLive, kindOf, nameOf, countOf, mapOf, facts}
+use Rattle.slots.specs.Slot.{isLive, isNameless, kindOf, nameOf, countOf, mapOf, facts}
 use Rattle.slots.specs.Name.{Same, askable, padded}
 use Rattle.slots.proofs.Names.{same-sym, same-to, length-padded}
 use Rattle.chains.specs.File.{File, sectorAt, sectorsOf}
@@ -25,7 +25,7 @@ use Rattle.steps.specs.Steps.{Step, putAll, Does}
 use Rattle.plans.specs.Change.{Mark, hide, show, protect, release, marked, allBetween, usable}
 use Rattle.plans.specs.Plan.{upd, entryOf, slotStep}
 use Rattle.plans.specs.Accepted.{FreshBut}
-use Rattle.plans.proofs.Frame.{upd-same, upd-other, upd-long, extra-upd, entry-alive, entry-is, Holds, holds, holds-long, inside-slot, there-slot, slot-look}
+use Rattle.plans.proofs.Frame.{upd-same, upd-other, upd-long, extra-upd, entry-alive, entry-is, Holds, holds, holds-long, holds-named, Reach, reach-read, inside-slot, there-slot, slot-look}
 
 -- ---- files apart
 
@@ -82,17 +82,18 @@ sound-upd l w i h o good apart = record {
 pub sound-long : (d : List ℕ) → Sound (look d) → length d ≡ imageSize
 sound-long d w = sym (look-long d) ∙ w .long
 
--- bytes put inside a slot do what their step says, where the file that the slot then holds, if any, is good and apart from the others
+-- bytes put inside a slot that can be written do what their step says, where the slot then has a name, and the file that it holds,
+-- if any, is good and apart from the others
 pub slot-does : (d : List ℕ) → Sound (look d) → (i : ℕ) → i < slots → (o : ℕ) (y : List ℕ) → o + length y ≤ 256 → (x : List ℕ) (sec : ℕ → List ℕ)
-    → put (slotBytes d i) o y ≡ x → sectorsOf d x ≡ sec
+    → put (slotBytes d i) o y ≡ x → sectorsOf d x ≡ sec → Reach d false i → isNameless x ≡ false
     → (isLive x ≡ true → GoodFile (extra (look d)) (record { bytes = x; sectors = sec }))
     → (isLive x ≡ true → (j : ℕ) (g : File) → j < slots → (j ≡ i → ⊥) → look d .files j ≡ some g → Apart g (record { bytes = x; sectors = sec }))
     → Does look Sound d (slotStep (look d) i o y (entryOf x sec))
 unfolding putAll
-slot-does d w i h o y k x sec ex es good apart = record {
+slot-does d w i h o y k x sec ex es r n good apart = record {
   there = there-slot d (sound-long d w) i h o y k;
   inside = (inside-slot d (sound-long d w) i h o y k, tt);
-  sees = slot-look d (sound-long d w) i h o y k x sec ex es;
+  sees = slot-look d (sound-long d w) i h o y k r (ap isNameless ex ∙ n) x sec ex es;
   ok = sound-upd (look d) w i h (entryOf x sec) (λ f q. rw (entry-is x sec f q) (good (entry-alive x sec f q)))
       (λ f j g q m n p. rw (entry-is x sec f q) (apart (entry-alive x sec f q) j g m n p));
 }
@@ -141,18 +142,19 @@ module _ (d : List ℕ) (w : Sound (look d)) (i : ℕ) (f : File) (e : look d .f
     unfolding sectorsOf
     sectors-kept = ap {B = ℕ → List ℕ} (λ (m : List ℕ) (b : ℕ). cond (has m b) (sectorAt d b) []) map-kept ∙ own .sectors
 
-    touch-does : (isLive now ≡ true → GoodFile (extra (look d)) (record { bytes = now; sectors = f .sectors }))
+    touch-does : isNameless now ≡ false → (isLive now ≡ true → GoodFile (extra (look d)) (record { bytes = now; sectors = f .sectors }))
         → (isLive now ≡ true → (j : ℕ) (g : File) → j < slots → (j ≡ i → ⊥) → look d .files j ≡ some g → Apart g (record { bytes = now; sectors = f .sectors }))
         → Does look Sound d (touchStep (look d) i f o y)
-    touch-does = slot-does d w i (own .here) o y (omega arith) now (f .sectors) (ap (λ (s : List ℕ). put s o y) (own .bytes)) sectors-kept
+    touch-does =
+        slot-does d w i (own .here) o y (omega arith) now (f .sectors) (ap (λ (s : List ℕ). put s o y) (own .bytes)) sectors-kept
+        (reach-read d i (own .read))
 
     -- with the kind kept and a name
-    module _ (p : kindOf now ≡ kindOf (f .bytes)) (q : getD now 1 0 ≡ 0 → ⊥) where
+    module _ (p : kindOf now ≡ kindOf (f .bytes)) (q : isNameless now ≡ false) where
       facts-kept : facts now ≡ facts (f .bytes)
       unfolding facts
       facts-kept = λ t. record {
         kind = p t;
-        unnamed = (ne-eqb (getD now 1 0) 0 q ∙ sym (ne-eqb (getD (f .bytes) 1 0) 0 (was .named))) t;
         count = rest 11 (omega arith) t * 256 + rest 12 (omega arith) t;
         first = bitOf (rest 13 (omega arith) t) (rest 14 (omega arith) t);
         map = map-kept t;
@@ -165,7 +167,6 @@ module _ (d : List ℕ) (w : Sound (look d)) (i : ℕ) (f : File) (e : look d .f
           let c : countOf now ≡ countOf (f .bytes) = rw (rest 11 (omega arith), rest 12 (omega arith)) in
           record {
             kind = rw p (was .kind);
-            named = q;
             some-sectors = rw c (was .some-sectors);
             few-sectors = rw c (was .few-sectors);
             bits = rw (map-kept, c) (was .bits);
@@ -188,7 +189,7 @@ module _ (d : List ℕ) (w : Sound (look d)) (i : ℕ) (f : File) (e : look d .f
       kept-does : ((j : ℕ) (g : File) → j < slots → (j ≡ i → ⊥) → look d .files j ≡ some g → Same (nameOf (g .bytes)) (nameOf now) → ⊥)
           → Does look Sound d (touchStep (look d) i f o y)
       kept-does fresh =
-          touch-does (λ a. good-kept)
+          touch-does q (λ a. good-kept)
           (λ a j g m n v. record {
             sectors = rw map-kept (sound-apart (look d) w i j f g (own .here) m n e v .sectors);
             names = fresh j g m n v;
@@ -199,15 +200,18 @@ module _ (d : List ℕ) (w : Sound (look d)) (i : ℕ) (f : File) (e : look d .f
   first-byte : (b : ℕ) → getD (put (f .bytes) 0 (b ∷ [])) 0 0 ≡ b
   first-byte b = let z = long in put-in (f .bytes) 0 (b ∷ []) 0 (omega arith) (omega arith)
 
+  first-named : (b : ℕ) → isNameless (put (f .bytes) 0 (b ∷ [])) ≡ false
+  first-named b = ap (λ (x : ℕ). eqb x 0) (put-after (f .bytes) 0 (b ∷ []) 1 (omega arith)) ∙ holds-named d i f e
+
   pub erase-does : Does look Sound d (touchStep (look d) i f 0 (0 ∷ []))
   erase-does =
       let dead : isLive (put (f .bytes) 0 (0 ∷ [])) ≡ false = rw (first-byte 0) in
-      touch-does 0 (0 ∷ []) (omega arith) (λ a. absurd (true≢false (sym a ∙ dead))) (λ a. absurd (true≢false (sym a ∙ dead)))
+      touch-does 0 (0 ∷ []) (omega arith) (first-named 0) (λ a. absurd (true≢false (sym a ∙ dead))) (λ a. absurd (true≢false (sym a ∙ dead)))
 
   pub mark-does : (m : Mark) → Does look Sound d (touchStep (look d) i f 0 (marked m (getD (f .bytes) 0 0) ∷ []))
   mark-does m =
       kept-does 0 (b ∷ []) (omega arith) (ap (λ (a : ℕ). a % 64) (first-byte b) ∙ kind m (getD (f .bytes) 0 0))
-      (λ v. was .named (sym (put-after (f .bytes) 0 (b ∷ []) 1 (omega arith)) ∙ v))
+      (first-named b)
       (λ j g l n v t. sound-apart (look d) w i j f g (own .here) l n e v .names
       (same-to (nameOf (g .bytes)) (part-put-after (f .bytes) 0 (b ∷ []) 1 10 (omega arith)) t))
     where
@@ -226,5 +230,5 @@ module _ (d : List ℕ) (w : Sound (look d)) (i : ℕ) (f : File) (e : look d .f
       let z = long in
       let named : nameOf (put (f .bytes) 1 (padded new)) ≡ padded new = rw (a .1) at (part-put (f .bytes) 1 (padded new) (omega arith)) in
       kept-does 1 (padded new) (omega arith) (ap (λ (b : ℕ). b % 64) (put-before (f .bytes) 1 (padded new) 0 (omega arith)))
-      (λ v. a .0 (sym (put-in (f .bytes) 1 (padded new) 0 (omega arith) (omega arith)) ∙ v))
+      (ne-eqb (getD (put (f .bytes) 1 (padded new)) 1 0) 0 (λ v. a .0 (sym (put-in (f .bytes) 1 (padded new) 0 (omega arith) (omega arith)) ∙ v)))
       (λ j g l n v t. free j g n v (same-to (nameOf (g .bytes)) named t))

@@ -2,7 +2,7 @@
 use Prim.Native.Nat.{ℕ, suc, _+_, _-_, _≤_}
 use mathlib.Core.Path.{_≡_, refl, sym, ap, ap₂, _∙_, subst}
 use mathlib.Core.Bool.{true, _&&_}
-use mathlib.Core.List.{List, [], _∷_, _++_, map}
+use mathlib.Core.List.{List, _++_, map}
 use mathlib.Core.Option.{none, some}
 use native.Mathlib.Omega.{arith}
 use borrow.Author.Tests.{le-ltb, leb-true}
@@ -19,7 +19,6 @@ use Rattle.slots.specs.Name.{askable, padded}
 use Rattle.slots.proofs.Names.{same-eq}
 use Rattle.chains.specs.File.{File}
 use Rattle.chains.specs.Chain.{fileLength, body}
-use Rattle.directory.specs.Places.{dirSector}
 use Rattle.directory.specs.Directory.{held}
 use Rattle.directory.specs.Find.{find}
 use Rattle.directory.proofs.Search.{some-find, find-none}
@@ -30,7 +29,7 @@ use Rattle.files.specs.Calls.{noFile, fileAt, fileNamed, named, notReadable, ou
 use Rattle.steps.specs.Steps.{enact, numbers}
 use Rattle.plans.specs.Change.{Wish, save, usable, between}
 use Rattle.plans.specs.Saving.{freeBit, taken, slotTaken, newSlot}
-use Rattle.plans.specs.Plan.{upd, saveSteps, made, run}
+use Rattle.plans.specs.Plan.{upd, oldName, dirSectors, saveSteps, made, run}
 use Rattle.plans.proofs.Frame.{disk-sound, upd-same, slots-same, slots-other}
 use Rattle.plans.proofs.Kept.{usable-is}
 use Rattle.plans.proofs.Free.{FreeSlot, free-slot}
@@ -78,10 +77,10 @@ pub record Stored (d : List ℕ) (w : Wish) (new ss : List ℕ) : Type 0 where
   pub range : (leb (w .page) 31 && between 32768 (w .offset) 49151) ≡ true
   pub fresh : find (slotsOf (look d)) (w .name) ≡ none
   pub takes : bits ≡ taken (extra (look d)) (slotsOf (look d)) w
-  pub disk : new ≡ enact d (saveSteps (look d) slot w bits)
+  pub disk : new ≡ enact d (saveSteps (oldName d slot) (look d) slot w bits)
   pub seen : look new ≡ upd (look d) slot (some (newFile (slotsOf (look d)) slot w bits))
-  -- "for a save the n data sectors in chain order and then the directory sector"
-  pub sectors : ss ≡ map bitNumber bits ++ (dirSector slot ∷ [])
+  -- "for a save the n data sectors in chain order and then the directory sector", before that one the one behind the end
+  pub sectors : ss ≡ map bitNumber bits ++ dirSectors (oldName d slot) slot
 
 pub stored : (d : List ℕ) → checkDisk d ≡ none → (room : ℕ) (w : Wish) (new ss : List ℕ) → run (save w) d room ≡ made new ss → Stored d w new ss
 stored d ok room w new ss e =
@@ -101,8 +100,8 @@ stored d ok room w new ss e =
       fresh = t .fresh;
       takes = refl;
       disk = sym (m .disk) ∙ ap (enact d) (sym (k .steps));
-      seen = ap look (sym (m .disk) ∙ ap (enact d) (sym (k .steps))) ∙ save-look d (disk-sound d ok) i (at .below) w bs r (t .fresh);
-      sectors = sym (m .named) ∙ ap numbers (sym (k .steps)) ∙ save-numbers (look d) i w bs;
+      seen = ap look (sym (m .disk) ∙ ap (enact d) (sym (k .steps))) ∙ save-look d (disk-sound d ok) i at w bs r (t .fresh);
+      sectors = sym (m .named) ∙ ap numbers (sym (k .steps)) ∙ save-numbers (oldName d i) (look d) i w bs;
     }
 
 -- ---- the saved file

@@ -17,7 +17,7 @@ use Rattle.refusals.proofs.First.{first-same, first-none}
 use Rattle.slots.specs.Slot.{protected, carried, nameOf, sectorsFor}
 use Rattle.slots.specs.Name.{sameName, askable, padded}
 use Rattle.chains.specs.File.{File}
-use Rattle.directory.specs.Places.{slotCount, slots, dirSector}
+use Rattle.directory.specs.Places.{slotCount, slots}
 use Rattle.directory.specs.Directory.{held}
 use Rattle.directory.specs.Survey.{free}
 use Rattle.directory.specs.Find.{find}
@@ -31,8 +31,8 @@ use Rattle.steps.specs.Steps.{Step, enact, numbers}
 use Rattle.steps.proofs.Steps.{length-numbers}
 use Rattle.plans.specs.Change.{Wish, Mark, Change, save, erase, rename, mark, marked, between, usable}
 use Rattle.plans.specs.Saving.{taken, lowestSlot, slotTaken}
-use Rattle.plans.specs.Plan.{touch, saveSteps, Plan, no, go, orNo, byName, takenAt, nameTaken, respells, takenBy, renameTaken, isProtected, saveReply, planOf, Result, stopped, made, settle, checked, run, changedBy, change}
-use Rattle.plans.specs.Refused.{someFree, row14, row16, renameRow16, row17, row18, row19, changeRows, Refuses, Passes, Accepts}
+use Rattle.plans.specs.Plan.{touch, oldName, dirSectors, saveSteps, Plan, no, go, orNo, byName, takenAt, nameTaken, respells, takenBy, renameTaken, isProtected, saveReply, planOf, Result, stopped, made, settle, checked, run, changedBy, change}
+use Rattle.plans.specs.Refused.{someFree, row14, row16, renameRow16, row17, row18, row19, listLong, changeRows, Refuses, Passes, Accepts}
 use Rattle.plans.specs.Accepted.{many}
 use Rattle.plans.proofs.Free.{lowest-slot, no-slot, taken-long}
 use Rattle.plans.proofs.Saved.{save-numbers}
@@ -94,12 +94,14 @@ module _ (l : Look) where
 
 -- ---- how many numbers
 
-pub save-long : (l : Look) (i : ℕ) (w : Wish) (bs : List ℕ) → length (numbers (saveSteps l i w bs)) ≡ length bs + 1
-save-long l i w bs = ap length (save-numbers l i w bs) ∙ length-append (map bitNumber bs) (dirSector i ∷ []) ∙ ap (λ (n : ℕ). n + 1) (length-map bs bitNumber)
+pub save-long : (old : Bool) (l : Look) (i : ℕ) (w : Wish) (bs : List ℕ) → length (numbers (saveSteps old l i w bs)) ≡ length bs + length (dirSectors old i)
+save-long old l i w bs =
+    ap length (save-numbers old l i w bs) ∙ length-append (map bitNumber bs) (dirSectors old i)
+    ∙ ap (λ (n : ℕ). n + length (dirSectors old i)) (length-map bs bitNumber)
 
 -- ---- a plan by its rows
 
-module _ (d : List ℕ) (room : ℕ) where
+module _ (d : List ℕ) (room : ℕ) (old : ℕ → Bool) where
   abbrev By : List SlotRow → Plan → Type 0
   By rs q = Settled rs (settle d room q)
 
@@ -162,8 +164,8 @@ module _ (d : List ℕ) (room : ℕ) where
 
     -- ---- each change
 
-    by-save : (w : Wish) → By (changeRows (save w) l room) (planOf (save w) l)
-    unfolding changeRows planOf saveReply
+    by-save : (w : Wish) → By (changeRows old (save w) l room) (planOf old (save w) l)
+    unfolding changeRows planOf saveReply listLong
     by-save w =
         by-else (row 12 0 (not (usable (w .name)))) (r13 else r14 else r16 else r18 else r19) _ steps
         (by-test 12 0 (not (usable (w .name))) _ _
@@ -178,8 +180,8 @@ module _ (d : List ℕ) (room : ℕ) where
         (subst (λ (t : Bool). By (row18 l ∷ rows19) (orNo (row 18 0 t) (orNo r19 steps))) (sym (no-free l))
         (by-test 18 0 (not (someFree l)) _ _
         (λ e. by-test 19 0 (ltb (free (extra l) (slotsOf l)) many) _ _
-        (λ f. by-room (saveSteps l slot w bits) (many + 1)
-        (save-long l slot w bits ∙ ap (λ (n : ℕ). n + 1) (taken-long l w (ltb-false (free (extra l) (slotsOf l)) many f))))))))))))))))
+        (λ f. by-room (saveSteps (old slot) l slot w bits) named
+        (save-long (old slot) l slot w bits ∙ ap (λ (n : ℕ). n + length (dirSectors (old slot) slot)) (taken-long l w (ltb-false (free (extra l) (slotsOf l)) many f))))))))))))))))
       where
         many : ℕ
         many = sectorsFor (length (w .body))
@@ -191,7 +193,10 @@ module _ (d : List ℕ) (room : ℕ) where
         bits = taken (extra l) (slotsOf l) w
 
         steps : Plan
-        steps = go (saveSteps l slot w bits)
+        steps = go (saveSteps (old slot) l slot w bits)
+
+        named : ℕ
+        named = many + length (dirSectors (old slot) slot)
 
         r13 : Reply
         r13 = row 13 0 (not (carried (w .kind)))
@@ -209,19 +214,19 @@ module _ (d : List ℕ) (room : ℕ) where
         r19 = row 19 0 (ltb (free (extra l) (slotsOf l)) many)
 
         rows19 : List SlotRow
-        rows19 = row19 l w ∷ row20 room (many + 1) ∷ []
+        rows19 = row19 l w ∷ row20 room named ∷ []
 
         rows16 : List SlotRow
         rows16 = row16 l (w .name) ∷ row18 l ∷ rows19
 
-    by-erase : (n : List ℕ) → By (changeRows (erase n) l room) (planOf (erase n) l)
+    by-erase : (n : List ℕ) → By (changeRows old (erase n) l room) (planOf old (erase n) l)
     unfolding changeRows planOf
     by-erase n =
         by-test 12 0 (not (askable n)) _ _
         (λ a. by-found n (λ i f. orNo (isProtected i f) (go (touch l i f 0 (0 ∷ [])))) _
         (λ i e. by-protected n i e _ _ (by-touch i (fileAt l i) 0 (0 ∷ []))))
 
-    by-rename : (n new : List ℕ) → By (changeRows (rename n new) l room) (planOf (rename n new) l)
+    by-rename : (n new : List ℕ) → By (changeRows old (rename n new) l room) (planOf old (rename n new) l)
     unfolding changeRows planOf
     by-rename n new =
         by-test 12 0 (not (askable n && usable new)) _ _
@@ -229,13 +234,13 @@ module _ (d : List ℕ) (room : ℕ) where
         (λ i e. by-else (renameTaken (slotsOf l) i (fileAt l i) new) (isProtected i (fileAt l i)) _ (go (touch l i (fileAt l i) 1 (padded new)))
         (by-renamed n new i e _ _ (by-protected n i e _ _ (by-touch i (fileAt l i) 1 (padded new))))))
 
-    by-mark : (m : Mark) (n : List ℕ) → By (changeRows (mark m n) l room) (planOf (mark m n) l)
+    by-mark : (m : Mark) (n : List ℕ) → By (changeRows old (mark m n) l room) (planOf old (mark m n) l)
     unfolding changeRows planOf
     by-mark m n =
         by-test 12 0 (not (askable n)) _ _
         (λ a. by-found n (λ i f. go (touch l i f 0 (marked m (getD (f .bytes) 0 0) ∷ []))) _ (λ i e. by-touch i (fileAt l i) 0 _))
 
-    settled : (c : Change) → By (changeRows c l room) (planOf c l)
+    settled : (c : Change) → By (changeRows old c l room) (planOf old c l)
     settled (save w) = by-save w
     settled (erase n) = by-erase n
     settled (rename n new) = by-rename n new
@@ -244,19 +249,19 @@ module _ (d : List ℕ) (room : ℕ) where
 -- ---- refused exactly when, accepted exactly when
 
 module _ (c : Change) (d : List ℕ) (room : ℕ) where
-  passed : checkDisk d ≡ none → Settled (changeRows c (look d) room) (run c d room)
+  passed : checkDisk d ≡ none → Settled (changeRows (oldName d) c (look d) room) (run c d room)
   unfolding run
-  passed e = subst (λ (r : Reply). Settled (changeRows c (look d) room) (checked r (settle d room (planOf c (look d))))) (sym e) (settled d room (look d) c)
+  passed e = subst (λ (r : Reply). Settled (changeRows (oldName d) c (look d) room) (checked r (settle d room (planOf (oldName d) c (look d))))) (sym e) (settled d room (oldName d) (look d) c)
 
   barred : (r : Refusal) → checkDisk d ≡ some r → run c d room ≡ stopped r
   unfolding run
-  barred r e = ap (λ (q : Reply). checked q (settle d room (planOf c (look d)))) e
+  barred r e = ap (λ (q : Reply). checked q (settle d room (planOf (oldName d) c (look d)))) e
 
   run-refuses : (r : Refusal) → run c d room ≡ stopped r → Refuses c d room r
   run-refuses r e = by (checkDisk d) refl
     where
-      at : checkDisk d ≡ none → Settled (changeRows c (look d) room) (run c d room) → Refuses c d room r
-      at q (stops s f w) = let z : s ≡ r = cc in by-row q (subst (λ (x : Refusal). FirstOf x (changeRows c (look d) room)) z f)
+      at : checkDisk d ≡ none → Settled (changeRows (oldName d) c (look d) room) (run c d room) → Refuses c d room r
+      at q (stops s f w) = let z : s ≡ r = cc in by-row q (subst (λ (x : Refusal). FirstOf x (changeRows (oldName d) c (look d) room)) z f)
       at q (goes a new ss w) = let z : _≡_ {A = ℕ} 0 1 = cc in absurd (omega arith)
 
       by : (o : Reply) → checkDisk d ≡ o → Refuses c d room r
@@ -267,14 +272,14 @@ module _ (c : Change) (d : List ℕ) (room : ℕ) where
   refuses-run r (by-check e) = barred r e
   refuses-run r (by-row e f) = at (passed e)
     where
-      at : Settled (changeRows c (look d) room) (run c d room) → run c d room ≡ stopped r
-      at (stops s g w) = w ∙ ap stopped (first-same (changeRows c (look d) room) s r g f)
-      at (goes a new ss w) = absurd (first-none (changeRows c (look d) room) r f a)
+      at : Settled (changeRows (oldName d) c (look d) room) (run c d room) → run c d room ≡ stopped r
+      at (stops s g w) = w ∙ ap stopped (first-same (changeRows (oldName d) c (look d) room) s r g f)
+      at (goes a new ss w) = absurd (first-none (changeRows (oldName d) c (look d) room) r f a)
 
   run-passes : Accepts c d room → Passes c d room
   run-passes a = by (checkDisk d) refl
     where
-      at : checkDisk d ≡ none → Settled (changeRows c (look d) room) (run c d room) → Passes c d room
+      at : checkDisk d ≡ none → Settled (changeRows (oldName d) c (look d) room) (run c d room) → Passes c d room
       at q (stops s f w) = let g = a .gives in let z : _≡_ {A = ℕ} 0 1 = cc in absurd (omega arith)
       at q (goes b new ss w) = record { disk = q; rows = b }
 
@@ -285,8 +290,8 @@ module _ (c : Change) (d : List ℕ) (room : ℕ) where
   passes-run : Passes c d room → Accepts c d room
   passes-run p = at (passed (p .disk))
     where
-      at : Settled (changeRows c (look d) room) (run c d room) → Accepts c d room
-      at (stops s f w) = absurd (first-none (changeRows c (look d) room) s f (p .rows))
+      at : Settled (changeRows (oldName d) c (look d) room) (run c d room) → Accepts c d room
+      at (stops s f w) = absurd (first-none (changeRows (oldName d) c (look d) room) s f (p .rows))
       at (goes b new ss w) = record { new = new; sectors = ss; gives = w }
 
   pub refused-exactly : (r : Refusal) → (run c d room ≡ stopped r) ↔ Refuses c d room r
@@ -296,20 +301,20 @@ module _ (c : Change) (d : List ℕ) (room : ℕ) where
   accepted-exactly = (run-passes, passes-run)
 
 -- "the lowest that applies of 12 to 20": the rows of each change rise in number, so that the first that holds is the lowest
-pub rows-rise : (c : Change) (l : Look) (room : ℕ) → rises (bare (changeRows c l room)) ≡ true
+pub rows-rise : (old : ℕ → Bool) (c : Change) (l : Look) (room : ℕ) → rises (bare (changeRows old c l room)) ≡ true
 unfolding changeRows
-rows-rise (save w) l room = refl
-rows-rise (erase n) l room = refl
-rows-rise (rename n new) l room = refl
-rows-rise (mark m n) l room = refl
+rows-rise old (save w) l room = refl
+rows-rise old (erase n) l room = refl
+rows-rise old (rename n new) l room = refl
+rows-rise old (mark m n) l room = refl
 
 pub refused-lowest : (c : Change) (d : List ℕ) (room : ℕ) (r : Refusal) → run c d room ≡ stopped r
-    → (checkDisk d ≡ some r) ⊎ Lowest (r .number) (bare (changeRows c (look d) room))
-refused-lowest c d room r e = by-lowest d (changeRows c (look d) room) r (rows-rise c (look d) room) (refused-exactly c d room r .0 e)
+    → (checkDisk d ≡ some r) ⊎ Lowest (r .number) (bare (changeRows (oldName d) c (look d) room))
+refused-lowest c d room r e = by-lowest d (changeRows (oldName d) c (look d) room) r (rows-rise (oldName d) c (look d) room) (refused-exactly c d room r .0 e)
 
 -- no refusal has the number 0
 pub refused-positive : (c : Change) (d : List ℕ) (room : ℕ) (r : Refusal) → run c d room ≡ stopped r → r .number ≢ 0
-refused-positive c d room r e = by-positive d (changeRows c (look d) room) r (rows-rise c (look d) room) (refused-exactly c d room r .0 e)
+refused-positive c d room r e = by-positive d (changeRows (oldName d) c (look d) room) r (rows-rise (oldName d) c (look d) room) (refused-exactly c d room r .0 e)
 
 -- the same of the call: its outcome is a refusal exactly then
 pub change-refused : (c : Change) (d buf : List ℕ) (r : Refusal) → (change c d buf .outcome ≡ refused r) ↔ Refuses c d (length buf) r

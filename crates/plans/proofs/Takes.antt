@@ -9,7 +9,7 @@ use native.Mathlib.Omega.{arith}
 use borrow.Author.Tests.{ne-eqb}
 use lib.ListN.{length, getD, drop}
 use Rattle.buffers.specs.Bytes.{put}
-use Rattle.buffers.proofs.Lists.{part-at, put-before, put-after}
+use Rattle.buffers.proofs.Lists.{part-at, put-in, put-before, put-after}
 use Rattle.buffers.proofs.Counts.{none-any}
 use Rattle.geometry.specs.Disk.{bitNumber, bitPlace}
 use Rattle.maps.specs.Bits.{has}
@@ -20,32 +20,33 @@ use Rattle.slots.proofs.Least.{sectors-least}
 use Rattle.chains.specs.File.{File}
 use Rattle.directory.specs.Places.{slots, slotAt}
 use Rattle.directory.specs.Directory.{held}
-use Rattle.directory.proofs.Places.{data-all}
+use Rattle.directory.proofs.Places.{slot-front, slots-apart, data-all}
 use Rattle.directory.proofs.Union.{has-union}
 use Rattle.disk.specs.Look.{look, slotsOf, extra}
 use Rattle.disk.specs.Check.{checkDisk}
 use Rattle.disk.specs.Sound.{Sound}
 use Rattle.steps.specs.Sectors.{sector, listed}
-use Rattle.steps.specs.Steps.{putAll, enact, numbers}
+use Rattle.steps.specs.Steps.{enact, numbers}
 use Rattle.steps.proofs.Sectors.{at-sector}
-use Rattle.steps.proofs.Steps.{enact-append, goes-long, goes-other}
+use Rattle.steps.proofs.Steps.{goes-long, goes-other}
 use Rattle.plans.specs.Change.{Wish, save}
 use Rattle.plans.specs.Saving.{freeBit, stream, block, nextTrack, nextSector, slotByte}
-use Rattle.plans.specs.Plan.{dataSteps, slotSteps, saveSteps, made, run}
+use Rattle.plans.specs.Plan.{dataSteps, oldName, noName, cleared, saveSteps, made, run}
 use Rattle.plans.specs.Accepted.{many, Unused, Takes}
 use Rattle.plans.specs.After.{Outside, AfterSave}
 use Rattle.plans.proofs.Frame.{slots-some, slot-file, disk-sound, upd-same, holds, holds-sector}
-use Rattle.plans.proofs.Kept.{usable-is}
+use Rattle.plans.proofs.Kept.{sound-long, usable-is}
+use Rattle.plans.proofs.Ended.{reach-free}
 use Rattle.plans.proofs.Free.{From, run-listed, run-rises, free-is, taken-lowest}
 use Rattle.plans.proofs.NewFile.{newFile, length-slot, slot-byte, name-is, block-byte, block-track, block-sector, filled, sector-at}
 use Rattle.plans.proofs.Good.{own-bit, slot-names}
-use Rattle.plans.proofs.Saved.{data-numbers, data-goes}
+use Rattle.plans.proofs.Saved.{data-numbers, data-goes, save-disk}
 use Rattle.plans.proofs.Demand3.{run-room}
 use Rattle.plans.proofs.ReadBack.{Stored, stored}
-use Rattle.plans.proofs.Exactly.{none-empty, full-not}
+use Rattle.plans.proofs.Exactly.{first-empty}
 
 -- a sector that is none of a chain's
-unlisted : (s : ℕ) (bs : List ℕ) → ((j : ℕ) → j < length bs → s ≡ bitNumber (getD bs j 0) → ⊥) → listed s (map bitNumber bs) ≡ false
+pub unlisted : (s : ℕ) (bs : List ℕ) → ((j : ℕ) → j < length bs → s ≡ bitNumber (getD bs j 0) → ⊥) → listed s (map bitNumber bs) ≡ false
 unlisted s [] h = refl
 unlisted s (b ∷ bs) h = rw (ne-eqb s (bitNumber b) (h 0 (omega arith))) (unlisted s bs (λ j (q : j < length bs). h (suc j) (omega arith)))
 
@@ -93,9 +94,7 @@ module _ (d : List ℕ) (w : Wish) (room : ℕ) (new ss : List ℕ) (e : run (sa
         rw (k .takes)
         (taken-lowest (extra (look d)) (slotsOf (look d)) w b c (rw (k .takes) at m) h (unused-free d c (omega arith) u));
     slot = k .slot;
-    below = k .lowest .below;
-    empty = none-empty d (k .slot) (k .lowest .below) (k .lowest .empty);
-    before = λ j h. let f = k .lowest .before j h in full-not d j (f .0) (f .1);
+    free = first-empty d (k .slot) (k .lowest);
     sectors = k .sectors;
   }
 
@@ -128,15 +127,39 @@ module _ (d : List ℕ) (w : Wish) (room : ℕ) (new ss : List ℕ) (e : run (sa
         ∙ sector-at (slotsOf (look d)) (k .slot) (extra (look d)) free w (k .bits) (k .ready) j inside
         ∙ ap (λ (f : ℕ). block (stream w) f (nextTrack (drop (suc j) (k .bits))) (nextSector (drop (suc j) (k .bits)))) (omega arith))
 
-  -- the disk before the slot is written
+  -- the disk after the data, and that without an old name behind the slot
   abbrev mid : List ℕ
   mid = enact d (dataSteps (stream w) 0 (k .bits))
 
-  new-is : new ≡ put mid (slotAt (k .slot)) (saved .bytes)
-  unfolding enact putAll
+  abbrev clean : List ℕ
+  clean = cleared (oldName d (k .slot)) (k .slot) mid
+
+  new-is : new ≡ put clean (slotAt (k .slot)) (saved .bytes)
   new-is =
-      k .disk ∙ enact-append (dataSteps (stream w) 0 (k .bits)) (slotSteps (look d) (k .slot) (saved .bytes) (saved .sectors)) d
-      ∙ ap (λ (a : ℕ). put mid a (saved .bytes)) (omega arith)
+      k .disk ∙ save-disk d (disk-sound d ok) (k .slot) (k .lowest) w (k .bits) (k .ready)
+      ∙ ap (λ (a : ℕ). put clean a (saved .bytes)) (omega arith)
+
+  long : length new ≡ length d
+  long = ap length (k .disk) ∙ goes-long (saveSteps (oldName d (k .slot)) (look d) (k .slot) w (k .bits)) d
+
+  -- the old name's bytes
+  cleared-now : oldName d (k .slot) ≡ true → (j : ℕ) → j < 2 → getD new (slotAt (suc (k .slot)) + j) 0 ≡ 0
+  cleared-now e j h =
+      let z = length-slot (slotsOf (look d)) (k .slot) w (k .bits) in
+      let n : suc (k .slot) < slots = reach-free d (k .slot) (k .lowest) .end e .1 in
+      let a = slots-apart (k .slot) (suc (k .slot)) (omega arith) in
+      let f = slot-front (suc (k .slot)) n in
+      let l = goes-long (dataSteps (stream w) 0 (k .bits)) d in
+      ap (λ (x : List ℕ). getD x (slotAt (suc (k .slot)) + j) 0) new-is
+      ∙ put-after clean (slotAt (k .slot)) (saved .bytes) (slotAt (suc (k .slot)) + j) (omega arith)
+      ∙ ap (λ (t : Bool). getD (cleared t (k .slot) mid) (slotAt (suc (k .slot)) + j) 0) e
+      ∙ ap (λ (p : ℕ). getD (put mid (slotAt (suc (k .slot)) + 0) noName) p 0) (omega arith)
+      ∙ put-in mid (slotAt (suc (k .slot)) + 0) noName j h (omega (arith, sound-long d (disk-sound d ok))) ∙ zeros j h
+    where
+      zeros : (j : ℕ) → j < 2 → _≡_ {A = ℕ} (getD noName j 0) 0
+      zeros zero h = refl
+      zeros (suc zero) h = refl
+      zeros (suc (suc j)) h = absurd (omega arith)
 
   -- place m is in no sector of the chain
   apart : (m : ℕ) → ((j : ℕ) → j < many w → Outside m (bitPlace (getD (k .bits) j 0)) 512) → listed (m / 512) (numbers (dataSteps (stream w) 0 (k .bits))) ≡ false
@@ -145,26 +168,35 @@ module _ (d : List ℕ) (w : Wish) (room : ℕ) (new ss : List ℕ) (e : run (sa
       away : (b : ℕ) → m / 512 ≡ b → Outside m (b * 512) 512 → ⊥
       away b z o = ⊎-elim (λ (q : m < b * 512). omega arith) (λ (q : b * 512 + 512 ≤ m). omega arith) o
 
-  others-now : (m : ℕ) → Outside m (slotAt (k .slot)) 256 → ((j : ℕ) → j < many w → Outside m (bitPlace (getD (k .bits) j 0)) 512) → getD new m 0 ≡ getD d m 0
-  others-now m o h =
+  -- a place outside them
+  clean-else : (m : ℕ) (t : Bool) → oldName d (k .slot) ≡ t → (oldName d (k .slot) ≡ true → Outside m (slotAt (suc (k .slot))) 2)
+      → getD (cleared t (k .slot) mid) m 0 ≡ getD mid m 0
+  clean-else m true e c =
+      ⊎-elim (λ (q : m < slotAt (suc (k .slot))). put-before mid (slotAt (suc (k .slot)) + 0) noName m (omega arith))
+      (λ (q : slotAt (suc (k .slot)) + 2 ≤ m). put-after mid (slotAt (suc (k .slot)) + 0) noName m (omega arith)) (c e)
+  clean-else m false e c = refl
+
+  others-now : (m : ℕ) → Outside m (slotAt (k .slot)) 256 → (oldName d (k .slot) ≡ true → Outside m (slotAt (suc (k .slot))) 2) → ((j : ℕ) → j < many w → Outside m (bitPlace (getD (k .bits) j 0)) 512) → getD new m 0 ≡ getD d m 0
+  others-now m o c h =
       let z = length-slot (slotsOf (look d)) (k .slot) w (k .bits) in
       ap (λ (x : List ℕ). getD x m 0) new-is
-      ∙ ⊎-elim (put-before mid (slotAt (k .slot)) (saved .bytes) m)
-      (λ (q : slotAt (k .slot) + 256 ≤ m). put-after mid (slotAt (k .slot)) (saved .bytes) m (omega arith)) o
-      ∙ sym (at-sector mid m) ∙ ap (λ (s : List ℕ). getD s (m % 512) 0) (data-other m (apart m h)) ∙ at-sector d m
+      ∙ ⊎-elim (put-before clean (slotAt (k .slot)) (saved .bytes) m)
+      (λ (q : slotAt (k .slot) + 256 ≤ m). put-after clean (slotAt (k .slot)) (saved .bytes) m (omega arith)) o
+      ∙ clean-else m (oldName d (k .slot)) refl c ∙ sym (at-sector mid m) ∙ ap (λ (s : List ℕ). getD s (m % 512) 0) (data-other m (apart m h)) ∙ at-sector d m
     where
       data-other : (m : ℕ) → listed (m / 512) (numbers (dataSteps (stream w) 0 (k .bits))) ≡ false → sector mid (m / 512) ≡ sector d (m / 512)
-      data-other m q = goes-other look Sound (dataSteps (stream w) 0 (k .bits)) d (data-goes d (disk-sound d ok) (k .slot) (k .lowest .below) w (k .bits) (k .ready)) (m / 512) q
+      data-other m q = goes-other look Sound (dataSteps (stream w) 0 (k .bits)) d (data-goes d (disk-sound d ok) (k .slot) (k .lowest) w (k .bits) (k .ready)) (m / 512) q
 
   pub after-save : AfterSave d w new ss
   unfolding save-takes
   after-save = record {
     takes = save-takes;
-    long = ap length (k .disk) ∙ goes-long (saveSteps (look d) (k .slot) w (k .bits)) d;
+    long = long;
     slot = slot-now;
     payload = λ j m h q. sector-now j h m (omega arith) ∙ block-byte (stream w) (510 * j) _ _ m q;
     track = λ j h. sector-now j h 510 (omega arith) ∙ block-track (stream w) (510 * j) _ _;
     sector = λ j h. sector-now j h 511 (omega arith) ∙ block-sector (stream w) (510 * j) _ _;
+    cleared = cleared-now;
     bytes = others-now;
     file = saved;
     now = record {

@@ -2,7 +2,7 @@
 use Prim.Native.Nat.{ℕ, _+_, _-_, _*_, _≤_, _<_}
 use mathlib.Core.Path.{_≡_}
 use mathlib.Core.Bool.{true, false}
-use mathlib.Core.List.{List, [], _∷_, _++_, map}
+use mathlib.Core.List.{List, _++_, map}
 use mathlib.Core.Logic.{_⊎_}
 use mathlib.Core.Option.{none, some}
 use lib.ListN.{length, getD}
@@ -11,7 +11,7 @@ use Rattle.maps.specs.Bits.{has}
 use Rattle.slots.specs.Slot.{protected, nameOf, mapOf, sectorsFor}
 use Rattle.slots.specs.Name.{Same, askable, padded}
 use Rattle.chains.specs.File.{File}
-use Rattle.directory.specs.Places.{slots, slotBytes, dirSector}
+use Rattle.directory.specs.Places.{slots, slotBytes}
 use Rattle.directory.specs.Directory.{directory}
 use Rattle.directory.specs.Survey.{usedMap}
 use Rattle.disk.specs.Look.{look}
@@ -19,6 +19,7 @@ use Rattle.disk.specs.Check.{checkDisk}
 use Rattle.disk.specs.Sound.{Carried}
 use Rattle.steps.specs.Sectors.{listed}
 use Rattle.plans.specs.Change.{Wish, usable}
+use Rattle.plans.specs.Plan.{oldName, dirSectors}
 
 -- a slot that holds a file with the name
 pub record Named (d n : List ℕ) (i : ℕ) (f : File) : Type 0 where
@@ -60,13 +61,23 @@ pub record Renames (d new : List ℕ) (i : ℕ) (f : File) : Type 0 where
 abbrev pub Bars : List ℕ → List ℕ → ℕ → File → ℕ → Type 0
 Bars d new i f j = ((j ≡ i) × (nameOf (f .bytes) ≡ padded new)) ⊎ ((j ≡ i → ⊥) × (g : File) × Named d new j g)
 
--- a slot whose byte 0 is zero
+-- a slot that is erased, or whose first name byte is 0; of the latter the lowest is the directory's end
 abbrev pub Empty : List ℕ → ℕ → Type 0
-Empty d i = getD (slotBytes d i) 0 0 ≡ 0
+Empty d i = (getD (slotBytes d i) 0 0 ≡ 0) ⊎ (getD (slotBytes d i) 1 0 ≡ 0)
 
--- "no slot has byte 0 zero"
+-- "18 only if no slot before the end is erased and there is no end"
 abbrev pub NoSlot : List ℕ → Type 0
 NoSlot d = (i : ℕ) → i < slots → Empty d i → ⊥
+
+-- "the lowest free slot": erased and before the end, or the end
+pub record FirstEmpty (d : List ℕ) (i : ℕ) : Type 0 where
+  pub below : i < slots
+  pub empty : Empty d i
+  pub before : (k : ℕ) → k < i → Empty d k → ⊥
+
+-- the sectors of the directory that a save into slot i writes
+abbrev pub dirNumbers : List ℕ → ℕ → List ℕ
+dirNumbers d i = dirSectors (oldName d i) i
 
 -- the disk is accepted, and no row of 12 to 17 holds
 pub record Asked (d : List ℕ) (w : Wish) : Type 0 where
@@ -90,10 +101,9 @@ freeSectors d = 1560 - usedMap (directory d) .count
 pub record Savable (d : List ℕ) (w : Wish) (room : ℕ) : Type 0 where
   pub asked : Asked d w
   pub slot : ℕ
-  pub below : slot < slots
-  pub empty : Empty d slot
+  pub free : FirstEmpty d slot
   pub sectors : many w ≤ freeSectors d
-  pub list : many w + 1 ≤ room
+  pub list : many w + length (dirNumbers d slot) ≤ room
 
 -- no live file's map has the bit
 abbrev pub Unused : List ℕ → ℕ → Type 0
@@ -113,8 +123,6 @@ pub record Takes (d : List ℕ) (w : Wish) (ss : List ℕ) : Type 0 where
   pub lowest : (b c : ℕ) → listed b bits ≡ true → c < b → Unused d c → listed c bits ≡ true
   -- "and the lowest free slot."
   pub slot : ℕ
-  pub below : slot < slots
-  pub empty : Empty d slot
-  pub before : (k : ℕ) → k < slot → Empty d k → ⊥
-  -- "for a save the n data sectors in chain order and then the directory sector"
-  pub sectors : ss ≡ map bitNumber bits ++ (dirSector slot ∷ [])
+  pub free : FirstEmpty d slot
+  -- "for a save the n data sectors in chain order and then the directory sector", before that one the one behind the end
+  pub sectors : ss ≡ map bitNumber bits ++ dirNumbers d slot

@@ -21,6 +21,7 @@ use Rattle.disk.specs.Look.{look}
 use Rattle.files.specs.Calls.{reading, starting}
 use Rattle.plans.specs.Change.{Wish, Mark, hide, show, protect, release, Change, save, erase, rename, mark, marked}
 use Rattle.plans.specs.Saving.{freeBit, stream, nextTrack, nextSector, slotByte}
+use Rattle.plans.specs.Plan.{oldName}
 use Rattle.plans.specs.Accepted.{Named, many, Takes}
 
 -- reading and the start address, asked for m on one disk, give what they give for n on another: length, address, refusal with its
@@ -127,9 +128,11 @@ pub record AfterSave (d : List ℕ) (w : Wish) (new ss : List ℕ) : Type 0 wher
   pub payload : (j k : ℕ) → j < many w → k < 510 → getD new (bitPlace (getD (takes .bits) j 0) + k) 0 ≡ getD (stream w) (510 * j + k) 0
   pub track : (j : ℕ) → j < many w → getD new (bitPlace (getD (takes .bits) j 0) + 510) 0 ≡ nextTrack (drop (suc j) (takes .bits))
   pub sector : (j : ℕ) → j < many w → getD new (bitPlace (getD (takes .bits) j 0) + 511) 0 ≡ nextSector (drop (suc j) (takes .bits))
+  -- "the save also sets that next slot's bytes 0 and 1 to 0"
+  pub cleared : oldName d (takes .slot) ≡ true → (k : ℕ) → k < 2 → getD new (slotAt (suc (takes .slot)) + k) 0 ≡ 0
   -- every other byte
-  pub bytes : (k : ℕ) → Outside k (slotAt (takes .slot)) 256 → ((j : ℕ) → j < many w → Outside k (bitPlace (getD (takes .bits) j 0)) 512)
-      → getD new k 0 ≡ getD d k 0
+  pub bytes : (k : ℕ) → Outside k (slotAt (takes .slot)) 256 → (oldName d (takes .slot) ≡ true → Outside k (slotAt (suc (takes .slot))) 2)
+      → ((j : ℕ) → j < many w → Outside k (bitPlace (getD (takes .bits) j 0)) 512) → getD new k 0 ≡ getD d k 0
   -- the file in the slot has the name
   pub file : File
   pub now : Named new (w .name) (takes .slot) file

@@ -5,4 +5,5 @@ pub mod Safe
 pub mod Refused
 pub mod Accepted
 pub mod After
+pub mod Unread
 pub mod Spectrum

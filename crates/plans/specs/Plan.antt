@@ -13,7 +13,7 @@ use Rattle.slots.specs.Slot.{isLive, protected, carried, nameOf, sectorsFor}
 use Rattle.slots.specs.Name.{sameBytes, sameName, askable, padded}
 use Rattle.chains.specs.File.{File}
 use Rattle.directory.specs.Places.{slotAt, dirSector}
-use Rattle.directory.specs.Directory.{held, Directory}
+use Rattle.directory.specs.Directory.{held, Directory, isSlot, nameless}
 use Rattle.directory.specs.Survey.{free}
 use Rattle.directory.specs.Find.{find}
 use Rattle.disk.specs.Look.{Look, look, slotsOf, extra}
@@ -36,9 +36,13 @@ entryOf s sec = cond (isLive s) (some (record { bytes = s; sectors = sec })) non
 abbrev pub one : ℕ → List ℕ → List Put
 one a x = record { place = a; bytes = x } ∷ []
 
+-- bytes at place o of slot i
+abbrev pub slotPut : ℕ → ℕ → List ℕ → List Put
+slotPut i o y = one (slotAt i + o) y
+
 -- bytes put at place o of slot i, which then holds f: a commit
 abbrev pub slotStep : Look → ℕ → ℕ → List ℕ → Option File → Step Look
-slotStep l i o y f = record { at = dirSector i; puts = one (slotAt i + o) y; left = some (upd l i f) }
+slotStep l i o y f = record { at = dirSector i; puts = slotPut i o y; left = some (upd l i f) }
 
 -- the data sectors of a chain, each quiet
 unfoldable pub dataSteps : List ℕ → ℕ → List ℕ → List (Step Look)
@@ -50,13 +54,50 @@ dataSteps st f (b ∷ bs) =
 abbrev pub touch : Look → ℕ → File → ℕ → List ℕ → List (Step Look)
 touch l i f o y = slotStep l i o y (entryOf (put (f .bytes) o y) (f .sectors)) ∷ []
 
--- the directory's part of a save: slot i gets these bytes, and then holds the file that they say
-abbrev pub slotSteps : Look → ℕ → List ℕ → (ℕ → List ℕ) → List (Step Look)
-slotSteps l i s sec = slotStep l i 0 s (entryOf s sec) ∷ []
+-- ---- the directory's part of a save; old: whether an old name stands behind its slot
 
--- "for a save the n data sectors in chain order and then the directory sector"
-abbrev pub saveSteps : Look → ℕ → Wish → List ℕ → List (Step Look)
-saveSteps l i w bs = dataSteps (stream w) 0 bs ++ slotSteps l i (newSlot (slotsOf l) i w bs) (chained (stream w) 0 bs)
+-- "When a save takes that slot and a next slot exists whose first name byte is not 0": slot i's own is 0, the next one's is not
+unfoldable pub oldName : List ℕ → ℕ → Bool
+oldName d i = nameless d i && (isSlot d (suc i) && not (nameless d (suc i)))
+
+-- slot i and the next one lie in one sector
+unfoldable pub together : ℕ → Bool
+together i = eqb (dirSector (suc i)) (dirSector i)
+
+-- "the save also sets that next slot's bytes 0 and 1 to 0, so that no old name comes back."
+abbrev pub noName : List ℕ
+noName = 0 ∷ 0 ∷ []
+
+abbrev pub endPut : ℕ → List Put
+endPut i = slotPut (suc i) 0 noName
+
+-- a disk so, where there is such a name
+abbrev pub cleared : Bool → ℕ → List ℕ → List ℕ
+cleared old i d = cond old (put d (slotAt (suc i) + 0) noName) d
+
+-- "That sector is written after the data and before the saved slot's sector": where it is another, a quiet step of its own
+unfoldable pub endSteps : Bool → ℕ → List (Step Look)
+endSteps old i = cond (old && not (together i)) (record { at = dirSector (suc i); puts = endPut i; left = none } ∷ []) []
+
+-- "once if they are the same": then it is put in the saved slot's step
+unfoldable pub endPuts : Bool → ℕ → List Put
+endPuts old i = cond (old && together i) (endPut i) []
+
+-- the sectors of the directory that are written, in their order
+unfoldable pub dirSectors : Bool → ℕ → List ℕ
+dirSectors old i = cond (old && not (together i)) (dirSector (suc i) ∷ dirSector i ∷ []) (dirSector i ∷ [])
+
+-- bytes put at place o of slot i, which then holds f, with what is put behind it: a commit
+abbrev pub endStep : Bool → Look → ℕ → ℕ → List ℕ → Option File → Step Look
+endStep old l i o y f = record { at = dirSector i; puts = endPuts old i ++ slotPut i o y; left = some (upd l i f) }
+
+-- slot i gets these bytes, and then holds the file that they say
+abbrev pub slotSteps : Bool → Look → ℕ → List ℕ → (ℕ → List ℕ) → List (Step Look)
+slotSteps old l i s sec = endSteps old i ++ (endStep old l i 0 s (entryOf s sec) ∷ [])
+
+-- "for a save the n data sectors in chain order and then the directory sector", before that one the one behind the end
+abbrev pub saveSteps : Bool → Look → ℕ → Wish → List ℕ → List (Step Look)
+saveSteps old l i w bs = dataSteps (stream w) 0 bs ++ slotSteps old l i (newSlot (slotsOf l) i w bs) (chained (stream w) 0 bs)
 
 -- ---- what is refused, and what is done
 
@@ -102,24 +143,25 @@ saveReply n v w =
     else row 14 0 (not (leb (w .page) 31 && between 32768 (w .offset) 49151)) else nameTaken v (w .name)
     else row 18 0 (held true (λ i. false) (lowestSlot n v)) else row 19 0 (ltb (free n v) (sectorsFor (length (w .body))))
 
-unfoldable pub planOf : Change → Look → Plan
+-- old: whether an old name stands behind slot i
+unfoldable pub planOf : (ℕ → Bool) → Change → Look → Plan
 -- "Erase sets byte 0 to 0 and changes no other byte."
-planOf (erase n) l =
+planOf old (erase n) l =
     orNo (row 12 0 (not (askable n))) (byName l n (λ i f. orNo (isProtected i f) (go (touch l i f 0 (0 ∷ [])))))
 -- "Rename changes bytes 1 to 10"
-planOf (rename n new) l =
+planOf old (rename n new) l =
     orNo (row 12 0 (not (askable n && usable new)))
     (byName l n (λ i f. orNo (renameTaken (slotsOf l) i f new else isProtected i f) (go (touch l i f 1 (padded new)))))
 -- "Hide, show, protect, release set or clear one bit; where it is so already the call is accepted."
-planOf (mark m n) l =
+planOf old (mark m n) l =
     orNo (row 12 0 (not (askable n))) (byName l n (λ i f. go (touch l i f 0 (marked m (getD (f .bytes) 0 0) ∷ []))))
-planOf (save w) l =
+planOf old (save w) l =
     orNo (saveReply (extra l) (slotsOf l) w)
-    (go (saveSteps l (slotTaken (extra l) (slotsOf l)) w (taken (extra l) (slotsOf l) w)))
+    (go (saveSteps (old (slotTaken (extra l) (slotsOf l))) l (slotTaken (extra l) (slotsOf l)) w (taken (extra l) (slotsOf l) w)))
 
--- the steps may hang on more of the disk than its look; what they commit may not
+-- the steps hang on one thing more of the disk than its look, an old name behind the directory's end; what they commit does not
 abbrev pub plan : Change → List ℕ → Plan
-plan c d = planOf c (look d)
+plan c d = planOf (oldName d) c (look d)
 
 -- ---- the call
 

@@ -18,11 +18,12 @@ use Rattle.disk.specs.Check.{checkDisk}
 use Rattle.files.specs.Calls.{fileNamed}
 use Rattle.files.specs.Asked.{someNamed, slotNamed, startOutside, row12, row15, row20, RefusesBy}
 use Rattle.plans.specs.Change.{Wish, Change, save, erase, rename, mark, usable}
-use Rattle.plans.specs.Plan.{respells, made, run}
+use Rattle.plans.specs.Saving.{slotTaken}
+use Rattle.plans.specs.Plan.{oldName, dirSectors, respells, made, run}
 
 -- ---- the tests
 
--- a slot has byte 0 zero
+-- a slot holds no file: it is erased, or it is the end of the directory or behind it
 unfoldable pub someFree : Look → Bool
 someFree l = any (slotCount (extra l)) (λ i. held true (λ s. false) (slotsOf l i))
 
@@ -48,7 +49,7 @@ renameRow16 l n new = rowAt 16 (slotNamed l new) (someNamed l new && not (respel
 abbrev pub row17 : Look → List ℕ → SlotRow
 row17 l n = rowAt 17 (slotNamed l n) (protected (fileNamed l n .bytes))
 
--- no slot has byte 0 zero
+-- "18 only if no slot before the end is erased and there is no end"
 abbrev pub row18 : Look → SlotRow
 row18 l = rowAt 18 0 (not (someFree l))
 
@@ -56,24 +57,29 @@ row18 l = rowAt 18 0 (not (someFree l))
 abbrev pub row19 : Look → Wish → SlotRow
 row19 l w = rowAt 19 0 (ltb (free (extra l) (slotsOf l)) (sectorsFor (length (w .body))))
 
--- "then the lowest that applies of 12 to 20": the rows of each change, with a list of so many numbers
-unfoldable pub changeRows : Change → Look → ℕ → List SlotRow
-changeRows (save w) l room =
-    row12 (usable (w .name)) ∷ row13 w ∷ row14 w ∷ row16 l (w .name) ∷ row18 l ∷ row19 l w ∷ row20 room (sectorsFor (length (w .body)) + 1) ∷ []
-changeRows (erase n) l room = row12 (askable n) ∷ row15 l n ∷ row17 l n ∷ row20 room 1 ∷ []
-changeRows (rename n new) l room = row12 (askable n && usable new) ∷ row15 l n ∷ renameRow16 l n new ∷ row17 l n ∷ row20 room 1 ∷ []
-changeRows (mark m n) l room = row12 (askable n) ∷ row15 l n ∷ row20 room 1 ∷ []
+-- how many numbers a save names
+unfoldable pub listLong : (ℕ → Bool) → Look → Wish → ℕ
+listLong old l w = sectorsFor (length (w .body)) + length (dirSectors (old (slotTaken (extra l) (slotsOf l))) (slotTaken (extra l) (slotsOf l)))
+
+-- "then the lowest that applies of 12 to 20": the rows of each change, with a list of so many numbers; old: whether an old name
+-- stands behind slot i
+unfoldable pub changeRows : (ℕ → Bool) → Change → Look → ℕ → List SlotRow
+changeRows old (save w) l room =
+    row12 (usable (w .name)) ∷ row13 w ∷ row14 w ∷ row16 l (w .name) ∷ row18 l ∷ row19 l w ∷ row20 room (listLong old l w) ∷ []
+changeRows old (erase n) l room = row12 (askable n) ∷ row15 l n ∷ row17 l n ∷ row20 room 1 ∷ []
+changeRows old (rename n new) l room = row12 (askable n && usable new) ∷ row15 l n ∷ renameRow16 l n new ∷ row17 l n ∷ row20 room 1 ∷ []
+changeRows old (mark m n) l room = row12 (askable n) ∷ row15 l n ∷ row20 room 1 ∷ []
 
 -- ---- refused, and accepted
 
 -- the check refuses the disk; or it does not, and of its rows this is the first that holds
 abbrev pub Refuses : Change → List ℕ → ℕ → Refusal → Type 0
-Refuses c d room r = RefusesBy d (changeRows c (look d) room) r
+Refuses c d room r = RefusesBy d (changeRows (oldName d) c (look d) room) r
 
 -- neither the check nor a row refuses
 pub record Passes (c : Change) (d : List ℕ) (room : ℕ) : Type 0 where
   pub disk : checkDisk d ≡ none
-  pub rows : NoRow (changeRows c (look d) room)
+  pub rows : NoRow (changeRows (oldName d) c (look d) room)
 
 -- "one is accepted when it gives no number": there are a new disk and its sectors
 pub record Accepts (c : Change) (d : List ℕ) (room : ℕ) : Type 0 where

@@ -1,7 +1,7 @@
 // What the programs of the documents' points share: the lines that they write, one for each call with its answer, and an
 // empty disk. No contract can say what is written, so one that only writes states nothing.
 ghost use mathlib.Core.Path.{_≡_};
-ghost use lib.ListN.{length, replicate};
+ghost use lib.ListN.{length, getD, replicate};
 ghost use Rattle.files.specs.Calls.{listing, reading};
 use refusals::Answer;
 use refusals::Refused;
@@ -96,6 +96,39 @@ fn length_and_body(answer: Answer, buf: &[u8]) {
             say(b", from 501 ");
             say(buffers::part_at(buf, 501, 7));
             say(b"\n");
+        }
+        Answer::No(r) => refused(r),
+    }
+}
+
+// Number `k` of a list, 0 past its end.
+pub fn listed_at(list: &[u16], k: usize) -> usize
+    ensures { λ r. ⌜ r ≡ getD (now (list .entry)) k 0 ⌝ }
+{
+    if k < list.len() {
+        return list[k] as usize;
+    }
+    0
+}
+
+pub fn three(before: &[u8], one: usize, two: usize, three: usize) {
+    number(before, one);
+    number(b" ", two);
+    number(b" ", three);
+    say(b"\n");
+}
+
+// How many sectors a change names, and the front of its list as it then is.
+pub fn told(answer: Answer, list: &[u16]) {
+    match answer {
+        Answer::Done(n, _) => {
+            number(b"sectors ", n);
+            three(
+                b", list ",
+                listed_at(list, 0),
+                listed_at(list, 1),
+                listed_at(list, 2),
+            );
         }
         Answer::No(r) => refused(r),
     }

@@ -1,41 +1,9 @@
 // Points of document 01: save, erase, rename and the marks.
-use refusals::Answer;
-
-// Number `k` of a list, 0 past its end.
-fn listed_at(list: &[u16], k: usize) -> usize {
-    if k < list.len() {
-        return list[k] as usize;
-    }
-    0
-}
-
-fn three(before: &[u8], one: usize, two: usize, three: usize) {
-    points::number(before, one);
-    points::number(b" ", two);
-    points::number(b" ", three);
-    points::say(b"\n");
-}
-
-// How many sectors a change names, and the front of its list as it then is.
-fn told(answer: Answer, list: &[u16]) {
-    match answer {
-        Answer::Done(n, _) => {
-            points::number(b"sectors ", n);
-            three(
-                b", list ",
-                listed_at(list, 0),
-                listed_at(list, 1),
-                listed_at(list, 2),
-            );
-        }
-        Answer::No(r) => points::refused(r),
-    }
-}
 
 fn saved(what: &[u8], image: &mut [u8], name: &[u8], body: &[u8], list: &mut [u16]) {
     points::title(b"save of ", what);
     let answer = saves::save(image, 19, name, 29, 32768, b"", b"", body, list);
-    told(answer, list);
+    points::told(answer, list);
 }
 
 fn saved_at(
@@ -48,44 +16,44 @@ fn saved_at(
 ) {
     points::title(b"save of ", what);
     let answer = saves::save(image, kind, b"FILE X", page, offset, b"", b"", b"", list);
-    told(answer, list);
+    points::told(answer, list);
 }
 
 fn erased(image: &mut [u8], name: &[u8], list: &mut [u16]) {
     points::title(b"erase of ", name);
     let answer = changes::erase(image, name, list);
-    told(answer, list);
+    points::told(answer, list);
 }
 
 fn renamed(image: &mut [u8], name: &[u8], new: &[u8], list: &mut [u16]) {
     points::title(b"rename of ", name);
     points::title(b"to ", new);
     let answer = changes::rename(image, name, new, list);
-    told(answer, list);
+    points::told(answer, list);
 }
 
 fn protected(image: &mut [u8], name: &[u8], list: &mut [u16]) {
     points::title(b"protect of ", name);
     let answer = changes::protect(image, name, list);
-    told(answer, list);
+    points::told(answer, list);
 }
 
 fn released(image: &mut [u8], name: &[u8], list: &mut [u16]) {
     points::title(b"release of ", name);
     let answer = changes::release(image, name, list);
-    told(answer, list);
+    points::told(answer, list);
 }
 
 fn hidden(image: &mut [u8], name: &[u8], list: &mut [u16]) {
     points::title(b"hide of ", name);
     let answer = changes::hide(image, name, list);
-    told(answer, list);
+    points::told(answer, list);
 }
 
 fn shown(image: &mut [u8], name: &[u8], list: &mut [u16]) {
     points::title(b"show of ", name);
     let answer = changes::show(image, name, list);
-    told(answer, list);
+    points::told(answer, list);
 }
 
 // The largest body that a disk holds, and the next.
@@ -118,13 +86,13 @@ fn largest_back(image: &mut [u8], buf: &mut [u8], list: &mut [u16]) {
 
 // Where slot 1 and its first sector say how long the file is.
 fn length_bytes(image: &[u8]) {
-    three(
+    points::three(
         b"slot bytes 239 to 241: ",
         buffers::num_at(image, 239),
         buffers::num_at(image, 240),
         buffers::num_at(image, 241),
     );
-    three(
+    points::three(
         b"header bytes 1, 2 and 7: ",
         buffers::num_at(image, 40961),
         buffers::num_at(image, 40962),
@@ -187,7 +155,7 @@ fn short_list(image: &mut [u8]) {
         b"",
         &mut list,
     );
-    points::number(b"the list: ", listed_at(&list, 0));
+    points::number(b"the list: ", points::listed_at(&list, 0));
     points::say(b"\n");
 }
 
@@ -241,7 +209,7 @@ fn every_slot(image: &mut [u8], buf: &mut [u8], list: &mut [u16]) {
 }
 
 fn changes_made(image: &mut [u8], body: &[u8], buf: &mut [u8]) {
-    let mut list = [0u16; 1561];
+    let mut list = [0u16; 1562];
     largest(image, body, &mut list);
     largest_back(image, buf, &mut list);
     one_page(image, body, buf, &mut list);

@@ -23,7 +23,7 @@ fn kinds(image: &mut [u8]) {
 }
 
 fn names_and_counts(image: &mut [u8]) {
-    changed(b"no name", image, 1, 0, b'I');
+    changed(b"no name at slot 1", image, 1, 0, b'I');
     changed(b"count 0", image, 11, 0, 0);
     changed(b"count 1560", image, 11, 6, 24);
     changed(b"count 1561", image, 11, 6, 25);
@@ -90,9 +90,9 @@ fn loop_of_two(image: &mut [u8]) {
 
 // Two faults on one disk: which comes first.
 fn order_of_rows(image: &mut [u8]) {
-    changed(b"2 and 3 at slot 1", image, 0, 13, 0);
+    changed(b"kind 13 and no name at slot 1", image, 0, 13, 0);
     disks::set(image, 15, 1);
-    changed(b"5 at slot 1, 3 at slot 2", image, 257, 0, b'I');
+    changed(b"5 at slot 1, no name at slot 2", image, 257, 0, b'I');
     disks::set(image, 15, 3);
 }
 

@@ -64,8 +64,18 @@ pub(crate) fn file_b(image: &mut [u8]) {
     buffers::copy_into(image, 41984, b"LOW!");
 }
 
+// A first name byte in slots 3 to 20, which are erased: the directory goes on there.
+fn names_to_20(image: &mut [u8]) {
+    let mut at: usize = 513;
+    while at < 5120 {
+        set(image, at, b'-');
+        at += 256;
+    }
+}
+
 // Slot 21, of kind 5, which cannot be read: track 128, sector 1, which is map bit 760. Its bytes stand at 5,120.
 pub(crate) fn file_c(image: &mut [u8]) {
+    names_to_20(image);
     let rest = [0, 1, 128, 1, 0];
     entry(image, 10240, 5, b"FILE C    ", &rest);
     set(image, 10350, 1);

@@ -18,7 +18,7 @@ abbrev pub numberOf : Reason → ℕ
 numberOf NotAnImage = 1
 -- the kind is not known
 numberOf KindUnknown = 2
--- the first name byte is 0
+-- "3 is given no more": the number stays taken
 numberOf NameMissing = 3
 -- the count is not 1 to 1,560
 numberOf CountOutOfRange = 4

@@ -5,7 +5,7 @@ ghost use mathlib.Core.Option.{some};
 ghost use Rattle.refusals.specs.Order.{refuse};
 ghost use Rattle.refusals.specs.Answers.{numberOf, lastNumber, replyOf, outcomeOf, refused};
 
-// The rows of the table.
+// The rows of the table. `NameMissing` is given no more; its number stays its own.
 pub enum Reason {
     NotAnImage,
     KindUnknown,

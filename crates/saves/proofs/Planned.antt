@@ -28,8 +28,9 @@ use Rattle.files.specs.Steps.{Accepted}
 use Rattle.steps.specs.Steps.{Step, numbers}
 use Rattle.plans.specs.Change.{Wish, save, between, usable}
 use Rattle.plans.specs.Saving.{passing, freeBit, taken, lowestSlot, slotTaken}
-use Rattle.plans.specs.Plan.{no, go, orNo, nameTaken, saveReply, planOf, plan, saveSteps, changed, change}
+use Rattle.plans.specs.Plan.{no, go, orNo, nameTaken, saveReply, planOf, plan, oldName, dirSectors, saveSteps, changed, change}
 use Rattle.plans.proofs.Free.{taken-run, taken-long, run-at, lowest-slot}
+use Rattle.plans.proofs.Ended.{old-is}
 use Rattle.plans.proofs.Refused.{save-long}
 use Rattle.plans.proofs.Sure.{save-tested}
 use Rattle.changes.specs.Settled.{Made}
@@ -65,11 +66,11 @@ module _ (d : List ℕ) (s : Start) (name exec info body : List ℕ) where
       (nameTaken (directory d) name) (last (lowestSlot 0 (directory d)))
 
   plan-is : (q : Reply) → saveReply 0 (directory d) w ≡ q
-      → plan (save w) d ≡ orNo q (go (saveSteps (look d) (slotTaken 0 (directory d)) w (taken 0 (directory d) w)))
+      → plan (save w) d ≡ orNo q (go (saveSteps (oldName d (slotTaken 0 (directory d))) (look d) (slotTaken 0 (directory d)) w (taken 0 (directory d) w)))
   unfolding planOf extra
   plan-is q e =
-      ap (λ (v : Directory). orNo (saveReply 0 v w) (go (saveSteps (look d) (slotTaken 0 v) w (taken 0 v w)))) (look-slots d)
-      ∙ ap (λ (q : Reply). orNo q (go (saveSteps (look d) (slotTaken 0 (directory d)) w (taken 0 (directory d) w)))) e
+      ap (λ (v : Directory). orNo (saveReply 0 v w) (go (saveSteps (oldName d (slotTaken 0 v)) (look d) (slotTaken 0 v) w (taken 0 v w)))) (look-slots d)
+      ∙ ap (λ (q : Reply). orNo q (go (saveSteps (oldName d (slotTaken 0 (directory d))) (look d) (slotTaken 0 (directory d)) w (taken 0 (directory d) w)))) e
 
   pub save-barred : (buf : List ℕ) → checkDisk d ≡ none → (r : Refusal) → barred r ≡ slotFor d s name → changed (refused r) d buf ≡ change (save w) d buf
   unfolding slotFor
@@ -92,6 +93,10 @@ module _ (d : List ℕ) (s : Start) (name exec info body : List ℕ) where
       by (some r) o a b w = let z : _≡_ {A = ℕ} 0 1 = cc in absurd (omega arith)
       by none none a b w = let z : _≡_ {A = ℕ} 0 1 = cc in absurd (omega arith)
       by none (some j) a b w = let z : j ≡ i = cc in (a, b ∙ ap some z)
+
+  pub place-few : (i : ℕ) → at i ≡ slotFor d s name → i < slots
+  unfolding slotCount
+  place-few i e = lowest-slot 0 (directory d) i (taken-at i e .1) .below
 
 -- ---- the free sectors, and the bits taken of them
 
@@ -140,9 +145,10 @@ module _ (d : List ℕ) (u : UsedMap) (i : ℕ) (s : Start) (name exec info body
   unfolding sectorsFor
   save-large h = save-few (omega (arith, e, free-le 0 u))
 
-  module _ (n : ℕ) (m : n ≡ sectorsFor (length body)) (h : n ≤ f) where
+  -- c: how many sectors of the directory
+  module _ (n : ℕ) (m : n ≡ sectorsFor (length body)) (h : n ≤ f) (old : Bool) (eo : old ≡ oldName d i) (c : ℕ) (ec : c ≡ length (dirSectors old i)) where
     abbrev steps : List (Step Look)
-    steps = saveSteps (look d) i v (lowest (u .bytes) n)
+    steps = saveSteps old (look d) i v (lowest (u .bytes) n)
 
     none-left : saveReply 0 (directory d) v ≡ none
     none-left = reply-at false (le-ltb f (sectorsFor (length body)) (omega (arith, m)))
@@ -153,20 +159,21 @@ module _ (d : List ℕ) (u : UsedMap) (i : ℕ) (s : Start) (name exec info body
     plan-go : plan (save v) d ≡ go steps
     plan-go =
         plan-is d s name exec info body none none-left
-        ∙ ap₂ (λ (i : ℕ) (bs : List ℕ). go (saveSteps (look d) i v bs)) (ap (held 0 (λ i. i)) (taken-at d s name exec info body i (o .place) .1)) (sym bits-are)
+        ∙ ap₂ (λ (i : ℕ) (bs : List ℕ). go (saveSteps (oldName d i) (look d) i v bs)) (ap (held 0 (λ i. i)) (taken-at d s name exec info body i (o .place) .1)) (sym bits-are)
+        ∙ ap (λ (t : Bool). go (saveSteps t (look d) i v (lowest (u .bytes) n))) (sym eo)
 
     long : length (lowest (u .bytes) n) ≡ n
     long = ap length bits-are ∙ bits-long d v (omega (arith, m, free-is d u (o .disk) f e)) ∙ sym m
 
-    many : length (numbers steps) ≡ n + 1
-    many = save-long (look d) i v (lowest (u .bytes) n) ∙ ap (λ (n : ℕ). n + 1) long
+    many : length (numbers steps) ≡ n + c
+    many = save-long old (look d) i v (lowest (u .bytes) n) ∙ ap₂ _+_ long (sym ec)
 
-    pub save-short : length buf ≤ n → (x : Outcome) → x ≡ refused (refuse 20 0) → changed x d buf ≡ change (save v) d buf
+    pub save-short : length buf < n + c → (x : Outcome) → x ≡ refused (refuse 20 0) → changed x d buf ≡ change (save v) d buf
     save-short l x p = settled-short steps d buf (omega (arith, many)) x p ∙ change-planned (save v) d buf (o .disk .accepted) (go steps) plan-go
 
-    module _ (l : n < length buf) where
-      pub savable : Savable (u .bytes) n i s body buf
-      unfolding sectorsFor slotCount
+    module _ (l : n + c ≤ length buf) where
+      pub savable : Savable (u .bytes) n i old s body buf
+      unfolding sectorsFor
       savable =
           let t = save-tested 0 (directory d) v none-left in
           let k = carried-is (s .kind) (t .carried-kind) in
@@ -177,7 +184,8 @@ module _ (d : List ℕ) (u : UsedMap) (i : ℕ) (s : Start) (name exec info body
           record {
             sectors = m;
             file = record {
-              slot = lowest-slot 0 (directory d) i (taken-at d s name exec info body i (o .place) .1) .below;
+              slot = place-few d s name exec info body i (o .place);
+              next = λ q. old-is d i (sym eo ∙ q) .1;
               plain = record { kind = omega (arith, k .1); page = omega arith; offset = omega arith; pages = omega (arith, m) };
               bits = record {
                 few = omega (arith, long);
@@ -185,8 +193,10 @@ module _ (d : List ℕ) (u : UsedMap) (i : ℕ) (s : Start) (name exec info body
               };
             };
             enough = long;
-            room = l;
+            room = omega (arith, ec);
           }
 
-      pub save-done : (d′ buf′ : List ℕ) (r : ℕ) → Made steps d buf d′ buf′ r → changed (done r 0) d′ buf′ ≡ change (save v) d buf
-      save-done d′ buf′ r w = settled-done steps d buf (omega (arith, many)) d′ buf′ r w ∙ change-planned (save v) d buf (o .disk .accepted) (go steps) plan-go
+      pub save-done : (d′ buf′ : List ℕ) → Made steps d buf d′ buf′ (n + length (dirSectors old i)) → changed (done (n + c) 0) d′ buf′ ≡ change (save v) d buf
+      save-done d′ buf′ w =
+          ap (λ (c : ℕ). changed (done (n + c) 0) d′ buf′) ec
+          ∙ settled-done steps d buf (omega (arith, many)) d′ buf′ (n + length (dirSectors old i)) w ∙ change-planned (save v) d buf (o .disk .accepted) (go steps) plan-go

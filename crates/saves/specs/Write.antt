@@ -1,6 +1,7 @@
 -- What the steps of a save are entered with, and what they write: the definitions of `plans` in the pieces that the code writes.
-use Prim.Native.Nat.{ℕ, _+_, _/_, _%_, _≤_, _<_}
+use Prim.Native.Nat.{ℕ, suc, _+_, _/_, _%_, _≤_, _<_}
 use mathlib.Core.Path.{_≡_}
+use mathlib.Core.Bool.{Bool, true}
 use mathlib.Core.List.{List, [], _∷_}
 use lib.ListN.{length, getD}
 use Rattle.buffers.specs.Bytes.{tab}
@@ -11,6 +12,7 @@ use Rattle.files.specs.Calls.{at}
 use Rattle.files.specs.Steps.{Accepted}
 use Rattle.plans.specs.Change.{Wish}
 use Rattle.plans.specs.Saving.{nextTrack, nextSector}
+use Rattle.plans.specs.Plan.{dirSectors}
 use Rattle.taking.specs.declared.Start.{Start}
 use Rattle.taking.specs.Taken.{slotFor, lowest}
 use Rattle.saves.specs.declared.Link.{Link}
@@ -61,18 +63,24 @@ span s n = s .page ∷ s .offset % 256 ∷ s .offset / 256 ∷ n / 16384 ∷ n %
 
 -- ---- the whole
 
--- a file with this chain can be written into slot i
-pub record Writable (i : ℕ) (s : Start) (body bs : List ℕ) : Type 0 where
+-- a file with this chain can be written into slot i; old: an old name stands behind it
+pub record Writable (i : ℕ) (old : Bool) (s : Start) (body bs : List ℕ) : Type 0 where
   pub slot : i < slots
+  pub next : old ≡ true → suc i < slots
   pub plain : Plain s (length body)
   pub bits : Bits bs
 
+-- the sectors of the directory that a save into slot i writes have room from place a of a list on
+pub record Listable (a i : ℕ) (old : Bool) (list : List ℕ) : Type 0 where
+  pub slot : i < slots
+  pub room : a + length (dirSectors old i) ≤ length list
+
 -- a save of a body in n sectors that nothing refuses, into slot i of a disk whose used map is m
-pub record Savable (m : List ℕ) (n i : ℕ) (s : Start) (body list : List ℕ) : Type 0 where
+pub record Savable (m : List ℕ) (n i : ℕ) (old : Bool) (s : Start) (body list : List ℕ) : Type 0 where
   pub sectors : n ≡ sectorsFor (length body)
-  pub file : Writable i s body (lowest m n)
+  pub file : Writable i old s body (lowest m n)
   pub enough : length (lowest m n) ≡ n
-  pub room : n < length list
+  pub room : n + length (dirSectors old i) ≤ length list
 
 -- an accepted disk, and the slot that a save takes there
 pub record Open (d : List ℕ) (u : UsedMap) (i : ℕ) (s : Start) (name : List ℕ) : Type 0 where

@@ -1,18 +1,21 @@
-// Saving a file: its data sectors along a chain of free bits, then its slot, and the list of the sectors written.
+// Saving a file: its data sectors along a chain of free bits, what is cleared behind the directory's end, then its slot, and
+// the list of the sectors written.
 ghost use mathlib.Core.Path.{_≡_};
+ghost use mathlib.Core.Bool.{true, not, _&&_};
 ghost use mathlib.Core.List.{_++_, map};
-ghost use Prim.Native.Nat.{_+_, _*_, _≤_, _<_};
+ghost use Prim.Native.Nat.{suc, _+_, _*_, _≤_, _<_};
 ghost use lib.ListN.{length, drop, take};
 ghost use Rattle.buffers.specs.Bytes.{put, tab};
 ghost use Rattle.geometry.specs.Disk.{bitNumber, placeOrEnd};
+ghost use Rattle.directory.specs.Places.{slots};
 ghost use Rattle.disk.specs.Look.{look};
 ghost use Rattle.steps.specs.Steps.{enact};
 ghost use Rattle.plans.specs.Change.{save};
 ghost use Rattle.plans.specs.Saving.{block, mapWith, slotByte};
-ghost use Rattle.plans.specs.Plan.{dataSteps, saveSteps};
+ghost use Rattle.plans.specs.Plan.{dataSteps, oldName, together, cleared, dirSectors, saveSteps};
 ghost use Rattle.changes.specs.Settled.{Returns, Made};
 ghost use Rattle.taking.specs.Taken.{lowest};
-ghost use Rattle.saves.specs.Write.{wish, wishFor, Bits, Plain, header, run, linkTo, chainBytes, span, Writable, Savable, Open};
+ghost use Rattle.saves.specs.Write.{wish, wishFor, Bits, Plain, header, run, linkTo, chainBytes, span, Writable, Listable, Savable, Open};
 use directory::UsedMap;
 use files::Lookup;
 use geometry::Address;
@@ -201,10 +204,73 @@ fn to_numbers(list: &mut [u16], n: usize)
     }
 }
 
-// Writes a file into slot `i`: the data sectors of its chain, then the slot.
+// Whether slot `i` has no name, and a next slot exists that has one.
+fn has_old_name(image: &[u8], i: usize) -> bool
+    requires { ⌜ i < slots ⌝ }
+    ensures { λ r. ⌜ r ≡ oldName (now (image .entry)) i ⌝ }
+{
+    let next = i + 1;
+    if !slots::is_nameless(directory::slot_at(image, i)) {
+        return false;
+    }
+    if directory::SLOTS <= next {
+        return false;
+    }
+    !slots::is_nameless(directory::slot_at(image, next))
+}
+
+// Sets bytes 0 and 1 of the slot after slot `i` to 0, where an old name stands there.
+fn clear_next(image: &mut [u8], i: usize, old: bool)
+    requires { ⌜ (old ≡ true → suc i < slots) ⌝ }
+    ensures { λ _. ⌜ now (image .exit) ≡ cleared old i (now (image .entry)) ⌝ }
+{
+    if old {
+        let zeros = [0u8; 2];
+        buffers::copy_into(image, directory::slot_place(i + 1), &zeros);
+    }
+}
+
+// Whether the sector of the slot after slot `i` is written too: an old name stands there, and it is another sector.
+fn is_apart(i: usize, old: bool) -> bool
+    requires { ⌜ i < slots ⌝ }
+    ensures { λ r. ⌜ r ≡ (old && not (together i)) ⌝ }
+{
+    if !old {
+        return false;
+    }
+    let next = directory::dir_sector(i + 1);
+    next != directory::dir_sector(i)
+}
+
+// How many sectors of the directory a save into slot `i` writes.
+fn dir_count(i: usize, old: bool) -> usize
+    requires { ⌜ i < slots ⌝ }
+    ensures { λ r. ⌜ (r ≡ length (dirSectors old i)) × (r ≤ 2) ⌝ }
+{
+    if is_apart(i, old) {
+        return 2;
+    }
+    1
+}
+
+// Puts their numbers, in the order of writing, from a place of the list on.
+fn put_dirs(list: &mut [u16], at: usize, i: usize, old: bool)
+    requires { ⌜ Listable at i old (now list) ⌝ }
+    ensures { λ _. ⌜ now (list .exit) ≡ put (now (list .entry)) at (dirSectors old i) ⌝ }
+{
+    if is_apart(i, old) {
+        list[at] = directory::dir_sector(i + 1) as u16;
+        list[at + 1] = directory::dir_sector(i) as u16;
+        return;
+    }
+    list[at] = directory::dir_sector(i) as u16;
+}
+
+// Writes a file into slot `i`: the data sectors of its chain, no old name behind the slot, then the slot.
 fn write_file(
     image: &mut [u8],
     i: usize,
+    old: bool,
     start: Start,
     name: &[u8],
     exec: &[u8],
@@ -212,22 +278,24 @@ fn write_file(
     body: &[u8],
     bits: &[u16],
 )
-    requires { ⌜ Writable i start (now body) (now bits) ⌝ }
-    ensures { λ _. ⌜ now (image .exit) ≡ enact (now (image .entry)) (saveSteps (look (now (image .entry))) i (wishFor start (now (name .entry)) (now (exec .entry)) (now (info .entry)) (now (body .entry))) (now (bits .entry))) ⌝ }
+    requires { ⌜ Writable i old start (now body) (now bits) ⌝ }
+    ensures { λ _. ⌜ now (image .exit) ≡ enact (now (image .entry)) (saveSteps old (look (now (image .entry))) i (wishFor start (now (name .entry)) (now (exec .entry)) (now (info .entry)) (now (body .entry))) (now (bits .entry))) ⌝ }
 {
     let head = header_of(start, body.len());
     write_chain(image, &head, body, bits);
+    clear_next(image, i, old);
     let slot = slot_of(start, name, exec, info, body, bits);
     buffers::copy_into(image, directory::slot_place(i), &slot);
 }
 
 // Writes a file of `n` sectors into slot `i` of a disk whose used map is `map`: the lowest free bits are its chain, and the
-// list gets the numbers of its sectors, that of the directory last.
+// list gets the numbers of its sectors, those of the directory last.
 fn write_save(
     image: &mut [u8],
     map: &[u8],
     n: usize,
     i: usize,
+    old: bool,
     start: Start,
     name: &[u8],
     exec: &[u8],
@@ -235,14 +303,14 @@ fn write_save(
     body: &[u8],
     list: &mut [u16],
 )
-    requires { ⌜ Savable (now map) n i start (now body) (now list) ⌝ }
-    ensures { λ _. ⌜ Made (saveSteps (look (now (image .entry))) i (wishFor start (now (name .entry)) (now (exec .entry)) (now (info .entry)) (now (body .entry))) (lowest (now (map .entry)) n)) (now (image .entry)) (now (list .entry)) (now (image .exit)) (now (list .exit)) (n + 1) ⌝ }
+    requires { ⌜ Savable (now map) n i old start (now body) (now list) ⌝ }
+    ensures { λ _. ⌜ Made (saveSteps old (look (now (image .entry))) i (wishFor start (now (name .entry)) (now (exec .entry)) (now (info .entry)) (now (body .entry))) (lowest (now (map .entry)) n)) (now (image .entry)) (now (list .entry)) (now (image .exit)) (now (list .exit)) (n + length (dirSectors old i)) ⌝ }
 {
     taking::pick_bits(map, n, list);
-    write_file(image, i, start, name, exec, info, body, &list[..n]);
+    write_file(image, i, old, start, name, exec, info, body, &list[..n]);
     to_numbers(list, n);
     let last = n;
-    list[last] = directory::dir_sector(i) as u16;
+    put_dirs(list, last, i, old);
 }
 
 // Saves into the free slot `i` of an accepted disk whose used map is `used`, where the sectors and the list suffice.
@@ -268,12 +336,14 @@ fn save_at(
     if directory::free_of(used) < n {
         return refusals::no(Reason::TooFewSectors, 0);
     }
-    if list.len() <= n {
+    let old = has_old_name(image, i);
+    let named = n + dir_count(i, old);
+    if list.len() < named {
         return refusals::no(Reason::BufferTooShort, 0);
     }
     let map = used.bytes;
-    write_save(image, &map, n, i, start, name, exec, info, body, list);
-    Answer::Done(n + 1, 0)
+    write_save(image, &map, n, i, old, start, name, exec, info, body, list);
+    Answer::Done(named, 0)
 }
 
 // Saves a file: the image changes, the front of `list` gets the numbers of the sectors in the order of writing, and the

@@ -1,11 +1,10 @@
--- The reply of rows 2 to 7 by the tests that lead to it.
+-- The reply of rows 2 and 4 to 7 by the tests that lead to it.
 use Prim.Native.Nat.{ℕ, _+_, _*_}
 use mathlib.Core.Path.{_≡_, refl, ap, sym, _∙_}
 use mathlib.Core.Bool.{Bool, true, false, cond, _&&_}
 use mathlib.Core.List.{List}
 use mathlib.Core.Option.{none, some}
 use lib.Dec.{eqb, leb, ltb}
-use lib.ListN.{getD}
 use Rattle.maps.specs.Bits.{has, bitsOf}
 use Rattle.refusals.specs.Order.{Reply, refuse, rises}
 use Rattle.slots.specs.Slot.{Facts, facts, kindOf, countOf, firstOf, mapOf, known, carried, lengthOf}
@@ -20,7 +19,6 @@ tooLong s = carried (kindOf s) && ltb (510 * countOf s) (9 + lengthOf (facts s))
 -- rows 2 to 4 do not hold
 pub record Past4 (s : List ℕ) : Type 0 where
   pub kind : known (kindOf s) ≡ true
-  pub name : eqb (getD s 1 0) 0 ≡ false
   pub count : inRange s ≡ true
 
 -- nor do rows 5 and 6
@@ -34,25 +32,21 @@ module _ (i : ℕ) (s : List ℕ) where
   unfolding ownReply facts
   at2 a = rw a
 
-  pub at3 : known (kindOf s) ≡ true → eqb (getD s 1 0) 0 ≡ true → some (refuse 3 i) ≡ ownReply 0 i s
-  unfolding ownReply facts
-  at3 a b = rw (a, b)
-
-  pub at4 : known (kindOf s) ≡ true → eqb (getD s 1 0) 0 ≡ false → inRange s ≡ false → some (refuse 4 i) ≡ ownReply 0 i s
+  pub at4 : known (kindOf s) ≡ true → inRange s ≡ false → some (refuse 4 i) ≡ ownReply 0 i s
   unfolding ownReply facts dataCount
-  at4 a b c = rw (a, b, c)
+  at4 a c = rw (a, c)
 
   pub at5 : Past4 s → eqb (bitsOf (mapOf s)) (countOf s) ≡ false → some (refuse 5 i) ≡ ownReply 0 i s
   unfolding ownReply facts dataCount
-  at5 a b = rw (a .kind, a .name, a .count, b)
+  at5 a b = rw (a .kind, a .count, b)
 
   pub at6 : Past4 s → eqb (bitsOf (mapOf s)) (countOf s) ≡ true → has (mapOf s) (firstOf s) ≡ false → some (refuse 6 i) ≡ ownReply 0 i s
   unfolding ownReply facts dataCount
-  at6 a b c = rw (a .kind, a .name, a .count, b, c)
+  at6 a b c = rw (a .kind, a .count, b, c)
 
   last : Past6 s → ownReply 0 i s ≡ cond (tooLong s) (some (refuse 7 i)) none
   unfolding ownReply facts dataCount
-  last a = rw (a .past4 .kind, a .past4 .name, a .past4 .count, a .bits, a .first)
+  last a = rw (a .past4 .kind, a .past4 .count, a .bits, a .first)
 
   pub at7 : Past6 s → tooLong s ≡ true → some (refuse 7 i) ≡ ownReply 0 i s
   at7 a b = sym (last a ∙ ap (λ (t : Bool). cond {A = Reply} t (some (refuse 7 i)) none) b)

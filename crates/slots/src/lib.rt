@@ -1,10 +1,10 @@
-// One slot of the directory: its fields, its name, and rows 2 to 7 and 22 of the table. A slot is 256 bytes; of a shorter
+// One slot of the directory: its fields, its name, and rows 2, 4 to 7 and 22 of the table. A slot is 256 bytes; of a shorter
 // slice the missing bytes count as 0.
 ghost use mathlib.Core.Path.{_≡_};
 ghost use Prim.Native.Nat.{_+_, _*_, _≤_, _<_};
 ghost use Rattle.buffers.specs.Bytes.{part};
 ghost use Rattle.refusals.specs.Answers.{replyOf};
-ghost use Rattle.slots.specs.Slot.{isLive, hidden, protected, kindOf, known, carried, spectrum, readable, nameOf, countOf, firstOf, mapOf, pageOf, offsetOf, pagesOf, remainderOf, facts, lengthOf};
+ghost use Rattle.slots.specs.Slot.{isLive, isNameless, hidden, protected, kindOf, known, carried, spectrum, readable, nameOf, countOf, firstOf, mapOf, pageOf, offsetOf, pagesOf, remainderOf, facts, lengthOf};
 ghost use Rattle.slots.specs.Name.{sameName, sameBytes, lower, askable, padded, keyOf};
 ghost use Rattle.slots.specs.Rows.{ownReply, wasteful};
 use refusals::Reason;
@@ -14,6 +14,13 @@ pub fn is_live(s: &[u8]) -> bool
     ensures { λ r. ⌜ r ≡ isLive (now (s .entry)) ⌝ }
 {
     buffers::byte_at(s, 0) != 0
+}
+
+// Whether the first name byte is 0: a slot that was never used.
+pub fn is_nameless(s: &[u8]) -> bool
+    ensures { λ r. ⌜ r ≡ isNameless (now (s .entry)) ⌝ }
+{
+    buffers::byte_at(s, 1) == 0
 }
 
 pub fn is_hidden(s: &[u8]) -> bool
@@ -217,16 +224,13 @@ pub fn padded_name(name: &[u8]) -> [u8; 10]
     filled
 }
 
-// Rows 2 to 7 at a live slot, with no directory track beyond the four.
+// Rows 2 and 4 to 7 at a live slot, with no directory track beyond the four.
 pub fn own_rows(s: &[u8], slot: usize) -> Verdict
     ensures { λ r. ⌜ replyOf r ≡ ownReply 0 slot (now (s .entry)) ⌝ }
 {
     let kind = kind_of(s);
     if !is_known(kind) {
         return refusals::unsound(Reason::KindUnknown, slot);
-    }
-    if buffers::byte_at(s, 1) == 0 {
-        return refusals::unsound(Reason::NameMissing, slot);
     }
     let count = count_of(s);
     if count < 1 {

@@ -7,8 +7,8 @@ use native.Mathlib.Numerals.{add-one}
 use native.Mathlib.Omega.{arith}
 use Rattle.refusals.specs.Order.{Refusal, refuse, Reply, _else_, sweepFrom}
 use Rattle.refusals.proofs.First.{sweep-start, sweep-skip, sweep-stop, sweep-end}
-use Rattle.directory.specs.Places.{slotCount}
-use Rattle.directory.specs.Directory.{held, Directory, slotsRead, directory}
+use Rattle.directory.specs.Places.{slotCount, slots}
+use Rattle.directory.specs.Directory.{held, Directory, directory}
 use Rattle.directory.specs.Find.{find}
 use Rattle.files.specs.Calls.{at, barred}
 use Rattle.plans.specs.Saving.{lowestSlot}
@@ -20,24 +20,19 @@ use Rattle.taking.specs.Taken.{askedReply, soughtIn, slotFor}
 abbrev pub emptyAt : Directory → ℕ → Option ℕ
 emptyAt v i = held (some i) (λ s. none) (v i)
 
--- the slots that are read are those of the four tracks
-all-read : (d : List ℕ) → slotsRead d ≡ slotCount 0
-unfolding slotsRead slotCount
-all-read d = refl
+pub slot-start : (d : List ℕ) → lowestSlot 0 (directory d) ≡ sweepFrom (slots - 0) 0 (emptyAt (directory d))
+unfolding lowestSlot slotCount
+slot-start d = sweep-start slots (emptyAt (directory d))
 
-pub slot-start : (d : List ℕ) → lowestSlot 0 (directory d) ≡ sweepFrom (slotsRead d - 0) 0 (emptyAt (directory d))
-unfolding lowestSlot
-slot-start d = rw (all-read d) (sweep-start (slotCount 0) (emptyAt (directory d)))
+module _ (d : List ℕ) (i : ℕ) (w : lowestSlot 0 (directory d) ≡ sweepFrom (slots - i) i (emptyAt (directory d))) where
+  pub slot-held : i < slots → (s : List ℕ) → directory d i ≡ some s → lowestSlot 0 (directory d) ≡ sweepFrom (slots - (i + 1)) (i + 1) (emptyAt (directory d))
+  slot-held h s e = w ∙ sweep-skip slots i (emptyAt (directory d)) h (rw e)
 
-module _ (d : List ℕ) (i : ℕ) (w : lowestSlot 0 (directory d) ≡ sweepFrom (slotsRead d - i) i (emptyAt (directory d))) where
-  pub slot-held : i < slotsRead d → (s : List ℕ) → directory d i ≡ some s → lowestSlot 0 (directory d) ≡ sweepFrom (slotsRead d - (i + 1)) (i + 1) (emptyAt (directory d))
-  slot-held h s e = w ∙ sweep-skip (slotsRead d) i (emptyAt (directory d)) h (rw e)
+  pub slot-free : i < slots → directory d i ≡ none → some i ≡ lowestSlot 0 (directory d)
+  slot-free h e = sym (w ∙ sweep-stop slots i (emptyAt (directory d)) i h (rw e))
 
-  pub slot-free : i < slotsRead d → directory d i ≡ none → some i ≡ lowestSlot 0 (directory d)
-  slot-free h e = sym (w ∙ sweep-stop (slotsRead d) i (emptyAt (directory d)) i h (rw e))
-
-  pub slot-none : slotsRead d ≤ i → none ≡ lowestSlot 0 (directory d)
-  slot-none h = sym (w ∙ sweep-end (slotsRead d - i) i (emptyAt (directory d)) (omega arith))
+  pub slot-none : slots ≤ i → none ≡ lowestSlot 0 (directory d)
+  slot-none h = sym (w ∙ sweep-end (slots - i) i (emptyAt (directory d)) (omega arith))
 
 -- ---- the slot that a save takes, by the tests that led there
 

@@ -41,7 +41,7 @@ fn asked_rows(start: Start, name: &[u8]) -> Verdict
     Verdict::Sound
 }
 
-// The lowest slot that holds no file.
+// The lowest slot that holds no file: one that is read and erased, else the end of the directory.
 fn free_slot(image: &[u8]) -> Found
     ensures { λ r. ⌜ foundAt r ≡ lowestSlot 0 (directory (now (image .entry))) ⌝ }
 {
@@ -54,6 +54,9 @@ fn free_slot(image: &[u8]) -> Found
         if !slots::is_live(s) {
             return Found::At(k);
         }
+    }
+    if end < directory::SLOTS {
+        return Found::At(end);
     }
     Found::Nothing
 }

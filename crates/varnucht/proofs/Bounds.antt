@@ -201,12 +201,12 @@ module _ (one two : List ℕ) (d t s : ℕ) where
 -- ---- a change: 1,560 data sectors and one of the directory
 
 module _ (c : Change) (d b : List ℕ) where
-  pub changing-within : Within (changing c d b .outcome) 1561 0
+  pub changing-within : Within (changing c d b .outcome) 1562 0
   unfolding changing
   changing-within = by (run c d (length b / 2)) (mild-run c d (length b / 2))
     where
-      by : (x : Result) → Settled (most c) x → Within (changingBy x d b .outcome) 1561 0
-      by (stopped r) m = within-refused r 1561 0 m
+      by : (x : Result) → Settled (most c) x → Within (changingBy x d b .outcome) 1562 0
+      by (stopped r) m = within-refused r 1562 0 m
       by (made new ss) m = record { refusal = omega arith; slot = omega arith; value = omega (arith, most-few c); free = omega arith }
 
 -- ---- so every answer can be read in its parts

@@ -46,7 +46,7 @@ module _ (o : Outcome) (b : List ℕ) (n : ℕ) (q : n ≡ clipped o) where
 -- with the image and the list that a change leaves
 pub packed-change : (c : Change) (d b : List ℕ) (o : Outcome) (d′ b′ : List ℕ) → changed o d′ b′ ≡ changing c d b → (n : ℕ) → n ≡ clipped o → Returns c d b n d′ b′
 packed-change c d b o d′ b′ e n q = (
-  packed-within (changing c d b .outcome) 1561 0 (omega arith) (omega arith) (changing-within c d b) o (ap (λ (x : Changed). x .outcome) e) n q,
+  packed-within (changing c d b .outcome) 1562 0 (omega arith) (omega arith) (changing-within c d b) o (ap (λ (x : Changed). x .outcome) e) n q,
   ap (λ (x : Changed). x .image) e,
   ap (λ (x : Changed). x .list) e,
 )

@@ -12,7 +12,7 @@ pub const LONGEST: usize = 795_591;
 const SECTORS: usize = 1_560;
 
 /// Room for the numbers of the longest list.
-pub const LIST_BYTES: usize = 2 * 1_561;
+pub const LIST_BYTES: usize = 2 * 1_562;
 
 /// A disk, what the table calls it, and the name of its last file (of any name, if it has none).
 #[derive(Clone)]
@@ -24,6 +24,24 @@ pub struct Disk {
 
 pub fn blank() -> Disk {
     made("blank", 0, 0, unlike)
+}
+
+/// A nearly empty disk.
+pub fn three() -> Disk {
+    made("3 x 900", 3, 900, unlike)
+}
+
+/// The same with old bytes from the directory's end on, slot 4: a save there clears slot 5, which is in another sector.
+pub fn three_and_old() -> Disk {
+    let Disk { image, last, .. } = three();
+    let mut image = image.to_vec();
+    image[3 * 256..20 * 256].fill(99);
+    image[3 * 256 + 1] = 0;
+    Disk {
+        title: "3 x 900, old slots",
+        image: image.into(),
+        last,
+    }
 }
 
 pub fn eighty() -> Disk {

@@ -31,6 +31,7 @@ pub struct Row {
 pub fn all() -> Vec<Row> {
     let (blank, eighty, seventy_eight, one) = (disks::blank(), disks::eighty(), disks::seventy_eight(), disks::one());
     let (eighty_alike, scattered) = (disks::eighty_alike(), disks::scattered());
+    let (three, three_and_old) = (disks::three(), disks::three_and_old());
     let disks = [&blank, &eighty, &seventy_eight, &one];
     let row = |disk: &Disk, work, refusal| Row {
         disk: disk.clone(),
@@ -38,7 +39,8 @@ pub fn all() -> Vec<Row> {
         refusal,
     };
     let mut rows = vec![];
-    rows.extend([&blank, &eighty, &eighty_alike, &seventy_eight, &one, &scattered].map(|disk| row(disk, Work::Check, 0)));
+    rows.extend([&blank, &three, &three_and_old].map(|disk| row(disk, Work::Check, 0)));
+    rows.extend([&eighty, &eighty_alike, &seventy_eight, &one, &scattered].map(|disk| row(disk, Work::Check, 0)));
     rows.extend([&eighty, &one].map(|disk| row(disk, Work::CheckRelease, 0)));
     rows.extend(disks.map(|disk| row(disk, Work::List, 0)));
     rows.extend(disks.map(|disk| row(disk, Work::Read, if disk.title == blank.title { 15 } else { 0 })));
@@ -50,6 +52,7 @@ pub fn all() -> Vec<Row> {
         rows.extend([512, 4_096].map(|room| row(disk, Work::Pieces(opened, room), 0)));
     }
     rows.extend(saves(&blank, &eighty, &seventy_eight, &one));
+    rows.extend([&three, &three_and_old].map(|disk| row(disk, Work::Save(disks::body(900)), 0)));
     rows.extend(disks.map(|disk| row(disk, Work::Erase, if disk.title == blank.title { 15 } else { 0 })));
     rows
 }

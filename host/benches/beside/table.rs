@@ -21,7 +21,9 @@ pub fn print_head(timer: Duration) {
     println!(
         "bytes that differ in the first two; with 'names alike' in the last two alone. 'less one', 'erased': the last file"
     );
-    println!("was erased before, so the save takes its slot and sectors.");
+    println!(
+        "was erased before, so the save takes its slot and sectors. 'old slots': behind its end the directory has old bytes."
+    );
     println!();
     println!(
         "{:<13} {:<22} {:<10} {:>10} {:>10} {:>10} {:>10} {:>7} {:>7} {:>6}",

@@ -1,4 +1,4 @@
-//! The check of a disk: refusals 2 to 11 and 25. Every call but the raw sector begins with it. The check before a release
+//! The check of a disk: refusals 2, 4 to 11 and 25. Every call but the raw sector begins with it. The check before a release
 //! has one row more, 22.
 
 use crate::geometry::{Address, DATA_SECTORS, Image, PAYLOAD_BYTES, SLOTS, sector};
@@ -41,7 +41,7 @@ impl Survey {
         DATA_SECTORS - self.used_count
     }
 
-    /// Joins in a slot, or says the first of 2 to 9 that it gives beside the slots before it; before a release 22 stands
+    /// Joins in a slot, or says the first of 2 and 4 to 9 that it gives beside the slots before it; before a release 22 stands
     /// directly after 7.
     fn join(&mut self, slot: &Slot, purpose: Purpose) -> Result<(), Reason> {
         let count = slot.count();
@@ -74,13 +74,10 @@ impl Survey {
     }
 }
 
-/// Refusals 2 to 4.
+/// Refusals 2 and 4.
 fn own_rules(slot: &Slot) -> Result<(), Reason> {
     if !matches!(slot.kind(), 1..=12 | 16..=23) {
         return Err(Reason::KindUnknown);
-    }
-    if slot.name()[0] == 0 {
-        return Err(Reason::NameBeginsWithZero);
     }
     if !(1..=DATA_SECTORS).contains(&slot.count()) {
         return Err(Reason::CountOutOfRange);
@@ -102,7 +99,7 @@ pub fn survey_for(image: &Image, purpose: Purpose) -> Result<Survey, Refused> {
     Ok(survey)
 }
 
-/// Refusals 2 to 9, and 22 before a release.
+/// Refusals 2 and 4 to 9, and 22 before a release.
 fn directory(image: &Image, purpose: Purpose) -> Result<Survey, Refused> {
     let mut survey = Survey::EMPTY;
     for slot in live_slots(image) {
@@ -175,18 +172,33 @@ mod tests {
         image
     }
 
+    /// Case L with an erased file in slot 2, so that slot 3 is read.
+    fn case_l_read_on() -> Vec<u8> {
+        let mut image = case_l();
+        put(&mut image, 2, NAME_AT, b"OLD TUNES ");
+        image
+    }
+
+    /// Slot 2 has no name: the directory ends there, and the file in slot 3 is unread.
     #[test]
-    fn case_l_has_1538_free_sectors() {
-        let image = case_l();
+    fn case_l_has_1540_free_sectors() {
+        let mut image = case_l();
+        for byte_0 in [0, 16, 63] {
+            put(&mut image, 2, 0, &[byte_0]);
+            let whole = whole(&image).expect("a whole image");
+            let survey = directory(whole, Purpose::Use).unwrap_or_else(|refused| panic!("{refused:?}"));
+            assert_eq!((survey.files, survey.free(), survey.used.count()), (1, 1_540, 20));
+        }
+        let image = case_l_read_on();
         let image = whole(&image).expect("a whole image");
         let survey = directory(image, Purpose::Use).unwrap_or_else(|refused| panic!("{refused:?}"));
         assert_eq!((survey.files, survey.free(), survey.used.count()), (2, 1_538, 22));
         assert_eq!(super::survey(image).err(), Some(Reason::ChainBroken.at(1)));
     }
 
-    /// What the directory of case L gives with some bytes of a slot put over it.
+    /// What the directory of case L, read on to slot 3, gives with some bytes of a slot put over it.
     fn with(slot: u8, at: usize, bytes: &[u8]) -> Option<Refused> {
-        let mut image = case_l();
+        let mut image = case_l_read_on();
         put(&mut image, slot, at, bytes);
         directory(whole(&image).expect("a whole image"), Purpose::Use).err()
     }
@@ -199,7 +211,8 @@ mod tests {
         for kind in [1, 12, 16, 23, 0xc0 | 23, 0] {
             assert_eq!(with(3, 0, &[kind]), None);
         }
-        assert_eq!(with(3, NAME_AT, &[0]), Some(Reason::NameBeginsWithZero.at(3)));
+        assert_eq!(with(3, NAME_AT, &[0]), None);
+        assert_eq!(with(3, 0, &[63, 0, 0, 0, 0, 0, 0, 0, 0, 0, 0, 255, 255, 255]), None);
         assert_eq!(with(3, COUNT_AT, &[0, 0]), Some(Reason::CountOutOfRange.at(3)));
         assert_eq!(with(3, COUNT_AT, &[6, 25]), Some(Reason::CountOutOfRange.at(3)));
         assert_eq!(with(3, COUNT_AT, &[6, 24]), Some(Reason::MapUnlikeCount.at(3)));

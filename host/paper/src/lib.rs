@@ -6,9 +6,9 @@
 //! - `geometry`: sides, tracks, sectors, map bits, slot places
 //! - `map`: the 1,560 bits of a slot's map or of the used map
 //! - `name`: names asked for and new names, and when two are the same
-//! - `slot`: what the 256 bytes of a directory slot say
+//! - `slot`: what the 256 bytes of a directory slot say, and where the directory ends
 //! - `spectrum`: the header of kinds 1 to 4
-//! - `check`: refusals 1 to 11 and 25, and 22 before a release
+//! - `check`: refusals 1, 2, 4 to 11 and 25, and 22 before a release
 //! - `calls`: the two checks, list, read, start address, raw sector
 //! - `pieces`: a file's body a piece at a time
 //! - `save`: the change that takes slots and sectors

@@ -13,7 +13,7 @@ pub struct Refused {
 pub enum Reason {
     ImageLength = 1,
     KindUnknown = 2,
-    NameBeginsWithZero = 3,
+    // 3 is given no more: the directory ends at a slot whose first name byte is 0.
     CountOutOfRange = 4,
     MapUnlikeCount = 5,
     FirstNotInMap = 6,

@@ -1,4 +1,4 @@
-//! Save: a new file in the lowest free slot and the lowest free sectors.
+//! Save: a new file in the lowest slot that holds none and the lowest free sectors.
 
 use crate::calls::start_address;
 use crate::check::survey;
@@ -6,7 +6,7 @@ use crate::geometry::{Address, Image, PAYLOAD_BYTES, SECTOR_BYTES, SLOT_BYTES, S
 use crate::map::Map;
 use crate::name::{Name, fresh};
 use crate::refusal::{Reason, Refused};
-use crate::slot::{self, HEADER_BYTES, PAGE_BYTES, find, is_carried, sectors_for, slots};
+use crate::slot::{self, HEADER_BYTES, PAGE_BYTES, Slot, find, free_slot, is_carried, sectors_for, slots};
 
 /// What a save asks for.
 #[derive(Clone, Copy, Debug)]
@@ -20,8 +20,8 @@ pub struct Wish<'a> {
     pub body: &'a [u8],
 }
 
-/// Saves a file and answers how many sectors changed. The list names them: the file's sectors along its chain, then the
-/// directory's sector.
+/// Saves a file and answers how many sectors changed. The list names them: the file's sectors along its chain, then those of
+/// the directory, the slot's last.
 pub fn save(image: &mut [u8], wish: &Wish, list: &mut [u8]) -> Result<usize, Refused> {
     let image = whole_mut(image)?;
     let survey = survey(image)?;
@@ -35,10 +35,8 @@ pub fn save(image: &mut [u8], wish: &Wish, list: &mut [u8]) -> Result<usize, Ref
     if let Some(taken) = find(image, &name) {
         return Err(Reason::NameTaken.at(taken.number));
     }
-    let slot = slots(image)
-        .find(|slot| !slot.is_live())
-        .ok_or(Reason::NoFreeSlot.alone())?
-        .number;
+    let taken = free_slot(image).ok_or(Reason::NoFreeSlot.alone())?;
+    let (slot, old_name) = (taken.number, old_name_behind(image, &taken));
     let count = sectors_for(wish.body.len());
     if survey.free() < count {
         return Err(Reason::DiskFull.alone());
@@ -46,13 +44,33 @@ pub fn save(image: &mut [u8], wish: &Wish, list: &mut [u8]) -> Result<usize, Ref
     let list = list
         .as_chunks_mut()
         .0
-        .get_mut(..count + 1)
+        .get_mut(..count + directory_sectors(slot, old_name).count())
         .ok_or(Reason::BufferTooShort.alone())?;
     let (data, directory) = list.split_at_mut(count);
     let map = write_body(image, wish, &survey.used, data);
+    if let Some(next) = old_name {
+        image[slot_place(next)..][..2].fill(0);
+    }
     write_slot(image, slot, wish, &name, &map, count);
-    directory[0] = number_bytes(slot_place(slot) / SECTOR_BYTES);
-    Ok(count + 1)
+    for (entry, sector) in directory.iter_mut().zip(directory_sectors(slot, old_name)) {
+        *entry = number_bytes(sector);
+    }
+    Ok(list.len())
+}
+
+/// The next slot, where the one taken is the directory's end and the next has a first name byte that is not 0. Once the end
+/// has a name that slot would be read, and its old name would come back.
+fn old_name_behind(image: &Image, taken: &Slot) -> Option<u8> {
+    let next = slots(image).nth(taken.number.into())?;
+    (taken.ends_directory() && !next.ends_directory()).then_some(next.number)
+}
+
+/// The directory's sectors in the order of writing: that of the next slot, where it is cleared, then that of the saved slot;
+/// once if they are the same.
+fn directory_sectors(slot: u8, cleared: Option<u8>) -> impl Iterator<Item = usize> {
+    let saved = slot_place(slot) / SECTOR_BYTES;
+    let before = cleared.map(|next| slot_place(next) / SECTOR_BYTES);
+    before.filter(|sector| *sector != saved).into_iter().chain([saved])
 }
 
 /// A sector number as the list has it.

@@ -50,9 +50,17 @@ pub fn slots(image: &Image) -> impl Iterator<Item = Slot<'_>> {
     })
 }
 
-/// The slots that are neither free nor erased, rising.
+/// The slots that hold a file, rising. Reading stops at the directory's end: what stands from there on is no file, whatever
+/// it says.
 pub fn live_slots(image: &Image) -> impl Iterator<Item = Slot<'_>> {
-    slots(image).filter(Slot::is_live)
+    slots(image)
+        .take_while(|slot| !slot.ends_directory())
+        .filter(|slot| !slot.is_erased())
+}
+
+/// The lowest slot that holds no file: an erased one before the end, else the end.
+pub fn free_slot(image: &Image) -> Option<Slot<'_>> {
+    slots(image).find(|slot| slot.is_erased() || slot.ends_directory())
 }
 
 /// The live slot of that name, capitals or not. A checked disk has one at most.
@@ -62,8 +70,13 @@ pub fn find<'a>(image: &'a Image, name: &Name) -> Option<Slot<'a>> {
 }
 
 impl<'a> Slot<'a> {
-    pub fn is_live(&self) -> bool {
-        self.bytes[0] != 0
+    pub fn is_erased(&self) -> bool {
+        self.bytes[0] == 0
+    }
+
+    /// Whether the first name byte is 0: the slot was never used, and directory reading stops here.
+    pub fn ends_directory(&self) -> bool {
+        self.bytes[NAME_AT] == 0
     }
 
     pub fn is_protected(&self) -> bool {
@@ -147,7 +160,7 @@ mod tests {
         };
         assert_eq!((slot.kind(), slot.count(), slot.page(), slot.offset()), (19, 300, 29, 32_768));
         assert_eq!((slot.length(), slot.remainder()), (16_384, 0));
-        assert!(slot.is_live() && slot.is_protected() && slot.is_carried());
+        assert!(!slot.is_erased() && slot.is_protected() && slot.is_carried());
     }
 
     #[test]
@@ -161,11 +174,31 @@ mod tests {
     fn slots_skip_the_second_side() {
         let mut image = vec![0; crate::geometry::IMAGE_BYTES];
         for slot in 1..=SLOTS {
-            image[slot_place(slot)] = slot;
+            image[slot_place(slot)..][..2].copy_from_slice(&[slot, b'A']);
         }
         image[slot_place(7)] = 0;
         let image = crate::geometry::whole(&image).expect("a whole image");
         assert!(slots(image).all(|slot| slot.number == slot.bytes[0] || slot.number == 7));
         assert_eq!(live_slots(image).count(), 79);
+    }
+
+    #[test]
+    fn reading_stops_at_the_end() {
+        for end in 1..=SLOTS {
+            let mut image = vec![0; crate::geometry::IMAGE_BYTES];
+            for slot in 1..=SLOTS {
+                image[slot_place(slot)..][..2].copy_from_slice(&[19, b'A']);
+            }
+            for byte_0 in [0, 19, 255] {
+                image[slot_place(end)..][..2].copy_from_slice(&[byte_0, 0]);
+                let whole = crate::geometry::whole(&image).expect("a whole image");
+                assert!(live_slots(whole).map(|slot| slot.number).eq(1..end));
+                assert_eq!(free_slot(whole).map(|slot| slot.number), Some(end));
+            }
+            image[slot_place(end) + 1] = b'A';
+            let whole = crate::geometry::whole(&image).expect("a whole image");
+            assert_eq!(live_slots(whole).count(), 80);
+            assert!(free_slot(whole).is_none());
+        }
     }
 }

@@ -74,7 +74,9 @@ fn opening_refuses_as_reading_does_but_for_the_buffer() {
     image[slot_place(2)] = 0x80 | 5;
     assert_eq!(paper::open(&image, b"TWO"), refused(13, 2));
     image[slot_place(1) + 1] = 0;
-    assert_eq!(paper::open(&image, b"TWO"), refused(3, 1));
+    assert_eq!(paper::open(&image, b"TWO"), refused(15, 0), "the directory ends before it");
+    image[slot_place(1)..][..2].copy_from_slice(&[13, b'O']);
+    assert_eq!(paper::open(&image, b"TWO"), refused(2, 1));
 }
 
 /// Numbers that can be no reader's, and an image of another length: nothing comes, and nothing changes.

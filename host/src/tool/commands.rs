@@ -118,6 +118,10 @@ const PIPE: &str = "IMAGE may be a pipe, read to its end: one that nobody writes
 /// What is said of a save.
 const START: &str = "The usual start, page 1 and offset 32768, is address 32768.";
 
+/// What is said of the slot that a save takes.
+const SLOT: &str = "It takes the lowest free slot. Where that is the directory's end and an old
+name stands in the next slot, that name is cleared with it.";
+
 /// What is said of numbers.
 const NUMBERS: &str = "A number may be written as 0x and hexadecimal digits.";
 
@@ -143,6 +147,8 @@ pub const COMMANDS: &[Command] = &[
         more: &[
             "Prints `accepted`, or says which slot is wrong and why. Of several images
 each gets its line, with its name in front, and the greatest status is given.",
+            "The directory ends at its first slot without a name, and what stands behind is
+not looked at.",
             PIPE,
         ],
         run: check::run,
@@ -185,7 +191,7 @@ second. Each file has a sign, and the signs are named below.",
         places: &["IMAGE", "NAME", "FILE"],
         options: &[&KIND, &PAGE, &OFFSET, &EXEC, &INFO, &DRY_RUN, &NO_WAIT],
         brief: "save FILE (`-`: standard input) under a new name",
-        more: &[START, NUMBERS, SAFE, NAMES],
+        more: &[START, NUMBERS, SLOT, SAFE, NAMES],
         run: save::run,
     },
     on_name("erase", "erase a file", change::erase),

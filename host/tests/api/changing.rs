@@ -153,6 +153,37 @@ fn a_save_that_fails_leaves_the_old_disk() {
     assert!(&store.image == disk.image());
 }
 
+/// Saves over old bytes: each takes the directory's end and clears the name behind it, in the slot's own sector or in the next,
+/// which is then written before. Wherever that fails, the old disk is still there.
+#[test]
+fn saves_into_the_end_clear_old_names() {
+    let mut disk = Disk::open(pair_that_ends()).expect("it is sound");
+    for (slot, directory) in [(3, &[1][..]), (4, &[2, 1]), (5, &[2]), (6, &[3, 2])] {
+        let old = disk.clone();
+        let mut sectors = disk.save(&code(&format!("FILE {slot}"), &body(600))).unwrap();
+        let numbers: Vec<u16> = sectors.numbers().iter().map(|number| number.number()).collect();
+        assert_eq!(numbers[2..], *directory);
+        for left in 0..=numbers.len() {
+            let image = old.image().clone();
+            let mut store = Failing { image, left };
+            assert_eq!(sectors.write_to(&mut store, |_, _| {}).is_ok(), left == numbers.len());
+            let cut = Disk::open(store.image).expect("it is sound");
+            assert_eq!(cut.listing() == old.listing(), left < numbers.len());
+            assert_eq!(cut.read(&name("ONE")), old.read(&name("ONE")));
+        }
+        let bytes = disk.image().as_bytes();
+        assert_eq!(
+            bytes[slot_place(slot + 1)..][..3],
+            [0, 0, 99],
+            "two bytes are cleared and no more"
+        );
+        assert_eq!(
+            (disk.listing().entries().len(), disk.listing().free_slots()),
+            (slot, 80 - slot)
+        );
+    }
+}
+
 /// After a failed write a later change of the same disk writes nothing, because its sectors build on those that are missing;
 /// the same sectors written again make it good.
 #[test]

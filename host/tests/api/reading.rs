@@ -70,6 +70,32 @@ fn listings_say_what_the_library_says() {
     assert_eq!((full.listing().free_slots(), disk.listing().free_slots()), (79, 78));
 }
 
+/// What stands from the directory's end on is no file, whatever it says, and its slots are free.
+#[test]
+fn listings_stop_at_the_end() {
+    let (mut image, sound) = (pair_that_ends(), pair());
+    assert_eq!(image.check(), Ok(()));
+    let disk = Disk::open(image.clone()).expect("it is sound");
+    assert_eq!(disk.listing(), sound.listing());
+    assert_eq!(
+        (disk.listing().free_slots(), disk.listing().room()),
+        (78, sound.listing().room())
+    );
+    assert_eq!(disk.read(&name("TWO")), sound.read(&name("TWO")));
+    image.as_bytes_mut()[slot_place(3) + 1] = b'A';
+    assert_eq!(parts(image.check().unwrap_err()).0, 2, "with a name there it is read on");
+    image.as_bytes_mut()[slot_place(1) + 1] = 0;
+    let none = Disk::open(image).expect("nothing is read");
+    assert_eq!((none.listing().entries().len(), none.listing().free()), (0, 1_560));
+    assert_eq!(
+        (
+            none.listing().free_slots(),
+            none.start(&name("TWO")).unwrap_err().refusal.number()
+        ),
+        (80, 15)
+    );
+}
+
 /// Bits 14 and 15 of the length are no part of it.
 #[test]
 fn lengths_ignore_two_bits() {

@@ -8,6 +8,7 @@ use crate::support::calls::{
 };
 use crate::support::compare::{self, Lend};
 use crate::support::disks::Disk;
+use crate::support::facts::Facts;
 use crate::support::geometry::{bit_place, number};
 use crate::support::guarded::{Empty, Flush, Guarded};
 use crate::wide;
@@ -72,7 +73,8 @@ fn accepted(call: Call, disk: &Disk, i: usize) -> Asked {
             ..asked.with(TWO, disk.image.clone())
         },
         Call::Save => {
-            let asked = asked.with(NAME, b"unlike all").with(BODY, [5; 600]).with(OUT, [0x5c; 6]);
+            let list = vec![0x5c; 2 * Facts::of(&disk.image).save_sectors(600)];
+            let asked = asked.with(NAME, b"unlike all").with(BODY, [5; 600]).with(OUT, list);
             Asked {
                 numbers: [19, 1, 40_000],
                 ..asked.with(EXEC, [1, 2, 3]).with(INFO, [4; 11])

@@ -175,12 +175,13 @@ fn saves_of_full_size() {
         let random = &mut Random::new(13_000_000 + free as u64);
         let image = with_free(free, random);
         let facts = Facts::of(&image);
-        let list = vec![0x5c; 2 * (free + 1)];
+        let sectors = facts.save_sectors(fills(free));
+        let list = vec![0x5c; 2 * sectors];
         let asked = wishes::good(&facts, random)
             .with(BODY, random.bytes(fills(free)))
             .with(OUT, list);
         let (answer, new) = ask(&asked.on(&image));
-        assert_eq!((calls::refusal(answer), calls::value(answer)), (0, free + 1));
+        assert_eq!((calls::refusal(answer), calls::value(answer)), (0, sectors));
         let new = new.expect("accepted");
         for short in [0, 1] {
             let out = vec![0x5c; fills(free) - short];

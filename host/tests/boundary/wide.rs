@@ -4,6 +4,7 @@
 use crate::support::calls::{self, BODY, Call, EXEC, IMAGE, INFO, NAME, NEW, NOTHING, OUT, Part, TWO, ask_c, value};
 use crate::support::compare::Lend;
 use crate::support::disks::{self, Disk};
+use crate::support::facts::Facts;
 use crate::support::fields;
 use crate::support::geometry;
 use crate::support::guarded::{Empty, Flush, Guarded, PAGE, Pages};
@@ -158,7 +159,7 @@ fn what_is_saved() {
         let usual = Usual::new(&disk, b"unlike all");
         let wide = Wide::new(&[9; 20]);
         assert_eq!(calls::refusal(usual.ask(Call::Save, numbers, role, wide.part(1))), 0);
-        let free = (1..=80).find(|&slot| disk.slot(slot)[0] == 0).expect("a slot is free");
+        let free = Facts::of(&disk.image).taken.expect("a slot is free");
         let slot = &usual.lender.bytes(IMAGE)[geometry::slot_place(free)..][..geometry::SLOT];
         assert_eq!(slot[field..field + length], [9; 11][..length]);
     }

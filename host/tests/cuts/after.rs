@@ -1,4 +1,5 @@
-//! What an accepted change leaves, written once more from document 01, "What each change does", and what is seen of it.
+//! What an accepted change leaves, written once more from document 01, "What each change does", and from document 02, M-103;
+//! and what is seen of it.
 
 use crate::change::Change;
 use crate::support::asking::Asked;
@@ -73,11 +74,15 @@ fn edited(change: &Change) -> (Vec<u8>, Vec<usize>) {
     (new, vec![number(place)])
 }
 
-/// The lowest free slot, and the lowest free sectors, rising, as chain.
+/// The lowest free slot, and the lowest free sectors, rising, as chain. A slot is free where it is erased, and from the first on
+/// whose first name byte is 0; where that one is taken, an old name in the next goes.
 fn saved(change: &Change) -> (Vec<u8>, Vec<usize>) {
     let mut new = change.old.to_vec();
     let bits = lowest_free(change);
-    let slot = (1..=SLOTS).find(|&slot| new[slot_place(slot)] == 0).expect("a slot is free");
+    let nameless = |slot: usize| change.old[slot_place(slot) + fields::NAME] == 0;
+    let free = |slot: &usize| change.old[slot_place(*slot)] == 0 || nameless(*slot);
+    let slot = (1..=SLOTS).find(free).expect("a slot is free");
+    let old_name = Some(slot + 1).filter(|&next| nameless(slot) && next <= SLOTS && !nameless(next));
     let payload = payload(change, bits.len());
     for (i, &bit) in bits.iter().enumerate() {
         let sector = &mut new[bit_place(bit)..][..SECTOR];
@@ -85,8 +90,14 @@ fn saved(change: &Change) -> (Vec<u8>, Vec<usize>) {
         sector[PAYLOAD..].copy_from_slice(&bits.get(i + 1).map_or([0, 0], |&next| address(next)));
     }
     new[slot_place(slot)..][..SLOT].copy_from_slice(&new_slot(change, &bits));
-    let places = bits.iter().map(|&bit| bit_place(bit)).chain([slot_place(slot)]);
-    (new, places.map(number).collect())
+    let mut named: Vec<usize> = bits.iter().map(|&bit| number(bit_place(bit))).collect();
+    if let Some(next) = old_name {
+        new[slot_place(next)..][..2].fill(0);
+        // Two slots fill a sector, and the first of a pair has the next one beside it.
+        named.extend((slot % 2 == 0).then_some(number(slot_place(next))));
+    }
+    named.push(number(slot_place(slot)));
+    (new, named)
 }
 
 fn lowest_free(change: &Change) -> Vec<usize> {

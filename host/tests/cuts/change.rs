@@ -3,9 +3,9 @@
 use crate::support::asking::Asked;
 use crate::support::calls::{self, BODY, Call, NAME, NEW, OUT, Request};
 use crate::support::compare;
-use crate::support::facts::{Facts, Live};
+use crate::support::facts::{self, Facts, Live};
 use crate::support::fields;
-use crate::support::geometry::{IMAGE, SECTOR, SECTORS, SLOT, bit_place, sectors_for, slot_place};
+use crate::support::geometry::{IMAGE, SECTOR, SECTORS, SLOT, SLOTS, bit_place, slot_place};
 use crate::support::margins::Margins;
 use crate::support::names;
 use crate::support::random::Random;
@@ -52,7 +52,7 @@ impl Change<'_> {
     /// A save of a body of this length.
     pub fn save<'a>(old: &'a [u8], length: usize, random: &mut Random) -> Option<Change<'a>> {
         let facts = Facts::of(old);
-        let list = 2 * (sectors_for(length) + 1);
+        let list = 2 * facts.save_sectors(length);
         let asked = wishes::good(&facts, random)
             .with(BODY, random.bytes(length))
             .with(OUT, vec![0x5c; list]);
@@ -72,7 +72,8 @@ impl Change<'_> {
         })
     }
 
-    /// No number twice; sectors not named are unchanged; the directory sector comes last, and before it stand data sectors.
+    /// No number twice; sectors not named are unchanged; the directory sector comes last, and before it stand data sectors; of a
+    /// save that clears the slot behind the directory's end, its sector stands between them.
     pub fn names_its_sectors(&self) {
         let mut named = [false; SECTORS];
         for &number in &self.named {
@@ -90,13 +91,26 @@ impl Change<'_> {
             );
         }
         let directory = |number: usize| number % 20 < 10 && number < 80;
-        let (last, data) = self.named.split_last().expect("at least one sector");
+        let many = if self.asked.call == Call::Save {
+            self.facts.directory_sectors().len()
+        } else {
+            1
+        };
+        let (data, last) = self.named.split_at(self.named.len() - many);
         assert!(
-            directory(*last) && !data.iter().any(|&number| directory(number)),
+            last.iter().all(|&number| directory(number)) && !data.iter().any(|&number| directory(number)),
             "{:?}",
             self.named
         );
-        assert!(self.asked.call == Call::Save || data.is_empty(), "{:?}", self.named);
+        assert!((self.asked.call == Call::Save) != data.is_empty(), "{:?}", self.named);
+    }
+
+    /// The directory ends where it ended: unread slots stay unread, but for the one that a whole save takes.
+    pub fn keeps_the_end(&self, disk: &[u8], whole: bool) {
+        let facts = &self.facts;
+        let taken = whole && self.asked.call == Call::Save && facts.taken == facts.end;
+        let end = facts.end.map(|end| end + usize::from(taken)).filter(|&end| end <= SLOTS);
+        assert_eq!(facts::end(disk), end, "the directory ends elsewhere");
     }
 
     /// Where no file had waste sectors none has any now: the new disk may go out where the old one might.

@@ -1,6 +1,7 @@
 //! Every accepted change, cut after k of the sectors that it names (document 01, "Words of demand 3"): the disk is accepted;
 //! until the last sector is written, listing, reading and start addresses answer as on the old disk; after it the disk is the
-//! new one; every other file keeps its slot and its sectors. The C layer is under test, and `paper` is asked beside it.
+//! new one; every other file keeps its slot and its sectors; and the directory ends where it ended, or one slot further where
+//! a whole save took its end. The C layer is under test, and `paper` is asked beside it.
 //!
 //! - `change`: the drawn change, the sectors it names, and what it leaves.
 //! - `after`: what a change must leave, once more from document 01.
@@ -21,12 +22,14 @@ use support::calls::{CHANGES, Call};
 use support::disks;
 use support::random::Random;
 use support::settings::{Round, Rounds};
-use support::shapes::Shape;
+use support::shapes::{Ground, Order, Shape};
 
 /// How many changes of each sort were cut, at how many places, and how many answers were compared.
 #[derive(Default)]
 struct Counts {
     changes: [usize; 7],
+    /// Saves that clear the slot behind the directory's end: in their slot's sector, and in another.
+    clearing: [usize; 2],
     /// The renames among them that alter the case of the file's own name alone.
     turned: usize,
     cuts: usize,
@@ -48,13 +51,54 @@ fn every_change_cut_anywhere() {
         }
     }
     println!(
-        "{:?}: {:?} changes, {} renames of case alone, {} cuts, {} answers",
-        CHANGES, counts.changes, counts.turned, counts.cuts, counts.answers
+        "{:?}: {:?} changes, {} renames of case alone, {:?} saves that clear a slot in the same sector and in another, {} cuts, \
+         {} answers",
+        CHANGES, counts.changes, counts.turned, counts.clearing, counts.cuts, counts.answers
     );
     assert!(
         !rounds.enough() || counts.changes.iter().chain([&counts.turned]).all(|&changes| changes >= 20),
         "too few changes were accepted"
     );
+    assert!(
+        !rounds.enough() || counts.clearing.iter().all(|&saves| saves >= 5),
+        "too few saves cleared a slot"
+    );
+}
+
+/// A save into the directory's end at the edges of sectors and tracks, cut after every sector. The slot behind holds a name,
+/// one behind a byte 0 that is 0 already, or none.
+#[test]
+fn saves_into_the_end_cut_anywhere() {
+    let mut counts = Counts::default();
+    for end in [1, 2, 3, 19, 20, 21, 22, 40, 41, 60, 61, 79, 80] {
+        for next in [[19, b'X'], [0, b'X'], [19, 0]] {
+            let random = &mut Random::new(8_700_000 + end as u64);
+            let mut disk = disks::of_shape(&ending(end), random);
+            if end < 80 {
+                disk.slot_mut(end + 1)[..2].copy_from_slice(&next);
+            }
+            let change = Change::save(&disk.image, 700, random).expect("it has room");
+            assert_eq!(change.facts.taken, Some(end));
+            assert_eq!(change.facts.cleared, (end < 80 && next[1] != 0).then_some(end + 1));
+            cut(&change, &mut counts, random);
+        }
+    }
+    println!(
+        "{:?} saves, {} cuts, {} answers",
+        counts.clearing, counts.cuts, counts.answers
+    );
+    assert_eq!(counts.clearing, [14, 10]);
+}
+
+/// A file of one sector in each slot before the end, and rubbish from it on.
+fn ending(end: usize) -> Shape {
+    Shape {
+        files: (1..end).map(|slot| (slot, 1)).collect(),
+        end: Some(end),
+        order: Order::Scattered,
+        ground: Ground::Rubbish,
+        tidy: false,
+    }
 }
 
 /// The largest save: every data sector, on a disk whose directory holds rubbish.
@@ -66,6 +110,12 @@ fn the_largest_save_cut_anywhere() {
     let change = Change::save(&disk.image, 795_591, random).expect("an empty disk takes it");
     assert_eq!(change.named.len(), 1_561);
     cut(&change, &mut Counts::default(), random);
+    // All sectors but that of a file before the end, and two of the directory.
+    let mut disk = disks::of_shape(&ending(2), random);
+    disk.slot_mut(3)[..2].copy_from_slice(b"\xffX");
+    let change = Change::save(&disk.image, 795_591 - 510, random).expect("the room is there");
+    assert_eq!((change.named.len(), &change.named[1_559..]), (1_561, &[1, 0][..]));
+    cut(&change, &mut Counts::default(), random);
 }
 
 fn cut(change: &Change, counts: &mut Counts, random: &mut Random) {
@@ -75,6 +125,7 @@ fn cut(change: &Change, counts: &mut Counts, random: &mut Random) {
     for k in places(change.named.len(), random) {
         let disk = change.cut(k);
         change.keeps_other_files(&disk);
+        change.keeps_the_end(&disk, k == change.named.len());
         if k < change.named.len() {
             counts.answers += answers.same_on(&disk);
         } else {
@@ -84,14 +135,17 @@ fn cut(change: &Change, counts: &mut Counts, random: &mut Random) {
         }
         counts.cuts += 1;
     }
+    if let (Call::Save, Some(_)) = (change.asked.call, change.facts.cleared) {
+        counts.clearing[change.facts.directory_sectors().len() - 1] += 1;
+    }
     let sort = CHANGES.iter().position(|&call| call == change.asked.call).expect("a change");
     counts.changes[sort] += 1;
     counts.turned += usize::from(change.turns_letters());
 }
 
-/// None, the first, all but the last, all, and some between.
+/// None, the first, all but the last two, all but the last, all, and some between.
 fn places(named: usize, random: &mut Random) -> Vec<usize> {
-    let mut places = vec![0, 1, named - 1, named];
+    let mut places = vec![0, 1, named.saturating_sub(2), named - 1, named];
     places.extend((0..2).map(|_| random.between(0, named)));
     places.sort_unstable();
     places.dedup();

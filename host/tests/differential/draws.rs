@@ -115,7 +115,7 @@ fn on_damaged(run: &mut Run, disk: &Disk, outcome: Outcome, title: &str, random:
     let given = (refusal(check), slot(check));
     match outcome {
         Outcome::Open => {}
-        Outcome::Accepted => assert_eq!(given, (0, 0), "{title}: must be accepted"),
+        Outcome::Accepted | Outcome::Ends(_) => assert_eq!(given, (0, 0), "{title}: must be accepted"),
         Outcome::Refused(number, slot) => assert_eq!(given, (number, slot), "{title}: another refusal follows"),
     }
     let facts = Facts::of(&disk.image);

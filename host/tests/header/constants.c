@@ -45,7 +45,7 @@ static void check_sizes(void) {
     expect(VARNUCHT_ENTRY_BYTES == 2 + 256, "bytes of an entry", 0);
     expect(VARNUCHT_LISTING_BYTES == 80 * 258, "bytes of a listing", 0);
     expect(VARNUCHT_BODY_BYTES == 510 * 1560 - 9, "bytes of a body", 0);
-    expect(VARNUCHT_SAVE_LIST_BYTES == 2 * (1560 + 1), "bytes of a save's list", 0);
+    expect(VARNUCHT_SAVE_LIST_BYTES == 2 * (1560 + 2), "bytes of a save's list", 0);
     expect(VARNUCHT_CHANGE_LIST_BYTES == 2, "bytes of another list", 0);
 }
 

@@ -10,7 +10,7 @@ const IMAGE: usize = 819_200;
 /// The save that the example makes, in memory: the new disk and the sectors named, in order.
 fn saved(old: &[u8], name: &[u8], body: &[u8]) -> (Vec<u8>, Vec<usize>) {
     let mut image = old.to_vec();
-    let mut list = vec![0; 3122];
+    let mut list = vec![0; 3124];
     let exec = [255, 255, 255];
     // Each slice is a vector or an array of its own, lent with its own length.
     let answer = unsafe {
@@ -252,8 +252,9 @@ fn a_full_device_is_no_success() {
     }
 }
 
-/// The example writes the sectors that the save names, in that order, each whole and flushed before the next. `watch.c`
-/// stands between it and the system and says each write and flush.
+/// The example writes the sectors that the save names, in that order, each whole and flushed before the next: on a blank disk,
+/// and on one where an old name behind the directory's end goes. `watch.c` stands between it and the system and says each
+/// write and flush.
 #[test]
 fn the_example_writes_in_order() {
     let folder = Folder::new("watched");
@@ -262,17 +263,21 @@ fn the_example_writes_in_order() {
     compile(Language::C, "c99", &[], &part("watch.c"), &objects[1]);
     let program = folder.file("watched");
     link(Language::C, &objects, &["-Wl,--wrap=pwrite", "-Wl,--wrap=fsync"], &program);
-    let disk = folder.write("disk", vec![0; IMAGE]);
     let body = some_bytes(3000);
     let file = folder.write("file", &body);
-    let output = run(&program, &[&disk, Path::new("TUNES"), &file]);
-    let (new, sectors) = saved(&vec![0; IMAGE], b"TUNES", &body);
-    let expected: String = sectors
-        .iter()
-        .map(|sector| format!("write 512 at {}\nflush\n", 512 * sector))
-        .collect();
-    assert!(output.status.success());
-    assert_eq!(sectors.len(), 7);
-    assert_eq!(String::from_utf8_lossy(&output.stderr), expected);
-    assert!(fs::read(&disk).expect("the disk") == new);
+    let mut old_name = saved(&vec![0; IMAGE], b"A", b"").0;
+    old_name[2 * 256..][..2].copy_from_slice(&[19, b'X']);
+    for (old, directory) in [(vec![0; IMAGE], &[0][..]), (old_name, &[1, 0])] {
+        let disk = folder.write("disk", &old);
+        let output = run(&program, &[&disk, Path::new("TUNES"), &file]);
+        let (new, sectors) = saved(&old, b"TUNES", &body);
+        let expected: String = sectors
+            .iter()
+            .map(|sector| format!("write 512 at {}\nflush\n", 512 * sector))
+            .collect();
+        assert!(output.status.success());
+        assert_eq!(sectors[6..], *directory);
+        assert_eq!(String::from_utf8_lossy(&output.stderr), expected);
+        assert!(fs::read(&disk).expect("the disk") == new);
+    }
 }

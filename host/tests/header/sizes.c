@@ -1,4 +1,5 @@
-/* The sizes that the header calls always long enough are: on the fullest disks, and there one byte less is too short. */
+/* The sizes that the header calls always long enough are: on the fullest disks, and there one byte less is too short. A save's
+ * list has room for one number more than any disk takes. */
 #include <string.h>
 
 #include "expect.h"
@@ -16,7 +17,7 @@ static uint64_t save(const uint8_t *name, size_t name_len, size_t body_len, size
 static void check_greatest_body(void) {
     memset(image, 0, sizeof image);
     expect(save(tunes, 5, VARNUCHT_BODY_BYTES + 1, sizeof list) == VARNUCHT_TOO_FEW_SECTORS, "a body too long", 0);
-    expect(save(tunes, 5, VARNUCHT_BODY_BYTES, sizeof list - 1) == VARNUCHT_BUFFER_TOO_SHORT, "a list too short", 0);
+    expect(save(tunes, 5, VARNUCHT_BODY_BYTES, 2 * 1561 - 1) == VARNUCHT_BUFFER_TOO_SHORT, "a list too short", 0);
     uint64_t answer = save(tunes, 5, VARNUCHT_BODY_BYTES, sizeof list);
     expect(varnucht_refusal(answer) == 0 && varnucht_value(answer) == 1561, "the greatest save", 0);
     expect(varnucht_read(image, sizeof image, tunes, 5, out, sizeof out - 1) == VARNUCHT_BUFFER_TOO_SHORT, "too short", 0);
@@ -25,6 +26,24 @@ static void check_greatest_body(void) {
     expect(memcmp(out, body, VARNUCHT_BODY_BYTES) == 0, "the greatest body reads back", 0);
     answer = varnucht_start(image, sizeof image, tunes, 5);
     expect(varnucht_refusal(answer) == 0 && varnucht_value(answer) == 540671, "the greatest address", 0);
+}
+
+/* A file in slot 1, the directory's end at slot 2 and an old name in slot 3, which is in another sector: that is named too,
+ * behind the data. */
+static void check_longest_list(void) {
+    static const uint8_t first[] = {'A'};
+    const size_t rest = 510 * 1559 - 9;
+    memset(image, 0, sizeof image);
+    expect(varnucht_refusal(save(first, 1, 0, 4)) == 0, "a file in slot 1", 0);
+    image[2 * 256] = VARNUCHT_KIND_CODE;
+    image[2 * 256 + 1] = 'X';
+    expect(varnucht_check(image, sizeof image) == 0, "a slot behind the end is not looked at", 0);
+    expect(save(tunes, 5, rest, 2 * 1561 - 1) == VARNUCHT_BUFFER_TOO_SHORT, "a list too short for both", 0);
+    uint64_t answer = save(tunes, 5, rest, sizeof list);
+    expect(varnucht_refusal(answer) == 0 && varnucht_value(answer) == 1561, "the longest list", 0);
+    expect(varnucht_listed(list, 1559) == 1 && varnucht_listed(list, 1560) == 0, "its last two sectors", 0);
+    expect(image[2 * 256] == 0 && image[2 * 256 + 1] == 0, "the old name is gone", 0);
+    expect(varnucht_check(image, sizeof image) == 0, "the disk is accepted", 0);
 }
 
 /* The greatest body of a kind of the Spectrum, which varnucht_open tells and a listing does not; and its greatest start. The
@@ -96,6 +115,7 @@ void check_size_limits(void) {
         body[i] = (uint8_t)(drawn() >> 32);
     }
     check_greatest_body();
+    check_longest_list();
     check_greatest_spectrum();
     check_longest_listing();
     check_other_lists();

@@ -1,6 +1,7 @@
 /* How much stack each call takes: it runs on a stack of its own, which was painted before, and the paint that is gone is
  * counted. The disks are those that make a call work longest: the greatest file, and eighty files; and for both checks the
- * greatest file with its last link but one leading back to its first sector, which is refused 10 where that comes again. */
+ * greatest file with its last link but one leading back to its first sector, which is refused 10 where that comes again. For
+ * the save also a disk whose directory ends at slot 2, with an old name behind it in another sector. */
 #define _XOPEN_SOURCE 700
 #include <stdio.h>
 #include <string.h>
@@ -14,7 +15,7 @@ static uint8_t stack[65536];
 static ucontext_t here, there;
 
 static uint8_t blank[VARNUCHT_IMAGE_BYTES], full[VARNUCHT_IMAGE_BYTES], crowded[VARNUCHT_IMAGE_BYTES];
-static uint8_t ring[VARNUCHT_IMAGE_BYTES];
+static uint8_t ring[VARNUCHT_IMAGE_BYTES], ended[VARNUCHT_IMAGE_BYTES];
 static uint8_t image[VARNUCHT_IMAGE_BYTES];
 static uint8_t body[VARNUCHT_BODY_BYTES], list[VARNUCHT_SAVE_LIST_BYTES];
 static const uint8_t name[] = {'A', '0'}, other[] = {'T', 'U', 'N', 'E', 'S'};
@@ -36,6 +37,7 @@ static void next(void) {
 static void start(void) { refusal = varnucht_refusal(varnucht_start(image, sizeof image, name, 2)); }
 static void sector(void) { refusal = varnucht_refusal(varnucht_sector(image, sizeof image, full, sizeof full, 1, 207, 10)); }
 static void saving(void) { refusal = varnucht_refusal(save(image, other, 5, 510 * 1560 - 9)); }
+static void saving_on(void) { refusal = varnucht_refusal(save(image, other, 5, 510 * 1559 - 9)); }
 static void saving_last(void) { refusal = varnucht_refusal(save(image, other, 5, 510 * 1480 - 9)); }
 static void erase(void) { refusal = varnucht_refusal(varnucht_erase(image, sizeof image, name, 2, list, 2)); }
 static void renaming(void) { refusal = varnucht_refusal(varnucht_rename(image, sizeof image, name, 2, other, 5, list, 2)); }
@@ -73,6 +75,8 @@ static void make_disks(void) {
     /* track 207 sector 9 leads to track 4 sector 1 */
     ring[1598 * 512 + 510] = 4;
     ring[1598 * 512 + 511] = 1;
+    save(ended, name, 2, 1);
+    ended[2 * 256 + 1] = 'X';
     for (unsigned i = 0; i < 80; i++) {
         uint8_t each[2] = {(uint8_t)('A' + i / 10), (uint8_t)('0' + i % 10)};
         save(crowded, each, 2, 1);
@@ -102,6 +106,7 @@ int main(void) {
     say("check", check, ring);
     say("check_release", check_release, ring);
     say("save", saving, blank);
+    say("save", saving_on, ended);
     say("save", saving_last, crowded);
     return 0;
 }

@@ -22,6 +22,8 @@ pub struct Disk {
     pub image: Vec<u8>,
     /// By rising slot.
     pub files: Vec<File>,
+    /// The first slot whose first name byte is 0; no file stands there or behind it.
+    pub end: Option<usize>,
 }
 
 pub fn draw(random: &mut Random) -> Disk {
@@ -33,6 +35,7 @@ pub fn of_shape(shape: &Shape, random: &mut Random) -> Disk {
     let mut disk = Disk {
         image: shape.ground.image(random),
         files: Vec::new(),
+        end: shape.end,
     };
     let mut free = shape.free(random);
     for &(slot, count) in &shape.files {
@@ -42,7 +45,11 @@ pub fn of_shape(shape: &Shape, random: &mut Random) -> Disk {
     }
     for slot in 1..=SLOTS {
         if disk.files.iter().all(|file| file.slot != slot) {
-            disk.rubbish(slot, random);
+            if disk.reads(slot) {
+                disk.rubbish(slot, random);
+            } else {
+                disk.unread(slot, random);
+            }
         }
     }
     disk
@@ -63,6 +70,18 @@ impl Disk {
 
     pub fn link(&mut self, bit: usize, next: [u8; 2]) {
         self.sector_mut(bit)[PAYLOAD..].copy_from_slice(&next);
+    }
+
+    /// Whether this slot stands before the directory's end.
+    pub fn reads(&self, slot: usize) -> bool {
+        self.end.is_none_or(|end| slot < end)
+    }
+
+    /// The slots before the end that are erased now.
+    pub fn erased(&self) -> Vec<usize> {
+        (1..=SLOTS)
+            .filter(|&slot| self.reads(slot) && self.slot(slot)[0] == 0)
+            .collect()
     }
 
     pub fn names(&self) -> Vec<Name> {
@@ -156,13 +175,47 @@ impl Disk {
         }
     }
 
-    /// An erased slot: byte 0 is 0, and behind it stands anything, a live slot's bytes too.
+    /// An erased slot: byte 0 is 0, the first name byte is not, and behind them stands anything, a live slot's bytes too.
     fn rubbish(&mut self, slot: usize, random: &mut Random) {
-        if random.one_in(3) && !self.files.is_empty() {
+        if random.one_in(3) {
+            self.copy_of_a_file(slot, random);
+        }
+        let bytes = self.slot_mut(slot);
+        bytes[0] = 0;
+        if bytes[fields::NAME] == 0 {
+            bytes[fields::NAME] = random.between(1, 255) as u8;
+        }
+    }
+
+    /// A slot at the directory's end or behind it: anything, such as a live slot's bytes, whole, erased or damaged, which would
+    /// be refused if they were read. The end itself has no name.
+    fn unread(&mut self, slot: usize, random: &mut Random) {
+        let ground = random.below(5);
+        if ground > 1 {
+            self.copy_of_a_file(slot, random);
+        }
+        let end = self.end == Some(slot);
+        let bytes = self.slot_mut(slot);
+        match ground {
+            0 => random.fill(bytes),
+            2 => bytes[0] = 0,
+            3 => {
+                let (from, length) = (random.below(2), random.pick(&[1, 14, 100]));
+                random.fill(&mut bytes[from..][..length]);
+            }
+            _ => {}
+        }
+        if end {
+            bytes[fields::NAME] = 0;
+        }
+    }
+
+    /// A file's slot once more in this slot, where there is a file.
+    fn copy_of_a_file(&mut self, slot: usize, random: &mut Random) {
+        if !self.files.is_empty() {
             let from = slot_place(self.files[random.below(self.files.len())].slot);
             self.image.copy_within(from..from + SLOT, slot_place(slot));
         }
-        self.slot_mut(slot)[0] = 0;
     }
 }
 

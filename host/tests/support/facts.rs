@@ -2,7 +2,7 @@
 //! image gives what its bytes happen to say.
 
 use super::fields;
-use super::geometry::{BITS, SLOT, SLOTS, bit_of, bit_place, number, slot_place};
+use super::geometry::{BITS, SLOT, SLOTS, bit_of, bit_place, number, sectors_for, slot_place, slot_sector};
 use super::names::{self, Name};
 
 pub struct Live {
@@ -18,16 +18,25 @@ pub struct Live {
 
 pub struct Facts {
     pub live: Vec<Live>,
-    /// Names that stand in erased slots.
+    /// Names that stand in erased slots, and from the directory's end on.
     pub erased: Vec<Name>,
     pub free: usize,
+    /// The first slot whose first name byte is 0: the directory's end.
+    pub end: Option<usize>,
+    /// The slot that a save takes: the lowest erased one before the end, else the end.
+    pub taken: Option<usize>,
+    /// The next slot, where a save clears it.
+    pub cleared: Option<usize>,
 }
 
 impl Facts {
     /// The image has the length of a disk.
     pub fn of(image: &[u8]) -> Facts {
         let slots = || (1..=SLOTS).map(|slot| (slot, &image[slot_place(slot)..][..SLOT]));
-        let live = slots().filter(|(_, bytes)| bytes[0] != 0).map(|(slot, bytes)| Live {
+        let end = end(image);
+        let read = |slot: usize| end.is_none_or(|end| slot < end);
+        let live = slots().filter(|&(slot, bytes)| read(slot) && bytes[0] != 0);
+        let live = live.map(|(slot, bytes)| Live {
             slot,
             name: fields::name(bytes),
             kind: fields::kind(bytes),
@@ -35,14 +44,32 @@ impl Facts {
             length: length(image, bytes),
             sectors: fields::bits(bytes).into_iter().map(|bit| number(bit_place(bit))).collect(),
         });
-        let erased = slots()
-            .filter(|(_, bytes)| bytes[0] == 0)
-            .map(|(_, bytes)| fields::name(bytes));
+        let live: Vec<Live> = live.collect();
+        let erased = slots().filter(|&(slot, bytes)| !read(slot) || bytes[0] == 0);
+        let taken = slots().find(|(_, bytes)| bytes[0] == 0 || bytes[fields::NAME] == 0);
+        let taken = taken.map(|(slot, _)| slot);
+        let named = |slot: &usize| image[slot_place(*slot) + fields::NAME] != 0;
+        let next = taken.filter(|&slot| Some(slot) == end && slot < SLOTS).map(|end| end + 1);
         Facts {
-            live: live.collect(),
-            erased: erased.collect(),
-            free: BITS - used(image),
+            free: BITS - used(&live),
+            live,
+            erased: erased.map(|(_, bytes)| fields::name(bytes)).collect(),
+            end,
+            taken,
+            cleared: next.filter(named),
         }
+    }
+
+    /// The directory's sectors that a save changes, in the order of writing; one where no slot is left.
+    pub fn directory_sectors(&self) -> Vec<usize> {
+        let saved = slot_sector(self.taken.unwrap_or(SLOTS));
+        let before = self.cleared.map(slot_sector).filter(|&sector| sector != saved);
+        before.into_iter().chain([saved]).collect()
+    }
+
+    /// How many sectors a save of a body of this length changes.
+    pub fn save_sectors(&self, length: usize) -> usize {
+        sectors_for(length) + self.directory_sectors().len()
     }
 
     /// The live slot that a name asked for finds, capitals or not.
@@ -66,14 +93,15 @@ fn length(image: &[u8], slot: &[u8]) -> usize {
     }
 }
 
-/// How many bits the live maps have together.
-fn used(image: &[u8]) -> usize {
-    let mut used = [0_u8; fields::MAP_BYTES];
-    for slot in 1..=SLOTS {
-        let bytes = &image[slot_place(slot)..][..SLOT];
-        if bytes[0] != 0 {
-            used.iter_mut().zip(&bytes[fields::MAP..]).for_each(|(all, map)| *all |= map);
-        }
-    }
-    used.iter().map(|byte| byte.count_ones() as usize).sum()
+/// The first slot whose first name byte is 0.
+pub fn end(image: &[u8]) -> Option<usize> {
+    (1..=SLOTS).find(|&slot| image[slot_place(slot) + fields::NAME] == 0)
+}
+
+/// How many sectors the live maps have together.
+fn used(live: &[Live]) -> usize {
+    let mut used: Vec<usize> = live.iter().flat_map(|live| live.sectors.iter().copied()).collect();
+    used.sort_unstable();
+    used.dedup();
+    used.len()
 }

@@ -22,6 +22,11 @@ pub fn slot_place(slot: usize) -> usize {
     (slot - 1) / 20 * 10_240 + (slot - 1) % 20 * SLOT
 }
 
+/// The number of the sector that holds slot 1 to 80.
+pub fn slot_sector(slot: usize) -> usize {
+    number(slot_place(slot))
+}
+
 /// Track and sector of a map bit.
 pub fn address(bit: usize) -> [u8; 2] {
     let track = if bit < 760 { 4 + bit / 10 } else { 128 + (bit - 760) / 10 };

@@ -1,11 +1,11 @@
-//! What the tests of the C layer share. Everything here is written from document 01 alone: neither the library nor the crate
-//! `paper` is used to draw a disk, so that a drawn disk is a third opinion.
+//! What the tests of the C layer share. Everything here is written from documents 01 and 02 alone: neither the library nor the
+//! crate `paper` is used to draw a disk, so that a drawn disk is a third opinion.
 //!
 //! - `random`, `settings`: numbers from a seed; which seeds and how many rounds.
 //! - `geometry`, `fields`: where sectors and slots stand in an image; where the fields of a slot stand.
 //! - `names`, `disks`, `shapes`: drawn disks that the rules accept.
 //! - `waste`: sectors behind a file that its length does not need, and what the check before a release says of them.
-//! - `damage`: one fault put into a drawn disk, with the refusal that follows from it.
+//! - `damage`: one fault put into a drawn disk, with the refusal that follows from it, or none where the directory ends before.
 //! - `calls`: one request, asked of the C layer and of `paper`.
 //! - `compare`: the same request to both, with every buffer compared at return.
 //! - `margins`, `guarded`: two ways to lend the buffers to the C layer.

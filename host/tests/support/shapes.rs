@@ -7,6 +7,8 @@ use super::random::Random;
 pub struct Shape {
     /// The live slots, rising, with the sectors of each.
     pub files: Vec<(usize, usize)>,
+    /// The directory's end, behind every live slot; none where every slot has a name.
+    pub end: Option<usize>,
     pub order: Order,
     pub ground: Ground,
     /// Whether every carried file has no more sectors than it needs.
@@ -21,7 +23,7 @@ pub enum Order {
     Falling,
 }
 
-/// What stands in unused sectors, erased slots and bytes that no rule reads.
+/// What stands in unused sectors, erased and unread slots and bytes that no rule reads.
 #[derive(Clone, Copy)]
 pub enum Ground {
     Clear,
@@ -43,7 +45,9 @@ impl Shape {
     /// So many files that have so many sectors together.
     pub fn with(live: usize, sectors: usize, random: &mut Random) -> Shape {
         let counts = parts(live, sectors, random);
-        let files = slots(live, random).into_iter().zip(counts).collect();
+        let slots = slots(live, random);
+        let end = end(slots.last().copied().unwrap_or(0), random);
+        let files = slots.into_iter().zip(counts).collect();
         let order = random.pick(&[Order::Scattered, Order::Scattered, Order::Rising, Order::Falling]);
         let ground = match random.below(5) {
             0 => Ground::Clear,
@@ -52,6 +56,7 @@ impl Shape {
         };
         Shape {
             files,
+            end,
             order,
             ground,
             tidy: random.one_in(4),
@@ -98,16 +103,32 @@ fn sectors(live: usize, random: &mut Random) -> usize {
     }
 }
 
+/// The lowest slots, the highest, or any: of all, or of as many as there are files and a few more.
 fn slots(live: usize, random: &mut Random) -> Vec<usize> {
+    let few = (live + random.below(4)).min(SLOTS);
     let mut slots: Vec<usize> = (1..=SLOTS).collect();
-    match random.below(4) {
-        0 => {}
-        1 => slots.reverse(),
+    match random.below(6) {
+        0 | 1 => {}
+        2 => slots.reverse(),
+        3 => random.shuffle(&mut slots[..few]),
         _ => random.shuffle(&mut slots),
     }
     slots.truncate(live);
     slots.sort_unstable();
     slots
+}
+
+/// Where the directory ends behind its last live slot: directly, anywhere, at the edges of sectors and tracks, or not at all.
+fn end(last: usize, random: &mut Random) -> Option<usize> {
+    let behind: Vec<usize> = (last + 1..=SLOTS).collect();
+    let edges: Vec<usize> = [1, 2, 20, 21, 80].into_iter().filter(|&end| end > last).collect();
+    match random.below(6) {
+        _ if behind.is_empty() => None,
+        0 => None,
+        1 => Some(random.pick(&behind)),
+        2 if !edges.is_empty() => Some(random.pick(&edges)),
+        _ => Some(last + 1),
+    }
 }
 
 /// `sectors` given out to `live` files, at least one to each: anyhow, or all that is over to one file.

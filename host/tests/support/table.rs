@@ -4,7 +4,7 @@
 pub const TABLE: [(u8, &str); 23] = [
     (1, "the image is not 819,200 bytes"),
     (2, "the kind is not known"),
-    (3, "the first name byte is 0"),
+    (3, "the first name byte is 0 (given no more)"),
     (4, "the count is not 1 to 1,560"),
     (5, "the map's set bits are not as many as the count"),
     (6, "the first address is not a data sector, or its bit is clear"),
@@ -19,7 +19,7 @@ pub const TABLE: [(u8, &str); 23] = [
     (15, "no live slot has the name, capitals or not"),
     (16, "a live slot has the new name, capitals or not"),
     (17, "protected (erase, rename)"),
-    (18, "no slot has byte 0 zero (save)"),
+    (18, "no slot before the end is erased and there is no end (save)"),
     (19, "fewer free sectors than the save takes"),
     (20, "a lent output buffer is too short"),
     (21, "no such drive, track or sector"),

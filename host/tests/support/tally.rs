@@ -9,7 +9,7 @@ pub struct Tally([[usize; 1 + MOST]; CALLS.len()]);
 /// The greatest number of refusal.
 const MOST: usize = 25;
 
-/// The numbers that a call can give, by document 01's table and document 02; 0 for an accepted request.
+/// The numbers that a call can give, by document 01's table and document 02; 0 for an accepted request. 3 is given no more.
 pub fn possible(call: Call) -> Vec<u8> {
     let own: &[u8] = match call {
         Call::Check => &[],
@@ -25,7 +25,8 @@ pub fn possible(call: Call) -> Vec<u8> {
         Call::Rename => &[12, 15, 16, 17, 20],
         Call::Hide | Call::Show | Call::Protect | Call::Release => &[12, 15, 20],
     };
-    (0..=11).chain([25]).chain(own.iter().copied()).collect()
+    let disk = (0..=11).filter(|&number| number != 3).chain([25]);
+    disk.chain(own.iter().copied()).collect()
 }
 
 impl Tally {

@@ -2,12 +2,13 @@
 //! the slots and from what the first check says.
 
 use super::calls::{refusal, slot};
+use super::facts;
 use super::fields;
 use super::geometry::{PAYLOAD, SLOT, SLOTS, slot_place};
 
 /// The lowest live slot of a carried kind that could do with one sector less, whatever else is wrong with it.
 pub fn lowest(image: &[u8]) -> Option<usize> {
-    (1..=SLOTS).find(|&slot| {
+    (1..facts::end(image).unwrap_or(SLOTS + 1)).find(|&slot| {
         let bytes = &image[slot_place(slot)..][..SLOT];
         let spare = PAYLOAD * fields::count(bytes).saturating_sub(1);
         bytes[0] != 0 && fields::is_carried(fields::kind(bytes)) && spare >= fields::HEADER + fields::length(bytes)

@@ -4,7 +4,7 @@
 use super::asking::{self, Asked};
 use super::calls::{BODY, Call, EXEC, INFO, NAME, OUT};
 use super::facts::Facts;
-use super::geometry::{BITS, fills, sectors_for};
+use super::geometry::{BITS, fills};
 use super::names;
 use super::random::Random;
 
@@ -22,7 +22,7 @@ pub fn good(facts: &Facts, random: &mut Random) -> Asked {
     let name = fresh(facts, random);
     let body = body(body_length(facts.free, random), random);
     // The list may be longer than is needed.
-    let list = 2 * (sectors_for(body.len()) + 1) + random.pick(&[0, 0, 1, 2, 7]);
+    let list = 2 * facts.save_sectors(body.len()) + random.pick(&[0, 0, 1, 2, 7]);
     let (exec, info) = (random.below(6), random.below(15));
     let mut asked = Asked::new(Call::Save)
         .with(NAME, name)
@@ -99,7 +99,7 @@ fn spoil(asked: &mut Asked, facts: &Facts, random: &mut Random) {
         1 => asked.slices[NAME] = asking::new_name(facts, random),
         2 => asked.numbers[1] = random.pick(&[32, 33, 64, 255, 256, 1 << 16, 1 << 31, u32::MAX]),
         3 => asked.numbers[2] = random.pick(&[0, 1, 32_767, 49_152, 65_535, 65_536 + 32_768, 1 << 31, u32::MAX]),
-        4 => asked.slices[OUT] = asking::list(sectors_for(asked.slices[BODY].len()) + 1, random),
+        4 => asked.slices[OUT] = asking::list(facts.save_sectors(asked.slices[BODY].len()), random),
         5 => asked.slices[NAME] = asking::taken_name(facts, random).unwrap_or_default(),
         _ => {
             let length = random.pick(&[fills(facts.free.max(1)) + 1, fills(BITS), fills(BITS) + 1, 900_000]);

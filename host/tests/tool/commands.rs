@@ -10,19 +10,53 @@ fn check_accepts_and_refuses() {
     let image = folder.image(&disk(&[("ONE", 10)]));
     assert_eq!(on("check", &image, NONE).done(), "accepted\n");
     let mut bytes = fs::read(&image).unwrap();
-    bytes[1] = 0;
+    bytes[0] = 13;
     fs::write(&image, &bytes).unwrap();
-    on("check", &image, NONE).fails(1, "disk.mgt: refusal 3 at slot 1: the first name byte is 0\n");
+    on("check", &image, NONE).fails(1, "disk.mgt: refusal 2 at slot 1: the kind is not known\n");
     for command in ["list", "map"] {
-        on(command, &image, NONE).fails(1, "refusal 3 at slot 1");
+        on(command, &image, NONE).fails(1, "refusal 2 at slot 1");
     }
     // The disk's refusals come before those of the request, whatever is wrong with that.
-    on("erase", &image, ["ONE"]).fails(1, "disk.mgt: refusal 3 at slot 1");
-    on("erase", &image, [""]).fails(1, "disk.mgt: refusal 3 at slot 1");
-    on("hide", &image, ["", "--dry-run"]).fails(1, "disk.mgt: refusal 3 at slot 1");
-    on("read", &image, [""]).fails(1, "disk.mgt: refusal 3 at slot 1");
-    on("save", &image, ["", "/dev/null", "--kind", "5", "--page", "32"]).fails(1, "disk.mgt: refusal 3 at slot 1");
+    on("erase", &image, ["ONE"]).fails(1, "disk.mgt: refusal 2 at slot 1");
+    on("erase", &image, [""]).fails(1, "disk.mgt: refusal 2 at slot 1");
+    on("hide", &image, ["", "--dry-run"]).fails(1, "disk.mgt: refusal 2 at slot 1");
+    on("read", &image, [""]).fails(1, "disk.mgt: refusal 2 at slot 1");
+    on("save", &image, ["", "/dev/null", "--kind", "5", "--page", "32"]).fails(1, "disk.mgt: refusal 2 at slot 1");
     assert_eq!(fs::read(&image).unwrap(), bytes);
+}
+
+/// Old bytes from the directory's end on are not looked at, and a save there clears the name that would come back.
+#[test]
+fn a_directory_that_ends() {
+    let folder = Folder::new();
+    let mut image = disk(&[("ONE", 10), ("TWO", 1_000), ("THREE", 0)]).into_image();
+    let bytes = image.as_bytes_mut();
+    bytes[3 * 256..20 * 256].fill(99);
+    bytes[3 * 256 + 1] = 0; // slot 4 was never used
+    let image = folder.file("disk.mgt", image.as_bytes());
+    assert_eq!(on("check", &image, NONE).done(), "accepted\n");
+    let last = "\n3 files, 1556 sectors free: room for a file of 793551 bytes\n";
+    assert!(on("list", &image, NONE).done().ends_with(last));
+    let planned = "\
+number  track  sector
+    84      4       5
+     2      0       3
+     1      0       2
+3 sectors would be written, in this order; nothing is written
+";
+    assert_eq!(on("save", &image, ["FOUR", "/dev/null", "--dry-run"]).done(), planned);
+    assert_eq!(
+        on("save", &image, ["FOUR", "/dev/null"]).done(),
+        "saved FOUR: 3 sectors written\n"
+    );
+    let bytes = fs::read(&image).unwrap();
+    assert_eq!(bytes[4 * 256..][..3], [0, 0, 99]);
+    let last = "\n4 files, 1555 sectors free: room for a file of 793041 bytes\n";
+    assert!(on("list", &image, NONE).done().ends_with(last));
+    assert_eq!(
+        on("save", &image, ["FIVE", "/dev/null"]).done(),
+        "saved FIVE: 2 sectors written\n"
+    );
 }
 
 /// A disk with the files ONE and TWO, of which TWO says in its slot and in its header that it has so many bytes.
@@ -52,7 +86,7 @@ fn check_before_a_release() {
     }
     // What else is wrong behind it does not hide it; then the file is not named.
     let mut bytes = shortened(1);
-    bytes[512] = 63;
+    bytes[512..514].copy_from_slice(&[63, b'X']);
     let image = folder.file("disk.mgt", &bytes);
     on("check", &image, NONE).fails(1, "disk.mgt: refusal 2 at slot 3: ");
     on("check", &image, ["--release"]).fails(1, &format!("disk.mgt: {words}\n"));
@@ -358,7 +392,8 @@ fn save_is_refused_in_the_papers_order() {
     assert!(fs::read(&image).unwrap() == before);
     let full: Vec<(String, usize)> = (1..=80).map(|number| (format!("FILE{number}"), 0)).collect();
     let image = folder.image(&disk(&full));
-    on("save", &image, ["MORE", "/dev/null"]).fails(1, "refusal 18: no slot has byte 0 zero (save)\n");
+    on("save", &image, ["MORE", "/dev/null"])
+        .fails(1, "refusal 18: no slot before the end is erased and there is no end (save)\n");
 }
 
 #[test]

@@ -83,7 +83,7 @@ fn numbers(list: &[u8], many: usize) -> Vec<usize> {
 
 /// The disk after a save, and the sectors named.
 pub fn save(old: &[u8], wish: &Wish) -> (Vec<u8>, Vec<usize>) {
-    let (mut image, mut list) = (old.to_vec(), vec![0; 3122]);
+    let (mut image, mut list) = (old.to_vec(), vec![0; 3124]);
     let answer = unsafe {
         raw::varnucht_save(
             image.as_mut_ptr(),

@@ -27,7 +27,7 @@ impl Scene {
         let draw = Draw::new(seed);
         let mut scene = Scene {
             folder,
-            image: vec![0; 819_200],
+            image: old_directory(),
             bodies: BTreeMap::new(),
             draw,
             named: 0,
@@ -259,6 +259,16 @@ impl Drop for Scene {
     fn drop(&mut self) {
         let _ = fs::remove_dir_all(&self.folder);
     }
+}
+
+/// A disk with no file: its directory ends at slot 1, and every slot behind holds old bytes, so that saves clear names.
+fn old_directory() -> Vec<u8> {
+    let mut image = vec![0; 819_200];
+    for track in 0..4 {
+        image[track * 10_240..][..5_120].fill(99);
+    }
+    image[1] = 0;
+    image
 }
 
 fn borrowed(words: &[String]) -> Vec<&str> {

@@ -1,13 +1,64 @@
--- `directory::slots_read` meets its contract.
-use mathlib.Core.Path.{refl}
+-- `directory::slots_read` meets its contract: the end is that of the slots from `i` on.
+use Prim.Native.Nat.{_-_, _≤_}
+use mathlib.Core.Path.{_≡_, sym}
 use native.Mathlib.Omega.{arith}
-use Rattle.directory.specs.Directory.{slotsRead}
+use Rattle.refusals.specs.Order.{sweepFrom}
+use Rattle.directory.specs.Places.{slots}
+use Rattle.directory.specs.Directory.{endAt, endOf}
+use Rattle.directory.proofs.Ends.{end-start, end-past, end-here, end-on}
+use borrow.Author.Needs.{needs}
 use Rattle.directory.proofs.slots_read.Statement.{statement}
 use Rattle.directory.proofs.slots_read.Tie as tie
 
-returns : tie.Need-returns
-unfolding slotsRead
-returns c = (refl, omega arith)
+abbrev Inv-loop : tie.InvT-loop
+Inv-loop dir i₀ i = (i ≤ slots) × (endOf dir ≡ sweepFrom (slots - i) i (endAt dir))
+
+abbrev μ-loop : tie.MeasureT-loop
+μ-loop dir i₀ i = slots - i
+
+loop-holds : tie.Need-loop-holds Inv-loop μ-loop
+loop-holds c = (omega arith, end-start _)
+
+slot-at-requires : tie.Need-slot-at-requires Inv-loop μ-loop
+slot-at-requires c κs = search needs
+
+is-nameless-requires : tie.Need-is-nameless-requires Inv-loop μ-loop
+is-nameless-requires c κs = search needs
+
+returns : tie.Need-returns Inv-loop μ-loop
+returns c =
+    let s = c .before .before in
+    let l = s .before in
+    let a = l .before .loop in
+    (sym (end-here _ (a .i) (a .inv .1) (omega (arith, l .loop-test .taken)) (s .slot-at .ensures) (c .before .is-nameless .ensures) (c .if1 .taken)), omega (arith, l .loop-test .taken))
+
+add-i : tie.Need-add-i Inv-loop μ-loop
+add-i c = search needs
+
+loop-less : tie.Need-loop-less Inv-loop μ-loop
+loop-less c = search needs
+
+loop-again : tie.Need-loop-again Inv-loop μ-loop
+loop-again c =
+    let s = c .before .before in
+    let l = s .before in
+    let a = l .before .loop in
+    (omega (arith, l .loop-test .taken), end-on _ (a .i) (a .inv .1) (omega (arith, l .loop-test .taken)) (s .slot-at .ensures) (c .before .is-nameless .ensures) (c .if1 .left))
+
+returns-2 : tie.Need-returns-2 Inv-loop μ-loop
+returns-2 c = let a = c .before .loop in (sym (end-past _ (a .i) (a .inv .1) (omega (arith, c .loop-test .left))), omega arith)
 
 pub slots-read-spec : {M : Type 1} → statement M
-slots-read-spec = tie.close (tie.spec returns)
+slots-read-spec =
+    tie.close
+    (tie.spec
+    Inv-loop
+    μ-loop
+    loop-holds
+    slot-at-requires
+    is-nameless-requires
+    returns
+    add-i
+    loop-less
+    loop-again
+    returns-2)

@@ -9,7 +9,8 @@ use Rattle.refusals.specs.Answers.{replyOf}
 use Rattle.refusals.proofs.First.{sweep-start, sweep-skip, sweep-stop}
 use Rattle.directory.specs.Places.{slots}
 use Rattle.directory.specs.Directory.{slotsRead, directory, liveAmong}
-use Rattle.directory.proofs.Live.{read-most, met-live, met-dead, among-none, among-live, among-dead, among-seen, among-read}
+use Rattle.directory.proofs.Ends.{read-most}
+use Rattle.directory.proofs.Live.{met-live, met-dead, among-none, among-live, among-dead, among-seen, among-read}
 use Rattle.disk.specs.Look.{look}
 use Rattle.disk.specs.Check.{chainAt}
 use Rattle.disk.proofs.Look.{chain-met, chain-none, chain-rest}

@@ -4,7 +4,8 @@ use native.Mathlib.Omega.{arith}
 use denote.Ref.{now}
 use Rattle.directory.specs.Places.{slots}
 use Rattle.directory.specs.Directory.{slotsRead}
-use Rattle.directory.proofs.Live.{read-most, met-live, met-dead}
+use Rattle.directory.proofs.Ends.{read-most}
+use Rattle.directory.proofs.Live.{met-live, met-dead}
 use Rattle.files.proofs.Listed.{Listed, listed-none, listed-more, listed-same, listed-long, listed-next, listed-end}
 use borrow.Author.Needs.{needs}
 use Rattle.files.proofs.list_into.Statement.{statement}

@@ -1,8 +1,10 @@
 -- `saves::save_at` meets its contract: each way out has the tests that led there.
 use mathlib.Core.Path.{refl}
 use denote.Ref.{now}
+use Prim.Native.Nat.{_<_}
+use Rattle.directory.specs.Places.{slots}
 use Rattle.slots.specs.Slot.{sectorsFor}
-use Rattle.saves.proofs.Planned.{save-few, save-large, save-short, savable, save-done}
+use Rattle.saves.proofs.Planned.{place-few, save-few, save-large, save-short, savable, save-done}
 use borrow.Author.Needs.{needs}
 use Rattle.saves.proofs.save_at.Statement.{statement}
 use Rattle.saves.proofs.save_at.Tie as tie
@@ -28,14 +30,32 @@ returns-2 : tie.Need-returns-2
 unfolding sectorsFor
 returns-2 c = save-few _ _ _ _ _ _ _ _ _ (c .before .before .before .before .before .before .before .before .before .before .pre) _ (c .before .before .free-of .ensures) (c .before .if2 .taken) _ (c .no2 .ensures)
 
+-- the slot is one of the directory's
+slot-few : (c : tie.Else2) → c .before .before .before .before .before .before .before .before .before .args .i < slots
+slot-few c = let s = c .before .before .before .before .before .before .before .before .before in place-few _ _ _ (now (s .args .exec)) (now (s .args .info)) (now (s .args .body)) _ (s .pre .place)
+
+has-old-name-requires : tie.Need-has-old-name-requires
+has-old-name-requires c κs = slot-few (c .before)
+
+dir-count-requires : tie.Need-dir-count-requires
+dir-count-requires c κs = slot-few (c .before .before)
+
+add-named : tie.Need-add-named
+add-named c = search needs
+
 no-requires-3 : tie.Need-no-requires-3
 no-requires-3 c κs = search needs
+
+same-length : tie.Need-same-length
+same-length c = search needs
 
 returns-3 : tie.Need-returns-3
 unfolding sectorsFor
 returns-3 c =
-    let e = c .before .before in
-    save-short _ _ _ _ _ _ _ _ _ (e .before .before .before .before .before .before .before .before .before .pre) _ (e .before .free-of .ensures) _ refl (e .if2 .left) (c .before .if3 .taken) _ (c .no3 .ensures)
+    let k = c .before .before in
+    let o = k .before in
+    let e = o .before .before in
+    save-short _ _ _ _ _ _ _ _ _ (e .before .before .before .before .before .before .before .before .before .pre) _ (e .before .free-of .ensures) _ refl (e .if2 .left) _ (o .has-old-name .ensures) _ (k .dir-count .ensures .0) (c .before .if3 .taken) _ (c .no3 .ensures)
 
 slice-aggregate-write-save : tie.Need-slice-aggregate-write-save
 slice-aggregate-write-save c = search needs
@@ -43,25 +63,28 @@ slice-aggregate-write-save c = search needs
 write-save-requires : tie.Need-write-save-requires
 unfolding sectorsFor
 write-save-requires c κs =
-    let e = c .before .before .before .before in
-    let s = e .before .before .before .before .before .before .before .before .before .before in
-    savable _ _ _ _ (now (s .args .name)) (now (s .args .exec)) (now (s .args .info)) _ _ (s .pre) _ (e .before .before .free-of .ensures) _ refl (e .before .if2 .left) (e .if3 .left)
-
-add-t12 : tie.Need-add-t12
-add-t12 c = search needs
-
-same-length : tie.Need-same-length
-same-length c = search needs
+    let t = c .before .before .before .before in
+    let k = t .before in
+    let o = k .before in
+    let e = o .before .before in
+    let s = e .before .before .before .before .before .before .before .before .before in
+    savable _ _ _ _ (now (s .args .name)) (now (s .args .exec)) (now (s .args .info)) _ _ (s .pre) _ (e .before .free-of .ensures) _ refl (e .if2 .left) _ (o .has-old-name .ensures) _ (k .dir-count .ensures .0) (t .if3 .left)
 
 same-length-2 : tie.Need-same-length-2
 same-length-2 c = search needs
+
+same-length-3 : tie.Need-same-length-3
+same-length-3 c = search needs
 
 returns-4 : tie.Need-returns-4
 unfolding sectorsFor
 returns-4 c =
     let w = c .before .before .before .before in
-    let e = w .before .before .before .before .before in
-    save-done _ _ _ _ _ _ _ _ _ (e .before .before .before .before .before .before .before .before .before .before .pre) _ (e .before .before .free-of .ensures) _ refl (e .before .if2 .left) (e .if3 .left) _ _ _ (w .write-save .ensures)
+    let t = w .before .before .before .before .before in
+    let k = t .before in
+    let o = k .before in
+    let e = o .before .before in
+    save-done _ _ _ _ _ _ _ _ _ (e .before .before .before .before .before .before .before .before .before .pre) _ (e .before .free-of .ensures) _ refl (e .if2 .left) _ (o .has-old-name .ensures) _ (k .dir-count .ensures .0) (t .if3 .left) _ _ (w .write-save .ensures)
 
 pub save-at-spec : {M : Type 1} → statement M
 save-at-spec =
@@ -73,11 +96,14 @@ save-at-spec =
     free-of-requires
     no-requires-2
     returns-2
+    has-old-name-requires
+    dir-count-requires
+    add-named
     no-requires-3
+    same-length
     returns-3
     slice-aggregate-write-save
     write-save-requires
-    add-t12
-    same-length
     same-length-2
+    same-length-3
     returns-4)

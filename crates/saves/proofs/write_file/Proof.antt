@@ -1,4 +1,4 @@
--- `saves::write_file` meets its contract: the data sectors, and then the slot.
+-- `saves::write_file` meets its contract: the data sectors, no old name behind the slot, and then the slot.
 use Rattle.saves.proofs.Whole.{file-written}
 use borrow.Author.Needs.{needs}
 use Rattle.saves.proofs.write_file.Statement.{statement}
@@ -12,6 +12,9 @@ slice-aggregate-write-chain c = search needs
 
 write-chain-requires : tie.Need-write-chain-requires
 write-chain-requires c κs = search needs
+
+clear-next-requires : tie.Need-clear-next-requires
+clear-next-requires c κs = search needs
 
 slot-of-requires : tie.Need-slot-of-requires
 slot-of-requires c κs = search needs
@@ -32,9 +35,10 @@ returns : tie.Need-returns
 returns c =
     let w = c .before .before in
     let s = w .before .before .before .before in
-    let d = s .before .before .before in
+    let n = s .before .before .before in
+    let d = n .before .before .before .before in
     let h = d .before .before .before in
-    file-written _ _ _ _ _ _ _ (h .before .before .before .before .before .before .before .pre .slot) _ _ _ _ _ _ _ (h .header-of .ensures) (d .write-chain .ensures) (s .slot-of .ensures) (w .before .before .slot-place .ensures .0) (w .copy-into .ensures)
+    file-written _ _ _ _ _ _ _ _ (h .before .before .before .before .before .before .before .pre .slot) _ _ _ _ _ _ _ _ (h .header-of .ensures) (d .write-chain .ensures) (n .clear-next .ensures) (s .slot-of .ensures) (w .before .before .slot-place .ensures .0) (w .copy-into .ensures)
 
 pub write-file-spec : {M : Type 1} → statement M
 write-file-spec =
@@ -43,6 +47,7 @@ write-file-spec =
     header-of-requires
     slice-aggregate-write-chain
     write-chain-requires
+    clear-next-requires
     slot-of-requires
     slot-place-requires
     slice-aggregate-copy-into

@@ -1,11 +1,13 @@
 -- `taking::free_slot` meets its contract: the answer is that of the slots from `i` on.
 use Prim.Native.Nat.{_-_, _≤_}
-use mathlib.Core.Path.{_≡_}
+use mathlib.Core.Path.{_≡_, sym, ap, _∙_}
+use mathlib.Core.Option.{some}
 use native.Mathlib.Omega.{arith}
 use borrow.Author.Tests.{not-true, not-false}
 use Rattle.refusals.specs.Order.{sweepFrom}
+use Rattle.directory.specs.Places.{slots}
 use Rattle.directory.specs.Directory.{slotsRead, directory}
-use Rattle.directory.proofs.Live.{met-live, met-dead}
+use Rattle.directory.proofs.Live.{met-live, met-dead, directory-unread}
 use Rattle.plans.specs.Saving.{lowestSlot}
 use Rattle.taking.proofs.Placed.{emptyAt, slot-start, slot-held, slot-free, slot-none}
 use borrow.Author.Needs.{needs}
@@ -13,10 +15,10 @@ use Rattle.taking.proofs.free_slot.Statement.{statement}
 use Rattle.taking.proofs.free_slot.Tie as tie
 
 abbrev Inv-loop : tie.InvT-loop
-Inv-loop image end i₀ i = (i ≤ slotsRead image) × (lowestSlot 0 (directory image) ≡ sweepFrom (slotsRead image - i) i (emptyAt (directory image)))
+Inv-loop image end i₀ i = (i ≤ slotsRead image) × (lowestSlot 0 (directory image) ≡ sweepFrom (slots - i) i (emptyAt (directory image)))
 
 abbrev μ-loop : tie.MeasureT-loop
-μ-loop image end i₀ i = end - i
+μ-loop image end i₀ i = slots - i
 
 slots-read-requires : tie.Need-slots-read-requires Inv-loop μ-loop
 slots-read-requires c κs = search needs
@@ -48,8 +50,18 @@ loop-again c =
     let l = s .before .before .loop in
     (omega arith, slot-held _ (l .i) (l .inv .1) (omega arith) _ (met-live _ _ (s .slot-at .ensures) (c .before .is-live .ensures) (omega arith) (not-false _ (c .if1 .left))))
 
+-- the loop has come to the end
+at-end : (c : tie.After-loop Inv-loop μ-loop) → c .before .loop .i ≡ c .before .before .slots-read .result
+at-end c = let l = c .before .loop in omega arith
+
 returns-2 : tie.Need-returns-2 Inv-loop μ-loop
-returns-2 c = let l = c .before .loop in slot-none _ (l .i) (l .inv .1) (omega arith)
+returns-2 c =
+    let l = c .before .before .loop in
+    let z = at-end (c .before) in
+    ap some (sym z) ∙ slot-free _ (l .i) (l .inv .1) (omega arith) (directory-unread _ _ (omega arith))
+
+returns-3 : tie.Need-returns-3 Inv-loop μ-loop
+returns-3 c = let l = c .before .before .loop in slot-none _ (l .i) (l .inv .1) (omega (arith, at-end (c .before)))
 
 pub free-slot-spec : {M : Type 1} → statement M
 free-slot-spec =
@@ -65,4 +77,5 @@ free-slot-spec =
     returns
     loop-less
     loop-again
-    returns-2)
+    returns-2
+    returns-3)

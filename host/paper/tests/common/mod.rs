@@ -32,7 +32,7 @@ pub fn body(length: usize) -> Vec<u8> {
 }
 
 pub fn put(image: &mut [u8], name: &[u8], length: usize) -> Vec<usize> {
-    let mut list = vec![0; 2 * 1_561];
+    let mut list = vec![0; 2 * 1_562];
     let count = paper::save(image, &wish(name, &body(length)), &mut list).expect("there is room");
     numbers(&list[..2 * count])
 }

@@ -3,15 +3,17 @@
 use super::{disk, expect, save};
 use crate::support::asking::Asked;
 use crate::support::calls::{self, Call, NAME, OUT};
+use crate::support::facts::Facts;
 use crate::support::geometry::{BITS, IMAGE, fills};
 use crate::support::names;
 use crate::support::random::Random;
 
-/// Saves and reads back; the sectors taken are the data sectors and that of the directory.
+/// Saves and reads back; the sectors named are the data sectors and those of the directory.
 fn takes(image: &[u8], length: usize, sectors: usize) {
     let body = Random::new(length as u64).bytes(length);
     let left = expect(&save(body.clone()), image, 0);
-    assert_eq!(calls::value(left.answer), sectors + 1, "a body of {length} bytes");
+    let directory = Facts::of(image).directory_sectors().len();
+    assert_eq!(calls::value(left.answer), sectors + directory, "a body of {length} bytes");
     let image = left.image.expect("accepted");
     let read = Asked::new(Call::Read).with(NAME, *b"new").with(OUT, vec![0; length]);
     let left = expect(&read, &image, 0);

@@ -4,6 +4,7 @@
 mod arguments;
 mod bodies;
 mod buffers;
+mod ends;
 mod letters;
 mod names;
 mod order;
@@ -27,9 +28,9 @@ fn disk(seed: u64, files: usize, sectors: usize) -> Disk {
     disks::of_shape(&shape, random)
 }
 
-/// A save that an empty disk takes.
+/// A save that an empty disk takes, with room in its list for two sectors of the directory.
 fn save(body: Vec<u8>) -> Asked {
-    let list = vec![0x5c; 2 * (sectors_for(body.len()) + 1)];
+    let list = vec![0x5c; 2 * (sectors_for(body.len()) + 2)];
     let mut asked = Asked::new(Call::Save).with(NAME, *b"new").with(BODY, body).with(OUT, list);
     asked.numbers = [19, 1, 32_768];
     asked

@@ -1,5 +1,5 @@
 //! The order of the table: at a slot the lowest number; the lowest slot first; all slots for 2 to 9 before any for 10, 11
-//! and 25.
+//! and 25; and nothing from the directory's end on.
 
 use super::expect;
 use crate::support::asking::Asked;
@@ -35,37 +35,42 @@ fn at_one_slot() {
     let good = disk.slot(file.slot).to_vec();
     let slot = disk.slot_mut(file.slot);
     slot[0] = 63;
-    slot[fields::NAME] = 0;
+    slot[fields::NAME..fields::COUNT].copy_from_slice(&earlier.name);
     fields::set_count(slot, 0);
     fields::set_bit(slot, earlier.chain[2], true);
     slot[fields::FIRST] = 3;
     set_length(slot, fills(6) + 1);
     disk.link(file.chain[2], [3, 1]);
     disk.sector_mut(file.chain[0])[0] ^= 1;
-    type Mend = fn(&mut [u8], &[u8], &[u8]);
-    let mends: [(u8, Mend); 8] = [
-        (2, |slot, good, _| slot[0] = good[0]),
-        (3, |slot, _, name| slot[fields::NAME..fields::COUNT].copy_from_slice(name)),
-        (4, |slot, _, _| fields::set_count(slot, 5)),
-        (5, |slot, _, _| fields::set_count(slot, 6)),
-        (6, |slot, good, _| slot[fields::FIRST] = good[fields::FIRST]),
-        (7, |slot, good, _| {
-            slot[fields::PAGES..].copy_from_slice(&good[fields::PAGES..])
-        }),
-        (8, |slot, good, _| {
-            slot[fields::COUNT..].copy_from_slice(&good[fields::COUNT..])
-        }),
-        (9, |slot, good, _| slot.copy_from_slice(good)),
+    type Mend = fn(&mut [u8], &[u8]);
+    let mends: [(u8, Mend); 7] = [
+        (2, |slot, good| slot[0] = good[0]),
+        (4, |slot, _| fields::set_count(slot, 5)),
+        (5, |slot, _| fields::set_count(slot, 6)),
+        (6, |slot, good| slot[fields::FIRST] = good[fields::FIRST]),
+        (7, |slot, good| slot[fields::PAGES..].copy_from_slice(&good[fields::PAGES..])),
+        (8, |slot, good| slot[fields::COUNT..].copy_from_slice(&good[fields::COUNT..])),
+        (9, |slot, good| slot.copy_from_slice(good)),
     ];
     for (number, mend) in mends {
         given(&disk, number, 1);
-        mend(disk.slot_mut(file.slot), &good, &earlier.name);
+        without_a_name(&disk, file.slot);
+        mend(disk.slot_mut(file.slot), &good);
     }
     given(&disk, 10, 1);
+    without_a_name(&disk, file.slot);
     disk.link(file.chain[2], address(file.chain[3]));
     given(&disk, 11, 1);
+    without_a_name(&disk, file.slot);
     disk.sector_mut(file.chain[0])[0] ^= 1;
     given(&disk, 0, 1);
+}
+
+/// The same disk with a first name byte of 0 in this slot is accepted: the directory ends there.
+fn without_a_name(disk: &Disk, slot: usize) {
+    let mut ended = disk.clone();
+    ended.slot_mut(slot)[fields::NAME] = 0;
+    given(&ended, 0, 1);
 }
 
 /// The lowest slot is given, whatever its number among 2 to 9, or among 10 and 11.

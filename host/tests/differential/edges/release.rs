@@ -29,7 +29,7 @@ fn given(disk: &Disk, check: (u8, usize), release: (u8, usize)) {
 }
 
 /// The length of a file, in its slot and in its header.
-fn set_length(disk: &mut Disk, index: usize, length: usize) {
+pub fn set_length(disk: &mut Disk, index: usize, length: usize) {
     let (slot, first) = (disk.files[index].slot, disk.files[index].chain[0]);
     let (pages, remainder) = ((length / 16_384) as u8, fields::remainder(length, 0xc0));
     let bytes = disk.slot_mut(slot);
@@ -127,13 +127,16 @@ fn at_one_slot() {
     set_length(&mut disk, 1, fills(4));
     given(&disk, (9, at), (22, at));
     // The rows before 7 come before it too.
-    for (number, spoil) in [(6, fields::FIRST), (4, fields::COUNT), (3, fields::NAME), (2, 0)] {
+    for (number, spoil) in [(6, fields::FIRST), (4, fields::COUNT), (2, 0)] {
         disk.slot_mut(at)[spoil] = if number == 2 { 63 } else { 0 };
         if number == 4 {
             disk.slot_mut(at)[spoil + 1] = 0;
         }
         given(&disk, (number, at), (number, at));
     }
+    // Without a name it is the directory's end, and nothing there is seen.
+    disk.slot_mut(at)[fields::NAME] = 0;
+    given(&disk, FINE, FINE);
 }
 
 /// The lowest slot is given: what is wrong before comes first; what is wrong behind, and every chain, after it.

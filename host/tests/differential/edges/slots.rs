@@ -2,7 +2,7 @@
 
 use super::expect;
 use crate::support::asking::Asked;
-use crate::support::calls::{self, Call};
+use crate::support::calls::{self, Call, OUT};
 use crate::support::disks::Disk;
 use crate::support::fields;
 use crate::support::geometry::{BITS, address, bit_of};
@@ -50,7 +50,11 @@ fn bytes_of_the_name() {
         for byte in [0, 1, 31, 32, 126, 127, 128, 255] {
             disk.slot_mut(slot)[fields::NAME..fields::COUNT].copy_from_slice(b"~unlike it");
             disk.slot_mut(slot)[fields::NAME + at] = byte;
-            refused(&disk, if at == 0 && byte == 0 { 3 } else { 0 });
+            refused(&disk, 0);
+            // Without a first byte it is no name: the directory ends there.
+            let listing = Asked::new(Call::List).with(OUT, vec![0x5c; 3 * 258]);
+            let files = calls::value(expect(&listing, &disk.image, 0).answer);
+            assert_eq!(files, if at == 0 && byte == 0 { 1 } else { 3 });
         }
     }
 }

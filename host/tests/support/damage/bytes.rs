@@ -44,7 +44,7 @@ fn in_links(disk: &mut Disk, index: usize, random: &mut Random) -> Option<Outcom
 
 /// Byte 0 of a slot without a file made a kind: what was left behind it is then looked at.
 fn revived(disk: &mut Disk, _: usize, random: &mut Random) -> Option<Outcome> {
-    let erased: Vec<usize> = (1..=SLOTS).filter(|&slot| disk.slot(slot)[0] == 0).collect();
+    let erased = disk.erased();
     (!erased.is_empty()).then_some(())?;
     let slot = random.pick(&erased);
     disk.slot_mut(slot)[0] = random.pick(&fields::KNOWN);

@@ -3,6 +3,7 @@
 
 mod bytes;
 mod chains;
+mod ends;
 mod firsts;
 mod headers;
 mod maps;
@@ -18,13 +19,15 @@ pub enum Outcome {
     Accepted,
     /// Number and slot.
     Refused(u8, usize),
+    /// Accepted: the directory ends at this slot, and no damage behind it is seen.
+    Ends(usize),
     /// Not known beforehand: only the comparison decides.
     Open,
 }
 
 pub struct Damage {
     pub title: &'static str,
-    /// It touches one file alone, and its outcome hangs on no other file.
+    /// It touches one file alone or none, and its outcome hangs on no other file but for those behind an end that it makes.
     pub own: bool,
     /// Damages the file with this index; none, and nothing done, where that file does not allow it.
     pub apply: fn(&mut Disk, usize, &mut Random) -> Option<Outcome>,
@@ -38,6 +41,7 @@ pub fn all() -> Vec<&'static Damage> {
         maps::ALL,
         chains::ALL,
         headers::ALL,
+        ends::ALL,
         bytes::ALL,
     ]
     .concat()
@@ -89,8 +93,10 @@ fn somewhere(damage: &Damage, disk: &mut Disk, random: &mut Random) -> Option<(u
         .find_map(|index| Some((index, (damage.apply)(disk, index, random)?)))
 }
 
-/// All slots for 2 to 9 come before all slots for 10, 11 and 25; then the lowest slot, and at a slot the lowest number.
+/// All slots for 2 to 9 come before all slots for 10, 11 and 25; then the lowest slot, and at a slot the lowest number. What
+/// stands behind the directory's end is not seen.
 fn earlier(one: Outcome, other: Outcome) -> Outcome {
+    let (one, other) = (seen_before(one, other), seen_before(other, one));
     let rank = |outcome: Outcome| match outcome {
         Outcome::Refused(number, slot) => Some((number >= 10, slot, number)),
         _ => None,
@@ -106,5 +112,13 @@ fn earlier(one: Outcome, other: Outcome) -> Outcome {
         }
         (Some(_), None) => one,
         _ => other,
+    }
+}
+
+/// The outcome of a damage beside another that may end the directory before it.
+fn seen_before(outcome: Outcome, beside: Outcome) -> Outcome {
+    match (outcome, beside) {
+        (Outcome::Refused(_, slot), Outcome::Ends(end)) if slot > end => Outcome::Accepted,
+        _ => outcome,
     }
 }

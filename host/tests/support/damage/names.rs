@@ -1,4 +1,4 @@
-//! Damage to the name: numbers 3 and 9.
+//! Damage to the name: number 9, and the directory's end.
 
 use super::{Damage, Outcome};
 use crate::support::disks::Disk;
@@ -18,7 +18,7 @@ pub const ALL: &[&Damage] = &[
 fn nameless(disk: &mut Disk, index: usize, _: &mut Random) -> Option<Outcome> {
     let slot = disk.files[index].slot;
     disk.slot_mut(slot)[fields::NAME] = 0;
-    Some(Outcome::Refused(3, slot))
+    Some(Outcome::Ends(slot))
 }
 
 fn name_of_earlier(disk: &mut Disk, index: usize, random: &mut Random) -> Option<Outcome> {

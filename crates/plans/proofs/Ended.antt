@@ -1,0 +1,245 @@
+-- The directory's end: what a save writes behind it is not seen, and keeps old names from coming back.
+use Prim.Native.Nat.{ℕ, suc, _+_, _*_, _≤_, _<_}
+use mathlib.Core.Path.{_≡_, refl, sym, ap, _∙_, subst}
+use mathlib.Core.Bool.{Bool, true, false, cond, not, _&&_, true≢false}
+use mathlib.Core.List.{List, [], _∷_, _++_, append-assoc}
+use mathlib.Core.Logic.{_⊎_, inl, inr}
+use mathlib.Core.Option.{Option, none}
+use native.Mathlib.Omega.{arith}
+use borrow.Author.Tests.{ltb-true, lt-ltb, eqb-true, eqb-false, ne-eqb}
+use lib.Dec.{eqb, ltb}
+use lib.ListN.{length}
+use Rattle.buffers.specs.Bytes.{put}
+use Rattle.buffers.proofs.Lists.{part-long, put-in}
+use Rattle.buffers.proofs.Tests.{and-both}
+use Rattle.slots.specs.Slot.{isNameless}
+use Rattle.chains.specs.File.{File, sectorsOf, fileOf}
+use Rattle.directory.specs.Places.{slots, slotAt, slotBytes, dirSector}
+use Rattle.directory.specs.Directory.{isSlot, nameless, seen}
+use Rattle.directory.proofs.Places.{slot-front}
+use Rattle.directory.proofs.Ends.{seen-next, seen-agree, nameless-agree}
+use Rattle.disk.specs.Look.{Look, look}
+use Rattle.disk.specs.Sound.{Sound}
+use Rattle.steps.specs.Sectors.{listed, Once}
+use Rattle.steps.specs.Steps.{Step, putAll, enact, numbers, commits, lastOf, Inside, AllInside, Does, Goes}
+use Rattle.steps.proofs.Sectors.{listed-append, once-snoc}
+use Rattle.steps.proofs.Steps.{enact-append, goes-long, goes-append}
+use Rattle.plans.specs.Plan.{upd, slotPut, slotStep, oldName, together, noName, endPut, cleared, endSteps, endPuts, dirSectors, endStep}
+use Rattle.plans.proofs.Frame.{Reach, holds, inside-slot, there-slot, slot-new, slot-else, files-stay, slot-quiet}
+use Rattle.plans.proofs.Free.{FreeSlot}
+use Rattle.plans.proofs.Kept.{sound-long}
+
+-- ---- an old name behind a slot
+
+-- the slot has no name, and the next one exists
+pub old-is : (d : List ℕ) (i : ℕ) → oldName d i ≡ true → (nameless d i ≡ true) × (suc i < slots)
+unfolding oldName isSlot
+old-is d i e =
+    let a = and-both (nameless d i) (ltb (suc i) slots && not (nameless d (suc i))) e in
+    let b = and-both (ltb (suc i) slots) (not (nameless d (suc i))) (a .1) in
+    (a .0, ltb-true (suc i) slots (b .0))
+
+-- where there is none behind a slot without a name, the next one has no name either
+pub old-not : (d : List ℕ) (i : ℕ) → oldName d i ≡ false → nameless d i ≡ true → suc i < slots → nameless d (suc i) ≡ true
+unfolding oldName isSlot
+old-not d i e n h = by (nameless d (suc i)) refl
+  where
+    by : (t : Bool) → nameless d (suc i) ≡ t → t ≡ true
+    by true q = refl
+    by false q = absurd (true≢false (sym (rw (n, lt-ltb (suc i) slots h, q)) ∙ e))
+
+-- the slot that a save takes can be written
+pub reach-free : (d : List ℕ) (i : ℕ) → FreeSlot (look d) i → Reach d (oldName d i) i
+reach-free d i at = record { before = before; next = by (nameless d i) refl; end = old-is d i }
+  where
+    before : (j : ℕ) → j < i → seen d j ≡ true
+    before j l = let f = at .before j l in holds d j (f .0) (f .1) .read
+
+    by : (n : Bool) → nameless d i ≡ n → oldName d i ≡ false → (seen d i ≡ true) ⊎ (suc i < slots → nameless d (suc i) ≡ true)
+    by true q e = inr (old-not d i e q)
+    by false q e = inl (seen-next d i (at .below) before q)
+
+-- ---- the sectors of the directory
+
+module _ (old : Bool) (i : ℕ) where
+  -- a sector of its own behind the end
+  abbrev behind : Bool → List (Step Look)
+  behind t = cond t (record { at = dirSector (suc i); puts = endPut i; left = none } ∷ []) []
+
+  pub end-commits : commits (endSteps old i) ≡ []
+  unfolding endSteps commits
+  end-commits = by (old && not (together i))
+    where
+      by : (t : Bool) → commits (behind t) ≡ []
+      by true = refl
+      by false = refl
+
+  pub dir-numbers : (l : Look) (o : ℕ) (y : List ℕ) (f : Option File) → numbers (endSteps old i ++ (endStep old l i o y f ∷ [])) ≡ dirSectors old i
+  unfolding endSteps numbers dirSectors
+  dir-numbers l o y f = by (old && not (together i))
+    where
+      by : (t : Bool) → numbers (behind t ++ (endStep old l i o y f ∷ [])) ≡ cond t (dirSector (suc i) ∷ dirSector i ∷ []) (dirSector i ∷ [])
+      by true = refl
+      by false = refl
+
+  -- one or two
+  pub dirs-some : (1 ≤ length (dirSectors old i)) × (length (dirSectors old i) ≤ 2)
+  unfolding dirSectors
+  dirs-some = by (old && not (together i))
+    where
+      at : Bool → List ℕ
+      at t = cond t (dirSector (suc i) ∷ dirSector i ∷ []) (dirSector i ∷ [])
+
+      by : (t : Bool) → (1 ≤ length (at t)) × (length (at t) ≤ 2)
+      by true = (omega arith, omega arith)
+      by false = (omega arith, omega arith)
+
+  -- after sectors that are none of the directory's, each once
+  pub dirs-once : (xs : List ℕ) → Once xs → ((j : ℕ) → j < slots → listed (dirSector j) xs ≡ false) → i < slots → (old ≡ true → suc i < slots)
+      → Once (xs ++ dirSectors old i)
+  unfolding dirSectors together
+  dirs-once xs o u h k = by old refl (eqb (dirSector (suc i)) (dirSector i)) refl
+    where
+      last : Once (xs ++ (dirSector i ∷ []))
+      last = once-snoc xs (dirSector i) o (u i h)
+
+      by : (t : Bool) → old ≡ t → (v : Bool) → eqb (dirSector (suc i)) (dirSector i) ≡ v
+          → Once (xs ++ cond (t && not v) (dirSector (suc i) ∷ dirSector i ∷ []) (dirSector i ∷ []))
+      by true q true w = last
+      by false q v w = last
+      by true q false w =
+          subst Once (append-assoc xs (dirSector (suc i) ∷ []) (dirSector i ∷ []))
+          (once-snoc (xs ++ (dirSector (suc i) ∷ [])) (dirSector i) (once-snoc xs (dirSector (suc i)) o (u (suc i) (k q)))
+          (listed-append (dirSector i) xs (dirSector (suc i) ∷ [])
+          ∙ rw (u i h, ne-eqb (dirSector i) (dirSector (suc i)) (λ e. eqb-false (dirSector (suc i)) (dirSector i) w (sym e)))))
+
+-- ---- the disk that the steps make, of any disk: without an old name behind the slot, and with the slot's bytes
+
+module _ (old : Bool) (i : ℕ) (m : List ℕ) where
+  end-made : putAll (enact m (endSteps old i)) (endPuts old i) ≡ cleared old i m
+  unfolding endSteps endPuts enact putAll
+  end-made = by old (together i)
+    where
+      by : (t u : Bool) → putAll (enact m (behind old i (t && not u))) (cond (t && u) (endPut i) []) ≡ cleared t i m
+      by true true = refl
+      by true false = refl
+      by false u = refl
+
+  end-puts : (o : ℕ) (y : List ℕ) → putAll (enact m (endSteps old i)) (endPuts old i ++ slotPut i o y) ≡ put (cleared old i m) (slotAt i + o) y
+  unfolding endPuts putAll
+  end-puts o y = by (old && together i) ∙ ap (λ (x : List ℕ). put x (slotAt i + o) y) end-made
+    where
+      mid : List ℕ
+      mid = enact m (endSteps old i)
+
+      by : (t : Bool) → putAll mid (cond t (endPut i) [] ++ slotPut i o y) ≡ put (putAll mid (cond t (endPut i) [])) (slotAt i + o) y
+      by true = refl
+      by false = refl
+
+  pub end-enact : (l : Look) (o : ℕ) (y : List ℕ) (f : Option File) → enact m (endSteps old i ++ (endStep old l i o y f ∷ [])) ≡ put (cleared old i m) (slotAt i + o) y
+  unfolding enact
+  end-enact l o y f = enact-append (endSteps old i) (endStep old l i o y f ∷ []) m ∙ end-puts o y
+
+-- ---- the disk before the slot is written: m, and without an old name behind the end
+
+module _ (m : List ℕ) (ok : Sound (look m)) (i : ℕ) (h : i < slots) (old : Bool) (r : Reach m old i) where
+  abbrev ended : List ℕ
+  ended = cleared old i m
+
+  quiet : old ≡ true → look (put m (slotAt (suc i) + 0) noName) ≡ look m
+  quiet e = slot-quiet m (sound-long m ok) (suc i) (r .end e .1) 0 noName (omega arith) i (omega arith) (r .end e .0)
+
+  pub end-look : look (cleared old i m) ≡ look m
+  end-look = by old refl
+    where
+      by : (t : Bool) → old ≡ t → look (cleared t i m) ≡ look m
+      by true e = quiet e
+      by false e = refl
+
+  end-goes : Goes look Sound m (endSteps old i)
+  unfolding endSteps putAll
+  end-goes = by old refl (together i)
+    where
+      by : (t : Bool) → old ≡ t → (u : Bool) → Goes look Sound m (behind old i (t && not u))
+      by true e false = (
+        record {
+          there = there-slot m (sound-long m ok) (suc i) (r .end e .1) 0 noName (omega arith);
+          inside = (inside-slot m (sound-long m ok) (suc i) (r .end e .1) 0 noName (omega arith), tt);
+          sees = quiet e;
+          ok = ok;
+        },
+        tt,
+      )
+      by true e true = tt
+      by false e u = tt
+
+  -- the bytes of the slots
+  pub end-else : (j : ℕ) → (old ≡ true → j ≡ suc i → ⊥) → slotBytes (cleared old i m) j ≡ slotBytes m j
+  end-else j n = by old refl
+    where
+      by : (t : Bool) → old ≡ t → slotBytes (cleared t i m) j ≡ slotBytes m j
+      by true e = slot-else m (sound-long m ok) (suc i) (r .end e .1) 0 noName (omega arith) j (n e)
+      by false e = refl
+
+  end-next : old ≡ true → nameless (put m (slotAt (suc i) + 0) noName) (suc i) ≡ true
+  unfolding nameless
+  end-next e =
+      let l = part-long (slotAt (suc i)) 256 m (omega (arith, sound-long m ok, slot-front (suc i) (r .end e .1))) in
+      ap isNameless (slot-new m (sound-long m ok) (suc i) (r .end e .1) 0 noName (omega arith))
+      ∙ ap (λ (x : ℕ). eqb x 0) (put-in (slotBytes m (suc i)) 0 noName 1 (omega arith) (omega arith))
+
+  -- and of the data sectors
+  pub end-sectors : (x : List ℕ) → sectorsOf (cleared old i m) x ≡ sectorsOf m x
+  unfolding fileOf
+  end-sectors x = by old refl
+    where
+      by : (t : Bool) → old ≡ t → sectorsOf (cleared t i m) x ≡ sectorsOf m x
+      by true e = ap (λ (f : File). f .sectors) (files-stay m (sound-long m ok) (suc i) (r .end e .1) 0 noName (omega arith) x)
+      by false e = refl
+
+  -- the slot can be written, and behind it no old name stands
+  pub end-reach : Reach (cleared old i m) false i
+  end-reach = record { before = before; next = λ q. by old refl; end = λ q. absurd (true≢false (sym q)) }
+    where
+      same : (j : ℕ) → j ≤ i → seen ended j ≡ seen m j
+      same j l = seen-agree m ended j (λ k q. nameless-agree m ended k (end-else k (λ (t : old ≡ true). omega arith)))
+
+      before : (j : ℕ) → j < i → seen ended j ≡ true
+      before j l = same j (omega arith) ∙ r .before j l
+
+      by : (t : Bool) → old ≡ t → (seen ended i ≡ true) ⊎ (suc i < slots → nameless ended (suc i) ≡ true)
+      by true e = inr (λ l. rw e (end-next e))
+      by false e = subst (λ (x : List ℕ). (seen x i ≡ true) ⊎ (suc i < slots → nameless x (suc i) ≡ true)) (rw e) (r .next e)
+
+  -- ---- bytes put in the slot, in one step with what is put behind it in its sector
+
+  module _ (o : ℕ) (y : List ℕ) (k : o + length y ≤ 256) where
+    end-inside : AllInside (dirSector i) (endPuts old i ++ slotPut i o y)
+    unfolding endPuts together
+    end-inside = by old refl (eqb (dirSector (suc i)) (dirSector i)) refl
+      where
+        last : Inside (dirSector i) (record { place = slotAt i + o; bytes = y })
+        last = inside-slot m (sound-long m ok) i h o y k
+
+        by : (t : Bool) → old ≡ t → (u : Bool) → eqb (dirSector (suc i)) (dirSector i) ≡ u → AllInside (dirSector i) (cond (t && u) (endPut i) [] ++ slotPut i o y)
+        by true e true q = (
+          subst (λ (s : ℕ). Inside s (record { place = slotAt (suc i) + 0; bytes = noName })) (eqb-true (dirSector (suc i)) (dirSector i) q)
+              (inside-slot m (sound-long m ok) (suc i) (r .end e .1) 0 noName (omega arith)),
+          (last, tt),
+        )
+        by true e false q = (last, tt)
+        by false e u q = (last, tt)
+
+    -- they do what they say, where the slot alone does
+    pub end-then : (f : Option File) → Does look Sound (cleared old i m) (slotStep (look (cleared old i m)) i o y f) → Goes look Sound m (endSteps old i ++ (endStep old (look m) i o y f ∷ []))
+    unfolding putAll lastOf
+    end-then f x =
+        goes-append look Sound (endSteps old i) (endStep old (look m) i o y f ∷ []) m end-goes (
+          record {
+            there = subst (λ (n : ℕ). dirSector i * 512 + 512 ≤ n) (sym (goes-long (endSteps old i) m)) (there-slot m (sound-long m ok) i h o y k);
+            inside = end-inside;
+            sees = ap look (end-puts old i m o y) ∙ x .sees ∙ ap (λ (v : Look). upd v i f) end-look;
+            ok = subst (λ (v : Look). Sound (upd v i f)) end-look (x .ok);
+          },
+          tt,
+        )

@@ -1,0 +1,228 @@
+-- At every cut of a change the slots that were unread stay so, but for the one that a save writes; and where the directory ends
+-- after a save that took its end.
+use Prim.Native.Nat.{ℕ, suc, _+_, _*_, _%_, _≤_, _<_}
+use mathlib.Core.Path.{_≡_, refl, sym, ap, _∙_, subst}
+use mathlib.Core.Bool.{Bool, true, false, cond, not, _&&_, true≢false}
+use mathlib.Core.List.{List, [], _∷_, _++_, append-assoc, map}
+use mathlib.Core.Logic.{_⊎_, inl, inr, ⊎-elim}
+use mathlib.Core.Option.{none, some}
+use native.Mathlib.Nat.{eq-or-lt-of-le}
+use native.Mathlib.Omega.{arith}
+use borrow.Author.Tests.{ltb-true, ltb-false, eqb-true, eqb-false, ne-eqb, not-true}
+use lib.Dec.{eqb, ltb}
+use lib.ListN.{length, getD, take}
+use Rattle.buffers.specs.Bytes.{part}
+use Rattle.buffers.proofs.Lists.{below-or-not}
+use Rattle.buffers.proofs.Tests.{and-both}
+use Rattle.geometry.specs.Disk.{bitNumber}
+use Rattle.slots.specs.Name.{padded}
+use Rattle.chains.specs.File.{File}
+use Rattle.directory.specs.Places.{slots, slotBytes, dirSector}
+use Rattle.directory.specs.Directory.{isSlot, nameless, endOf, slotsRead, seen}
+use Rattle.directory.proofs.Places.{slots-count, data-all, dir-not-data}
+use Rattle.directory.proofs.Ends.{end-some, some-end, none-end, read-seen, unread, unseen-read, seen-is, unseen-later, unseen-past, unseen-nameless, seen-next, unread-kept}
+use Rattle.disk.specs.Look.{look, slotsOf, extra}
+use Rattle.disk.specs.Check.{checkDisk}
+use Rattle.steps.specs.Sectors.{sector, listed, cut}
+use Rattle.steps.proofs.Sectors.{listed-append, listed-before, cut-old}
+use Rattle.plans.specs.Change.{Wish, Change, save, erase, rename, mark}
+use Rattle.plans.specs.Saving.{freeBit}
+use Rattle.plans.specs.Plan.{oldName, together, dirSectors, made, run}
+use Rattle.plans.specs.Accepted.{FirstEmpty}
+use Rattle.plans.specs.After.{marking}
+use Rattle.plans.specs.Unread.{Writes, Unread, endBehind}
+use Rattle.plans.proofs.Frame.{disk-sound, upd-same, upd-other, holds, slot-half, slot-else}
+use Rattle.plans.proofs.Kept.{sound-long, usable-is}
+use Rattle.plans.proofs.Free.{run-at}
+use Rattle.plans.proofs.Ended.{reach-free}
+use Rattle.plans.proofs.Saved.{save-slots, save-next}
+use Rattle.plans.proofs.NewFile.{newFile}
+use Rattle.plans.proofs.Effect.{Touched, erasing, erased, marked-so, renamed}
+use Rattle.plans.proofs.Demand3.{crash, run-room}
+use Rattle.plans.proofs.ReadBack.{Stored, stored}
+use Rattle.plans.proofs.Exactly.{first-empty, first-one}
+use Rattle.plans.proofs.Takes.{unlisted}
+
+-- a sector that is none but the last of a list is not among the first k, fewer than all
+cut-last : (xs : List ℕ) (a k s : ℕ) → k < length (xs ++ (a ∷ [])) → listed s xs ≡ false → listed s (take k (xs ++ (a ∷ []))) ≡ false
+cut-last xs a k s h e = by (listed s (take k (xs ++ (a ∷ [])))) refl
+  where
+    by : (t : Bool) → listed s (take k (xs ++ (a ∷ []))) ≡ t → t ≡ false
+    by true q = sym (listed-before xs a k s h q) ∙ e
+    by false q = refl
+
+-- ---- what a change has to show of the end
+
+module _ (c : Change) (d new ss : List ℕ) (whole : cut d new ss (length ss) ≡ new)
+    -- its sector is not written before the last
+    (early : (k : ℕ) → k < length ss → slotsRead d < slots → listed (dirSector (slotsRead d)) (take k ss) ≡ false)
+    (after : (j : ℕ) → seen d j ≡ false → (Writes c d j → ⊥) → seen new j ≡ false) (written : (j : ℕ) → Writes c d j ⊎ (Writes c d j → ⊥)) where
+  before : (k : ℕ) → k < length ss → (j : ℕ) → seen d j ≡ false → seen (cut d new ss k) j ≡ false
+  before k h =
+      unread-kept d (cut d new ss k)
+      (λ l.
+      sym (slot-half (cut d new ss k) (slotsRead d)) ∙ ap (part (256 * (slotsRead d % 2)) 256) (cut-old d new ss k (dirSector (slotsRead d)) (early k h l))
+      ∙ slot-half d (slotsRead d))
+
+  stays : (k : ℕ) → k ≤ length ss → (j : ℕ) → seen d j ≡ false → (Writes c d j → ⊥) → seen (cut d new ss k) j ≡ false
+  stays k h j q n =
+      ⊎-elim (λ m. ap (λ (x : List ℕ). seen x j) (ap (cut d new ss) m ∙ whole) ∙ after j q n) (λ m. before k m j q) (eq-or-lt-of-le h)
+
+  unread-of : Unread c d new ss
+  unread-of = record {
+    before = before;
+    stays = stays;
+    live = λ k h j f q e.
+        ⊎-elim (λ w. w) (λ n. absurd (true≢false (sym (holds (cut d new ss k) j f e .read) ∙ stays k h j q n))) (written j);
+  }
+
+-- ---- a change of a slot that is read
+
+touch-unread : (c : Change) (d n : List ℕ) (o : ℕ) (y : File → List ℕ) (Also : ℕ → File → Type 0) (new ss : List ℕ) → checkDisk d ≡ none
+    → cut d new ss (length ss) ≡ new → (t : Touched d n o y Also new ss) → o + length (y (t .file)) ≤ 256 → ((j : ℕ) → Writes c d j → ⊥) → Unread c d new ss
+touch-unread c d n o y Also new ss ok whole t k w =
+    unread-of c d new ss whole
+    (λ m h l. subst (λ (xs : List ℕ). m < length xs → listed (dirSector (slotsRead d)) (take m xs) ≡ false) (sym (t .sectors)) (λ q. cut-last [] (dirSector (t .slot)) m (dirSector (slotsRead d)) q refl) h)
+    (λ j q z.
+    unread-kept d new
+    (λ l.
+    let r = read-seen d (t .slot) (holds d (t .slot) (t .file) (t .found .here) .read) in
+    ap (λ (x : List ℕ). slotBytes x (slotsRead d)) (t .disk)
+    ∙ slot-else d (sound-long d (disk-sound d ok)) (t .slot) (t .found .below) o (y (t .file)) k (slotsRead d) (omega arith)) j q)
+    (λ j. inr (w j))
+
+-- ---- a save
+
+module _ (d : List ℕ) (ok : checkDisk d ≡ none) (room : ℕ) (w : Wish) (new ss : List ℕ) (e : run (save w) d room ≡ made new ss) where
+  k : Stored d w new ss
+  k = stored d ok room w new ss e
+
+  abbrev i : ℕ
+  i = k .slot
+
+  taken : FirstEmpty d i
+  taken = first-empty d i (k .lowest)
+
+  written : (j : ℕ) → FirstEmpty d j ⊎ (FirstEmpty d j → ⊥)
+  written j = by (eqb j i) refl
+    where
+      by : (t : Bool) → eqb j i ≡ t → FirstEmpty d j ⊎ (FirstEmpty d j → ⊥)
+      by true q = inl (subst (FirstEmpty d) (sym (eqb-true j i q)) taken)
+      by false q = inr (λ f. eqb-false j i q (first-one d j i f taken))
+
+  before-read : (j : ℕ) → j < i → seen d j ≡ true
+  before-read j l = let f = k .lowest .before j l in holds d j (f .0) (f .1) .read
+
+  -- where the slot has no name, it is the end
+  is-end : nameless d i ≡ true → slotsRead d ≡ i
+  is-end n =
+      let a = unseen-read d i (unseen-nameless d i n) in
+      ⊎-elim (λ (h : slotsRead d < i). let z = read-seen d (slotsRead d) (before-read (slotsRead d) h) in absurd (omega arith)) (λ (h : i ≤ slotsRead d). omega arith)
+      (below-or-not (slotsRead d) i)
+
+  next-now : nameless d i ≡ true → suc i < slots → nameless new (suc i) ≡ true
+  next-now n l = ap (λ (x : List ℕ). nameless x (suc i)) (k .disk) ∙ save-next d (disk-sound d ok) i (k .lowest) w (k .bits) (k .ready) n l
+
+  after : (j : ℕ) → seen d j ≡ false → (FirstEmpty d j → ⊥) → seen new j ≡ false
+  after j q z = by (nameless d i) refl
+    where
+      by : (t : Bool) → nameless d i ≡ t → seen new j ≡ false
+      by true n =
+          let a = is-end n in
+          let b = unseen-read d j q in
+          let away : (j ≡ i → ⊥) = λ m. z (subst (FirstEmpty d) (sym m) taken) in
+          let c : suc i ≤ j = omega arith in
+          ⊎-elim (λ (l : suc i < slots). unseen-later new (suc i) j c (unseen-nameless new (suc i) (next-now n l))) (λ (l : slots ≤ suc i). unseen-past new j (omega arith))
+          (below-or-not (suc i) slots)
+      by false n =
+          let r = read-seen d i (seen-next d i (k .lowest .below) before-read n) in
+          unread-kept d new
+          (λ l.
+          ap (λ (x : List ℕ). slotBytes x (slotsRead d)) (k .disk)
+          ∙ save-slots d (disk-sound d ok) i (k .lowest) w (k .bits) (k .ready) (slotsRead d) l (omega arith)
+          (λ o. absurd (true≢false (sym (reach-free d i (k .lowest) .end o .0) ∙ n)))) j q
+
+  data-unlisted : slotsRead d < slots → listed (dirSector (slotsRead d)) (map bitNumber (k .bits)) ≡ false
+  data-unlisted l =
+      unlisted (dirSector (slotsRead d)) (k .bits)
+      (λ j h q.
+      dir-not-data 0 (getD (k .bits) j 0) (slotsRead d) (omega arith)
+      (data-all (getD (k .bits) j 0) (run-at (freeBit (extra (look d)) (slotsOf (look d))) 0 (k .bits) (k .ready .run) j h .small)) (omega (arith, slots-count)) (sym q))
+
+  early : (m : ℕ) → m < length ss → slotsRead d < slots → listed (dirSector (slotsRead d)) (take m ss) ≡ false
+  unfolding dirSectors together
+  early m h l = subst (λ (xs : List ℕ). m < length xs → listed (dirSector (slotsRead d)) (take m xs) ≡ false) (sym (k .sectors)) (by (oldName d i && not (together i)) refl) h
+    where
+      xs : List ℕ
+      xs = map bitNumber (k .bits)
+
+      apart : (oldName d i && not (together i)) ≡ true → listed (dirSector (slotsRead d)) (xs ++ (dirSector (suc i) ∷ [])) ≡ false
+      apart q =
+          let b = and-both (oldName d i) (not (together i)) q in
+          let z = is-end (reach-free d i (k .lowest) .end (b .0) .0) in
+          let n = eqb-false (dirSector (suc i)) (dirSector i) (not-true (eqb (dirSector (suc i)) (dirSector i)) (b .1)) in
+          listed-append (dirSector (slotsRead d)) xs (dirSector (suc i) ∷ [])
+          ∙ rw (data-unlisted l, ne-eqb (dirSector (slotsRead d)) (dirSector (suc i)) (λ e. n (sym e ∙ ap dirSector z)))
+
+      by : (t : Bool) → (oldName d i && not (together i)) ≡ t → m < length (xs ++ cond t (dirSector (suc i) ∷ dirSector i ∷ []) (dirSector i ∷ []))
+          → listed (dirSector (slotsRead d)) (take m (xs ++ cond t (dirSector (suc i) ∷ dirSector i ∷ []) (dirSector i ∷ []))) ≡ false
+      by true q =
+          subst (λ (ys : List ℕ). m < length ys → listed (dirSector (slotsRead d)) (take m ys) ≡ false) (append-assoc xs (dirSector (suc i) ∷ []) (dirSector i ∷ []))
+          (λ h. cut-last (xs ++ (dirSector (suc i) ∷ [])) (dirSector i) m (dirSector (slotsRead d)) h (apart q))
+      by false q = λ h. cut-last xs (dirSector i) m (dirSector (slotsRead d)) h (data-unlisted l)
+
+  save-unread : Unread (save w) d new ss
+  save-unread = unread-of (save w) d new ss (crash (save w) d room new ss ok e .whole) early after written
+
+  -- ---- where the directory then ends
+
+  -- every slot up to the saved one is read
+  named-now : (j : ℕ) → j ≤ i → nameless new j ≡ false
+  named-now j h =
+      ⊎-elim
+      (λ (l : j < i).
+      let f = k .lowest .before j l in
+      read-at j (f .0) (ap (λ v. v .files j) (k .seen) ∙ upd-other (look d) i (some (newFile (slotsOf (look d)) i w (k .bits))) j (omega arith) ∙ f .1))
+      (λ (l : i ≤ j).
+      let z : j ≡ i = omega arith in
+      ap (nameless new) z
+      ∙ read-at i (newFile (slotsOf (look d)) i w (k .bits)) (ap (λ v. v .files i) (k .seen) ∙ upd-same (look d) i (some (newFile (slotsOf (look d)) i w (k .bits)))))
+      (below-or-not j i)
+    where
+      read-at : (j : ℕ) (f : File) → look new .files j ≡ some f → nameless new j ≡ false
+      read-at j f q = seen-is new j (holds new j f q .read) .1 j (omega arith)
+
+  end-now : endOf d ≡ some i → endOf new ≡ endBehind d i
+  unfolding endBehind isSlot
+  end-now q = by (ltb (suc i) slots) refl
+    where
+      by : (t : Bool) → ltb (suc i) slots ≡ t → endOf new ≡ cond t (some (suc i)) none
+      by true h =
+          let l = ltb-true (suc i) slots h in
+          some-end new (suc i) (record { below = l; here = next-now (end-some d i q .here) l; before = λ j m. named-now j (omega arith) })
+      by false h = let l = ltb-false (suc i) slots h in none-end new (λ j m. named-now j (omega arith))
+
+  end-at : (j : ℕ) → FirstEmpty d j → endOf d ≡ some j → endOf new ≡ endBehind d j
+  end-at j f q =
+      let z : j ≡ i = first-one d j i f taken in
+      end-now (q ∙ ap some z) ∙ ap (endBehind d) (sym z)
+
+-- ---- every change
+
+pub unread-stays : (c : Change) (d : List ℕ) (room : ℕ) (new ss : List ℕ) → checkDisk d ≡ none → run c d room ≡ made new ss → Unread c d new ss
+unread-stays (save w) d room new ss ok e = save-unread d ok room w new ss e
+unread-stays (erase n) d room new ss ok e =
+    let t = erased d ok room new ss n e in
+    touch-unread (erase n) d n 0 erasing _ new ss ok (crash (erase n) d room new ss ok e .whole) t (omega arith) (λ j x. x)
+unread-stays (rename n to) d room new ss ok e =
+    let t = renamed d ok room new ss n to e in
+    let l = usable-is to (t .also .name) .1 in
+    touch-unread (rename n to) d n 1 (λ f. padded to) _ new ss ok (crash (rename n to) d room new ss ok e .whole) t (omega arith) (λ j x. x)
+unread-stays (mark m n) d room new ss ok e =
+    let t = marked-so d ok room new ss m n e in
+    touch-unread (mark m n) d n 0 (marking m) _ new ss ok (crash (mark m n) d room new ss ok e .whole) t (omega arith) (λ j x. x)
+
+-- after a save that took the end the directory ends right behind the new file, or has no end where that is the last slot
+pub ends-behind : (d : List ℕ) (room : ℕ) (w : Wish) (new ss : List ℕ) → run (save w) d room ≡ made new ss → (i : ℕ) → FirstEmpty d i → endOf d ≡ some i
+    → endOf new ≡ endBehind d i
+ends-behind d room w new ss e = end-at d (run-room (save w) d room new ss e .accepted) room w new ss e

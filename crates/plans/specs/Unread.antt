@@ -1,0 +1,34 @@
+-- The end of the directory, and the slots behind it, after a change.
+use Prim.Native.Nat.{ℕ, suc, _≤_, _<_}
+use mathlib.Core.Bool.{false, cond}
+use mathlib.Core.List.{List}
+use mathlib.Core.Option.{Option, none, some}
+use mathlib.Core.Path.{_≡_}
+use lib.ListN.{length}
+use Rattle.chains.specs.File.{File}
+use Rattle.directory.specs.Directory.{isSlot, seen}
+use Rattle.disk.specs.Look.{look}
+use Rattle.steps.specs.Sectors.{cut}
+use Rattle.plans.specs.Change.{Change, save, erase, rename, mark}
+use Rattle.plans.specs.Accepted.{FirstEmpty}
+
+-- slot j is the one that a save writes
+abbrev pub Writes : Change → List ℕ → ℕ → Type 0
+Writes (save w) d j = FirstEmpty d j
+Writes (erase n) d j = ⊥
+Writes (rename n to) d j = ⊥
+Writes (mark k n) d j = ⊥
+
+-- "that slot .. and all later ones are unread .. none of them is a live slot, also in demand 3": whichever number of the sectors
+-- named is written
+pub record Unread (c : Change) (old new ss : List ℕ) : Type 0 where
+  -- if any is missing, every slot that was unread is
+  pub before : (k : ℕ) → k < length ss → (j : ℕ) → seen old j ≡ false → seen (cut old new ss k) j ≡ false
+  -- always every one but the slot that a save writes
+  pub stays : (k : ℕ) → k ≤ length ss → (j : ℕ) → seen old j ≡ false → (Writes c old j → ⊥) → seen (cut old new ss k) j ≡ false
+  -- so that a live slot that was unread is that one
+  pub live : (k : ℕ) → k ≤ length ss → (j : ℕ) (f : File) → seen old j ≡ false → look (cut old new ss k) .files j ≡ some f → Writes c old j
+
+-- the directory ends right behind slot i; it has no end where that is the last slot
+unfoldable pub endBehind : List ℕ → ℕ → Option ℕ
+endBehind d i = cond (isSlot d (suc i)) (some (suc i)) none

@@ -1,0 +1,87 @@
+-- The sectors of the directory that a save writes, one or two, and the old name behind its slot.
+use Prim.Native.Nat.{ℕ, suc, _+_, _≤_, _<_}
+use mathlib.Core.Path.{_≡_, sym, ap, ap₂, _∙_}
+use mathlib.Core.Bool.{Bool, true, false, not, _&&_}
+use mathlib.Core.List.{List, [], _∷_}
+use native.Mathlib.Nat.{add-zero}
+use native.Mathlib.Numerals.{add-one}
+use native.Mathlib.Omega.{arith}
+use borrow.Author.Tests.{lt-ltb, le-ltb}
+use lib.Dec.{eqb}
+use lib.ListN.{length, set}
+use Rattle.buffers.specs.Bytes.{put}
+use Rattle.buffers.proofs.Lists.{put-one, put-append}
+use Rattle.slots.specs.Slot.{isNameless}
+use Rattle.directory.specs.Places.{slots, slotAt, slotPlace, dirSector}
+use Rattle.directory.specs.Directory.{isSlot, nameless, slotOr}
+use Rattle.directory.proofs.Places.{slot-placed}
+use Rattle.directory.proofs.Ends.{slot-read}
+use Rattle.plans.specs.Plan.{oldName, together, cleared, dirSectors}
+
+-- ---- an old name behind slot i: n says whether that slot has no name
+
+met-nameless : (d : List ℕ) (i : ℕ) → i < slots → {s : List ℕ} {n : Bool} → s ≡ slotOr d i → n ≡ isNameless s → nameless d i ≡ n
+unfolding nameless
+met-nameless d i h e q = sym (q ∙ ap isNameless (e ∙ slot-read d i h))
+
+module _ (d : List ℕ) (i : ℕ) (h : i < slots) {s : List ℕ} {n : Bool} (e : s ≡ slotOr d i) (q : n ≡ isNameless s) where
+  pub old-named : n ≡ false → false ≡ oldName d i
+  unfolding oldName
+  old-named t = sym (rw (met-nameless d i h e q ∙ t))
+
+  -- the last slot has none behind it
+  pub old-last : n ≡ true → slots ≤ i + 1 → false ≡ oldName d i
+  unfolding oldName isSlot
+  old-last t l = sym (rw (met-nameless d i h e q ∙ t, le-ltb (suc i) slots (omega arith)))
+
+  pub old-by : n ≡ true → i + 1 < slots → {z : List ℕ} {m : Bool} → z ≡ slotOr d (i + 1) → m ≡ isNameless z → not m ≡ oldName d i
+  unfolding oldName isSlot
+  old-by t l {z} {m} p r =
+      let k : nameless d (suc i) ≡ m = ap (nameless d) (sym (add-one i)) ∙ met-nameless d (i + 1) l p r in
+      sym (rw (met-nameless d i h e q ∙ t, lt-ltb (suc i) slots (omega arith), k))
+
+-- ---- the next slot cleared
+
+module _ (d : List ℕ) (i : ℕ) {old : Bool} where
+  pub cleared-next : old ≡ true → i + 1 < slots → (a : ℕ) → a ≡ slotPlace (i + 1) → (e : List ℕ) → e ≡ put d a (0 ∷ 0 ∷ []) → e ≡ cleared old i d
+  cleared-next q l a p e r =
+      r ∙ ap (λ (a : ℕ). put d a (0 ∷ 0 ∷ [])) (p ∙ slot-placed (i + 1) l ∙ ap slotAt (add-one i) ∙ sym (add-zero (slotAt (suc i))))
+      ∙ sym (ap (λ (t : Bool). cleared t i d) q)
+
+  pub cleared-not : old ≡ false → d ≡ cleared old i d
+  cleared-not q = sym (ap (λ (t : Bool). cleared t i d) q)
+
+-- ---- one sector or two
+
+pub apart-not : (i : ℕ) (old : Bool) → old ≡ false → false ≡ (old && not (together i))
+apart-not i old q = sym (ap (λ (t : Bool). t && not (together i)) q)
+
+pub apart-by : (i : ℕ) (old : Bool) → old ≡ true → (a b : ℕ) → a ≡ dirSector (i + 1) → b ≡ dirSector i → not (eqb a b) ≡ (old && not (together i))
+unfolding together
+apart-by i old q a b p r =
+    ap₂ (λ (x y : ℕ). not (eqb x y)) (p ∙ ap dirSector (add-one i)) r ∙ sym (ap (λ (t : Bool). t && not (eqb (dirSector (suc i)) (dirSector i))) q)
+
+module _ (old : Bool) (i : ℕ) {two : Bool} (e : two ≡ (old && not (together i))) where
+  dirs-two : two ≡ true → dirSectors old i ≡ dirSector (suc i) ∷ dirSector i ∷ []
+  unfolding dirSectors
+  dirs-two q = rw (sym e ∙ q)
+
+  dirs-one : two ≡ false → dirSectors old i ≡ dirSector i ∷ []
+  unfolding dirSectors
+  dirs-one q = rw (sym e ∙ q)
+
+  pub two-long : two ≡ true → length (dirSectors old i) ≡ 2
+  two-long q = ap length (dirs-two q)
+
+  pub one-long : two ≡ false → length (dirSectors old i) ≡ 1
+  one-long q = ap length (dirs-one q)
+
+  -- their numbers on the list
+  module _ (l : List ℕ) (a : ℕ) where
+    pub put-both : two ≡ true → (x y : ℕ) → x ≡ dirSector (i + 1) → y ≡ dirSector i → set (set l a x) (a + 1) y ≡ put l a (dirSectors old i)
+    put-both q x y p r =
+        put-one (set l a x) (a + 1) y ∙ ap (λ (z : List ℕ). put z (a + 1) (y ∷ [])) (put-one l a x) ∙ put-append l a (x ∷ []) (y ∷ [])
+        ∙ ap₂ (λ (u v : ℕ). put l a (u ∷ v ∷ [])) (p ∙ ap dirSector (add-one i)) r ∙ sym (ap (put l a) (dirs-two q))
+
+    pub put-alone : two ≡ false → (y : ℕ) → y ≡ dirSector i → set l a y ≡ put l a (dirSectors old i)
+    put-alone q y r = put-one l a y ∙ ap (λ (v : ℕ). put l a (v ∷ [])) r ∙ sym (ap (put l a) (dirs-one q))
