@@ -11,7 +11,7 @@ use Rattle.buffers.proofs.Tests.{and-both}
 use Rattle.refusals.specs.Order.{Refusal, Row, FirstRow, SlotRow, FirstOf, bare, risesFrom, rises, Applies, Lowest}
 use Rattle.refusals.specs.Answers.{numberOf}
 use Rattle.refusals.specs.declared.Reason.{Reason}
-use Rattle.refusals.specs.declared.Reason.the-variants.{NotAnImage, KindUnknown, NameMissing, CountOutOfRange, BitsDiffer, FirstNotOwn, LengthTooGreat, SectorShared, NameTwice, ChainBroken, HeaderDiffers, NameNotUsable, KindNotCarried, StartOutOfRange, NameNotFound, NameTaken, FileProtected, NoFreeSlot, TooFewSectors, BufferTooShort, NoSuchSector}
+use Rattle.refusals.specs.declared.Reason.the-variants.{NotAnImage, KindUnknown, NameMissing, CountOutOfRange, BitsDiffer, FirstNotOwn, LengthTooGreat, SectorShared, NameTwice, ChainBroken, HeaderDiffers, NameNotUsable, KindNotCarried, StartOutOfRange, NameNotFound, NameTaken, FileProtected, NoFreeSlot, TooFewSectors, BufferTooShort, NoSuchSector, ReportFull}
 
 -- ---- the lowest that applies is the first that holds
 
@@ -86,6 +86,7 @@ positive NoFreeSlot = λ e. omega arith
 positive TooFewSectors = λ e. omega arith
 positive BufferTooShort = λ e. omega arith
 positive NoSuchSector = λ e. omega arith
+positive ReportFull = λ e. omega arith
 
 pub first-positive : (rs : List Row) (n : ℕ) → rises rs ≡ true → FirstRow n rs → n ≢ 0
 first-positive rs n e f z = let h : 0 < n = applies-above rs 0 n e (first-applies rs n f) in omega arith

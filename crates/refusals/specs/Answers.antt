@@ -5,7 +5,7 @@ use mathlib.Core.Option.{none, some}
 use Rattle.buffers.specs.Bytes.{put}
 use Rattle.refusals.specs.Order.{Refusal, Reply, refuse}
 use Rattle.refusals.specs.declared.Reason.{Reason}
-use Rattle.refusals.specs.declared.Reason.the-variants.{NotAnImage, KindUnknown, NameMissing, CountOutOfRange, BitsDiffer, FirstNotOwn, LengthTooGreat, SectorShared, NameTwice, ChainBroken, HeaderDiffers, NameNotUsable, KindNotCarried, StartOutOfRange, NameNotFound, NameTaken, FileProtected, NoFreeSlot, TooFewSectors, BufferTooShort, NoSuchSector}
+use Rattle.refusals.specs.declared.Reason.the-variants.{NotAnImage, KindUnknown, NameMissing, CountOutOfRange, BitsDiffer, FirstNotOwn, LengthTooGreat, SectorShared, NameTwice, ChainBroken, HeaderDiffers, NameNotUsable, KindNotCarried, StartOutOfRange, NameNotFound, NameTaken, FileProtected, NoFreeSlot, TooFewSectors, BufferTooShort, NoSuchSector, ReportFull}
 use Rattle.refusals.specs.declared.Refused.{Refused}
 use Rattle.refusals.specs.declared.Verdict.{Verdict}
 use Rattle.refusals.specs.declared.Verdict.the-variants.{Sound, Unsound}
@@ -56,6 +56,8 @@ numberOf TooFewSectors = 19
 numberOf BufferTooShort = 20
 -- no such drive, track or sector
 numberOf NoSuchSector = 21
+-- a disk or join that would pass 65,535 disks
+numberOf ReportFull = 31
 
 -- the last number of the table: document 01 ends at 21, document 02 at 32
 abbrev pub lastNumber : ℕ

@@ -5,7 +5,7 @@ ghost use mathlib.Core.Option.{some};
 ghost use Rattle.refusals.specs.Order.{refuse};
 ghost use Rattle.refusals.specs.Answers.{numberOf, lastNumber, replyOf, outcomeOf, refused};
 
-// The rows of the table, in its order: the first is number 1.
+// The rows of the table.
 pub enum Reason {
     NotAnImage,
     KindUnknown,
@@ -28,6 +28,7 @@ pub enum Reason {
     TooFewSectors,
     BufferTooShort,
     NoSuchSector,
+    ReportFull,
 }
 
 // A refusal: its reason, and the slot (from 1) it was found at, or 0.
@@ -74,6 +75,7 @@ pub fn number_of(reason: Reason) -> usize
         Reason::TooFewSectors => 19,
         Reason::BufferTooShort => 20,
         Reason::NoSuchSector => 21,
+        Reason::ReportFull => 31,
     }
 }
 
