@@ -19,7 +19,7 @@ unfolding raised
 length-raised r f = length-tab 111 _
 
 -- as many numbers as there are replace them all
-put-whole : (r x : List ℕ) → length x ≡ length r → put r 0 x ≡ x
+pub put-whole : (r x : List ℕ) → length x ≡ length r → put r 0 x ≡ x
 put-whole r x h = sym (take-all (length x) (put r 0 x) (omega (arith, length-put r 0 x))) ∙ take-put r x (put r 0 x) refl (omega arith)
 
 module _ (r : List ℕ) (n : ℕ) (f : ℕ → ℕ) where
