@@ -1,6 +1,7 @@
 -- A report as lent bytes: four to a number, low byte first.
-use Prim.Native.Nat.{ℕ, _+_, _*_, _/_, _%_}
+use Prim.Native.Nat.{ℕ, _+_, _*_, _/_, _%_, _≤_}
 use mathlib.Core.List.{List, [], _∷_, _++_}
+use mathlib.Core.Path.{_≡_}
 use lib.Dec.{ltb}
 use lib.ListN.{length, getD}
 use Rattle.buffers.specs.Bytes.{tab, word, put}
@@ -9,6 +10,7 @@ use Rattle.refusals.specs.Answers.{Outcome, done, refused, Out, filled}
 use Rattle.disk.specs.Look.{look}
 use Rattle.reports.specs.Numbers.{numberAt, reportOf}
 use Rattle.reports.specs.Calls.{disksIn, raised, full}
+use Rattle.reports.specs.Shelf.{Disks, Made}
 
 -- 124 numbers, of which the last 13 are kept as they are
 abbrev pub reportBytes : ℕ
@@ -47,3 +49,15 @@ joiningBytes b other =
     let r = numbersIn b in
     let o = numbersIn other in
     filled (short b else short other else full (disksIn r + disksIn o)) (done (disksIn r + disksIn o) 0) (inBytes (raised r (λ k. getD o k 0))) b
+
+-- bytes that hold the report over these disks
+pub record Holds (ds : Disks) (b : List ℕ) : Type 0 where
+  pub room : reportBytes ≤ length b
+  pub made : Made ds (numbersIn b)
+
+-- after a call: the disks in the report, the bytes that hold it, and the bytes past its numbers, which stay
+pub record Leaves (ds : Disks) (b : List ℕ) (r : Out) : Type 0 where
+  pub disks : r .outcome ≡ done (length ds) 0
+  pub holds : Holds ds (r .buffer)
+  pub long : length (r .buffer) ≡ length b
+  pub rest : (i : ℕ) → 444 ≤ i → getD (r .buffer) i 0 ≡ getD b i 0

@@ -23,10 +23,10 @@ pub put-whole : (r x : List ℕ) → length x ≡ length r → put r 0 x ≡ x
 put-whole r x h = sym (take-all (length x) (put r 0 x) (omega (arith, length-put r 0 x))) ∙ take-put r x (put r 0 x) refl (omega arith)
 
 module _ (r : List ℕ) (n : ℕ) (f : ℕ → ℕ) where
-  full-refused : 65535 < n → {o : Outcome} → o ≡ refused (refuse 31 0) → out o r ≡ filled (full n) (done n 0) (raised r f) r
+  pub full-refused : 65535 < n → {o : Outcome} → o ≡ refused (refuse 31 0) → out o r ≡ filled (full n) (done n 0) (raised r f) r
   full-refused h e = ap (λ (o : Outcome). out o r) e ∙ rw (lt-ltb 65535 n h)
 
-  full-done : n ≤ 65535 → length r ≡ 111 → {l : List ℕ} → l ≡ raised r f → out (done n 0) l ≡ filled (full n) (done n 0) (raised r f) r
+  pub full-done : n ≤ 65535 → length r ≡ 111 → {l : List ℕ} → l ≡ raised r f → out (done n 0) l ≡ filled (full n) (done n 0) (raised r f) r
   full-done h k e = ap (out (done n 0)) (e ∙ sym (put-whole r (raised r f) (length-raised r f ∙ sym k))) ∙ rw (le-ltb 65535 n h)
 
 module _ (r d : List ℕ) {x : ℕ} (e : x ≡ disksIn r) where

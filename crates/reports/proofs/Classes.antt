@@ -97,3 +97,13 @@ sought-last n c next w h =
 
 pub sought-few : (n c next : ℕ) → Sought n c next → c < 12
 sought-few n c next w = omega (arith, w .few)
+
+-- every count is in one
+pub class-some : (n : ℕ) → (c : ℕ) × (c < 12) × (inClass c n ≡ true)
+class-some n = from 11 0 1 refl (sought-start n)
+  where
+    from : (m c next : ℕ) → c + m ≡ 11 → Sought n c next → (c : ℕ) × (c < 12) × (inClass c n ≡ true)
+    from zero c next e w = (c, omega arith, sought-last n c next w (omega arith))
+    from (suc m) c next e w =
+        ⊎-elim (λ (l : n < next). (c, omega arith, sought-here n c next w l))
+        (λ (l : next ≤ n). from m (c + 1) (2 * next) (omega arith) (sought-more n c next w (omega arith) l)) (below-or-not n next)

@@ -4,3 +4,6 @@ pub mod Raised
 pub mod Files
 pub mod Disk
 pub mod Called
+pub mod Sums
+pub mod AddsUp
+pub mod Shelf
