@@ -46,15 +46,18 @@ module _ (b d : List ℕ) where
   unfolding addingBytes
   adding-short h e = ap (λ (o : Outcome). out o b) e ∙ rw (lt-ltb (length b) 496 h)
 
+  -- what the call on the numbers gives, as bytes
+  pub adding-bytes : 496 ≤ length b → (o : Outcome) (l : List ℕ) → out o l ≡ adding (numbersIn b) d → out o (kept o b l) ≡ addingBytes b d
+  unfolding adding addingBytes
+  adding-bytes h o l e =
+      kept-filled (full (disksIn (numbersIn b) + 1)) (disksIn (numbersIn b) + 1) (numberAt (reportOf (look d))) (numbersIn b) b (length-numbers b) o l e
+      ∙ rw (le-ltb (length b) 496 h)
+
   -- a is the answer to the call on the numbers, and l the report that it leaves
   pub adding-kept : 496 ≤ length b → {r : List ℕ} → r ≡ numbersIn b → {a c : Answer} {l : List ℕ} → out (outcomeOf a) l ≡ adding r d
       → c ≡ a → {b′ : List ℕ} → b′ ≡ kept (outcomeOf a) b l → out (outcomeOf c) b′ ≡ addingBytes b d
-  unfolding adding addingBytes
-  adding-kept h {r} p {a} {c} {l} e q {b′} k =
-      ap₂ (λ (c : Answer) (b : List ℕ). out (outcomeOf c) b) q k
-      ∙ kept-filled (full (disksIn (numbersIn b) + 1)) (disksIn (numbersIn b) + 1) (numberAt (reportOf (look d))) (numbersIn b) b (length-numbers b) (outcomeOf a) l
-      (e ∙ ap (λ (r : List ℕ). adding r d) p)
-      ∙ rw (le-ltb (length b) 496 h)
+  adding-kept h p {a} {c} {l} e q k =
+      ap₂ (λ (c : Answer) (b : List ℕ). out (outcomeOf c) b) q k ∙ adding-bytes h (outcomeOf a) l (e ∙ ap (λ (r : List ℕ). adding r d) p)
 
 module _ (b other : List ℕ) where
   pub joining-short : length b < 496 → {o : Outcome} → o ≡ refused (refuse 20 0) → out o b ≡ joiningBytes b other
@@ -65,11 +68,15 @@ module _ (b other : List ℕ) where
   unfolding joiningBytes
   joining-other k h e = ap (λ (o : Outcome). out o b) e ∙ rw (le-ltb (length b) 496 k, lt-ltb (length other) 496 h)
 
+  pub joining-bytes : 496 ≤ length b → 496 ≤ length other → (o : Outcome) (l : List ℕ) → out o l ≡ joining (numbersIn b) (numbersIn other)
+      → out o (kept o b l) ≡ joiningBytes b other
+  unfolding joining joiningBytes
+  joining-bytes h m o l e =
+      kept-filled (full (disksIn (numbersIn b) + disksIn (numbersIn other))) (disksIn (numbersIn b) + disksIn (numbersIn other)) (λ k. getD (numbersIn other) k 0) (numbersIn b) b
+      (length-numbers b) o l e
+      ∙ rw (le-ltb (length b) 496 h, le-ltb (length other) 496 m)
+
   pub joining-kept : 496 ≤ length b → 496 ≤ length other → {r s : List ℕ} → r ≡ numbersIn b → s ≡ numbersIn other → {a c : Answer} {l : List ℕ}
       → out (outcomeOf a) l ≡ joining r s → c ≡ a → {b′ : List ℕ} → b′ ≡ kept (outcomeOf a) b l → out (outcomeOf c) b′ ≡ joiningBytes b other
-  unfolding joining joiningBytes
-  joining-kept h m {r} {s} p t {a} {c} {l} e q {b′} k =
-      ap₂ (λ (c : Answer) (b : List ℕ). out (outcomeOf c) b) q k
-      ∙ kept-filled (full (disksIn (numbersIn b) + disksIn (numbersIn other))) (disksIn (numbersIn b) + disksIn (numbersIn other)) (λ k. getD (numbersIn other) k 0) (numbersIn b) b
-      (length-numbers b) (outcomeOf a) l (e ∙ ap₂ joining p t)
-      ∙ rw (le-ltb (length b) 496 h, le-ltb (length other) 496 m)
+  joining-kept h m p t {a} {c} {l} e q k =
+      ap₂ (λ (c : Answer) (b : List ℕ). out (outcomeOf c) b) q k ∙ joining-bytes h m (outcomeOf a) l (e ∙ ap₂ joining p t)
