@@ -34,8 +34,8 @@ fn file(image: &mut [u8], i: usize)
     buffers::copy_into(image, at + 15, &map);
     match geometry::address_of(100 + i) {
         Address::Sector(track, sector) => {
-            put(image, at + 13, track as u8);
-            put(image, at + 14, sector as u8);
+            put(image, at + 13, (track % 256) as u8);
+            put(image, at + 14, (sector % 256) as u8);
         }
         Address::NoBit => {}
     }
@@ -88,7 +88,7 @@ fn end_at(what: &[u8], image: &mut [u8], i: usize, name: &[u8], buf: &mut [u8])
     let mut list = [0u16; 3];
     points::checked(what, image);
     put(image, directory::slot_place(i) + 1, 0);
-    points::title(b"a first name byte 0: ", name);
+    points::say(b"with no name there: ");
     points::checked(what, image);
     points::listed(what, image, buf);
     slot_bytes(image, i + 1);
@@ -97,17 +97,28 @@ fn end_at(what: &[u8], image: &mut [u8], i: usize, name: &[u8], buf: &mut [u8])
     points::listed(name, image, buf);
 }
 
-fn ends(image: &mut [u8], buf: &mut [u8]) {
-    rubbish_everywhere(image);
+// A name and rubbish in the slot at that place again.
+fn rubbish(image: &mut [u8], at: usize)
+    requires { ⌜ at < 40960 ⌝ }
+{
+    put(image, at, 63);
+    put(image, at + 1, b'-');
+}
+
+fn first_ends(image: &mut [u8], buf: &mut [u8]) {
     end_at(b"rubbish in slot 1", image, 0, b"NEW 1", buf);
-    put(image, 257, b'-');
-    put(image, 256, 63);
+    rubbish(image, 256);
     end_at(b"rubbish in slot 2", image, 1, b"NEW 2", buf);
+}
+
+fn ends_of_a_track(image: &mut [u8], buf: &mut [u8]) {
     files(image, 2, 19);
     end_at(b"rubbish in slot 20", image, 19, b"NEW 20", buf);
-    put(image, 10241, b'-');
-    put(image, 10240, 63);
+    rubbish(image, 10240);
     end_at(b"rubbish in slot 21", image, 20, b"NEW 21", buf);
+}
+
+fn last_end(image: &mut [u8], buf: &mut [u8]) {
     files(image, 21, 79);
     end_at(b"rubbish in slot 80", image, 79, b"NEW 80", buf);
 }
@@ -128,19 +139,20 @@ fn short_list(image: &mut [u8]) {
     saved(b"a file with a list of 3", image, b"NEW", &mut just);
 }
 
-// Slot 2 is the end. Slot 3 has no name either, and is left as it is; then slot 1 is erased, and taken before the end.
-fn other_ends(image: &mut [u8]) {
-    let mut list = [0u16; 3];
-    file(image, 0);
+// Slot 2 is the end, and slot 3 has no name either: it is left as it is.
+fn no_name_behind(image: &mut [u8], list: &mut [u16]) {
     put(image, 512, 255);
     put(image, 514, 255);
-    saved(b"a file before a slot with no name", image, b"NEW", &mut list);
+    saved(b"a file before a slot with no name", image, b"NEW", list);
     slot_bytes(image, 2);
+}
+
+// Slot 3 is the end, with a name behind it, and slot 1 is erased.
+fn erased_before_the_end(image: &mut [u8], list: &mut [u16]) {
     put(image, 0, 0);
     put(image, 769, b'-');
-    saved(b"a file into an erased slot", image, b"NEW 2", &mut list);
-    slot_bytes(image, 1);
-    points::checked(b"the disk", image);
+    saved(b"a file into an erased slot", image, b"NEW 2", list);
+    slot_bytes(image, 3);
 }
 
 // Slot 3 behind an end at slot 2, and with a name in slot 2.
@@ -158,25 +170,73 @@ fn behind(what: &[u8], image: &mut [u8], kind: u8, name: &[u8], rest: &[u8]) {
 
 // Each fault of a slot in turn: count, first address and the first map bytes. Bit 4 is track 4 sector 5.
 fn faults_of_a_slot(image: &mut [u8]) {
-    behind(b"kind 13", image, 13, b"RUBBISH   ", b"\x00\x01\x04\x05\x10");
+    behind(
+        b"kind 13",
+        image,
+        13,
+        b"RUBBISH   ",
+        b"\x00\x01\x04\x05\x10",
+    );
     behind(b"count 0", image, 5, b"RUBBISH   ", b"\x00\x00\x04\x05\x10");
-    behind(b"two bits", image, 5, b"RUBBISH   ", b"\x00\x01\x04\x05\x30");
-    behind(b"first address 3 1", image, 5, b"RUBBISH   ", b"\x00\x01\x03\x01\x10");
+    behind(
+        b"two bits",
+        image,
+        5,
+        b"RUBBISH   ",
+        b"\x00\x01\x04\x05\x30",
+    );
+    behind(
+        b"first address 3 1",
+        image,
+        5,
+        b"RUBBISH   ",
+        b"\x00\x01\x03\x01\x10",
+    );
 }
 
 fn faults_of_files(image: &mut [u8]) {
     put(image, 752, 246);
     put(image, 753, 1);
-    behind(b"length 502 in 1 sector", image, 19, b"RUBBISH   ", b"\x00\x01\x04\x05\x10");
+    behind(
+        b"length 502 in 1 sector",
+        image,
+        19,
+        b"RUBBISH   ",
+        b"\x00\x01\x04\x05\x10",
+    );
     put(image, 753, 0);
-    behind(b"the sector of slot 1", image, 5, b"RUBBISH   ", b"\x00\x01\x04\x01\x01");
-    behind(b"the name of slot 1", image, 5, b"FIRST     ", b"\x00\x01\x04\x05\x10");
+    behind(
+        b"the sector of slot 1",
+        image,
+        5,
+        b"RUBBISH   ",
+        b"\x00\x01\x04\x01\x01",
+    );
+    behind(
+        b"the name of slot 1",
+        image,
+        5,
+        b"FIRST     ",
+        b"\x00\x01\x04\x05\x10",
+    );
 }
 
 fn faults_of_chains(image: &mut [u8]) {
-    behind(b"a header of kind 0", image, 19, b"RUBBISH   ", b"\x00\x01\x04\x05\x10");
+    behind(
+        b"a header of kind 0",
+        image,
+        19,
+        b"RUBBISH   ",
+        b"\x00\x01\x04\x05\x10",
+    );
     put(image, 43518, 9);
-    behind(b"a last link 9 0", image, 5, b"RUBBISH   ", b"\x00\x01\x04\x05\x10");
+    behind(
+        b"a last link 9 0",
+        image,
+        5,
+        b"RUBBISH   ",
+        b"\x00\x01\x04\x05\x10",
+    );
 }
 
 fn faults(image: &mut [u8]) {
@@ -187,17 +247,40 @@ fn faults(image: &mut [u8]) {
     faults_of_chains(image);
 }
 
-fn main() {
+fn every_end() {
     let mut image = points::blank();
     let mut buf = points::blank();
-    ends(&mut image, &mut buf);
+    rubbish_everywhere(&mut image);
+    first_ends(&mut image, &mut buf);
+    ends_of_a_track(&mut image, &mut buf);
+    last_end(&mut image, &mut buf);
     no_end(&mut image);
-    let mut small = points::blank();
-    file(&mut small, 0);
-    put(&mut small, 513, b'-');
-    short_list(&mut small);
-    let mut other = points::blank();
-    other_ends(&mut other);
-    let mut last = points::blank();
-    faults(&mut last);
+}
+
+fn short_lists() {
+    let mut image = points::blank();
+    file(&mut image, 0);
+    put(&mut image, 513, b'-');
+    short_list(&mut image);
+}
+
+fn other_ends() {
+    let mut image = points::blank();
+    let mut list = [0u16; 3];
+    file(&mut image, 0);
+    no_name_behind(&mut image, &mut list);
+    erased_before_the_end(&mut image, &mut list);
+    points::checked(b"the disk", &image);
+}
+
+fn every_fault() {
+    let mut image = points::blank();
+    faults(&mut image);
+}
+
+fn main() {
+    every_end();
+    short_lists();
+    other_ends();
+    every_fault();
 }

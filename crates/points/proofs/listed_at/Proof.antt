@@ -1,5 +1,8 @@
--- `points::listed_at` is safe: a number of the list fits a wider type.
+-- `points::listed_at` meets its contract: a number of the list fits a wider type, and past the end there is none.
+use mathlib.Core.Path.{sym}
 use native.Mathlib.Omega.{arith}
+use denote.Ref.{now}
+use Rattle.buffers.proofs.Lists.{past-end}
 use borrow.Author.Needs.{needs}
 use Rattle.points.proofs.listed_at.Statement.{statement}
 use Rattle.points.proofs.listed_at.Tie as tie
@@ -17,7 +20,7 @@ returns : tie.Need-returns
 returns c = search needs
 
 returns-2 : tie.Need-returns-2
-returns-2 c = search needs
+returns-2 c = sym (past-end (now (c .before .args .list)) _ (c .if1 .left))
 
 pub listed-at-spec : {M : Type 1} → statement M
 listed-at-spec = tie.close (tie.spec mul-result shared-slice-read-result cast-result returns returns-2)
