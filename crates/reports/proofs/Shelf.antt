@@ -166,7 +166,7 @@ module _ (ds : Disks) (d r : List ℕ) (w : Made ds r) where
       let e = disks-are in
       sym (full-done r (disksIn r + 1) (numberAt (reportOf (look d))) (omega arith) (ap length (w .is) ∙ length-listed (over ds)) refl)
       ∙ ap₂ (λ (n : ℕ) (l : List ℕ). out (done (n + 1) 0) l) e
-        (ap (λ (r : List ℕ). raised r (numberAt (reportOf (look d)))) (w .is) ∙ raised-listed (over ds) (reportOf (look d)) small ∙ ap listed (sym (over-one ds d)))
+      (ap (λ (r : List ℕ). raised r (numberAt (reportOf (look d)))) (w .is) ∙ raised-listed (over ds) (reportOf (look d)) small ∙ ap listed (sym (over-one ds d)))
     where
       small : (k : ℕ) → numberAt (plus (over ds) (reportOf (look d))) k < 2 ^ 32
       small k = omega (arith, number-plus (over ds) (reportOf (look d)) k, small-over ds k, small-disk (look d) k)
