@@ -1,13 +1,13 @@
 -- Numbers as four bytes each: what bytes have got after some of them, and the numbers read back.
-use Prim.Native.Nat.{ℕ, zero, suc, _+_, _*_, _/_, _%_, _^_, _≤_, _<_}
+use Prim.Native.Nat.{ℕ, _+_, _*_, _≤_, _<_}
 use mathlib.Core.Path.{_≡_, refl, sym, ap, _∙_}
 use mathlib.Core.List.{List, [], _∷_, _++_}
 use native.Mathlib.Numerals.{add-one}
 use native.Mathlib.Omega.{arith}
-use lib.ListN.{length, getD, take, set, length-append, length-set}
+use lib.ListN.{length, getD, take, set, length-set}
 use lib.Seq.{length-take-le, take-suc, take-all}
 use Rattle.buffers.specs.Bytes.{tab, word, put}
-use Rattle.buffers.proofs.Lists.{length-put, put-none, put-one, put-append, tab-cong, fill-more, fill-done}
+use Rattle.buffers.proofs.Lists.{length-put, put-none, put-one, put-append, fill-more, fill-done}
 use Rattle.bytereports.specs.Bytes.{numbersIn, fourOf, inBytes}
 
 pub length-fours : (ns : List ℕ) → length (inBytes ns) ≡ 4 * length ns

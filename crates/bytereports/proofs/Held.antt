@@ -1,20 +1,17 @@
 -- What the app's bytes hold after a call: the report over one disk more, or over both lists.
 use Prim.Native.Nat.{ℕ, zero, suc, _+_, _*_, _/_, _%_, _^_, _≤_, _<_}
-use mathlib.Core.Path.{_≡_, refl, sym, ap, ap₂, _∙_, subst}
+use mathlib.Core.Path.{_≡_, refl, sym, ap, _∙_, subst}
 use mathlib.Core.List.{List, [], _∷_, _++_}
-use mathlib.Core.Option.{none}
 use native.Mathlib.Omega.{arith}
-use borrow.Author.Tests.{le-ltb}
 use lib.ListN.{length, getD, length-append, replicate, length-replicate}
 use Rattle.buffers.specs.Bytes.{tab, word, put}
 use Rattle.buffers.proofs.Lists.{length-put, put-in, put-after, tab-of}
 use Rattle.refusals.specs.Order.{refuse}
-use Rattle.refusals.specs.Answers.{Outcome, done, refused, Out, out, filled}
+use Rattle.refusals.specs.Answers.{done, refused, out}
 use Rattle.reports.specs.Numbers.{over, listed}
-use Rattle.reports.specs.Calls.{adding, joining}
-use Rattle.reports.specs.Shelf.{Disks, Made}
+use Rattle.reports.specs.Shelf.{Disks}
 use Rattle.reports.proofs.Shelf.{made-none, add-over, add-full, join-over, join-full, length-listed, listed-small}
-use Rattle.bytereports.specs.Bytes.{numbersIn, fourOf, inBytes, kept, addingBytes, joiningBytes, Holds, Leaves}
+use Rattle.bytereports.specs.Bytes.{numbersIn, inBytes, addingBytes, joiningBytes, Holds, Leaves}
 use Rattle.bytereports.proofs.Fours.{length-fours}
 use Rattle.bytereports.proofs.Kept.{adding-bytes, joining-bytes}
 

@@ -1,14 +1,13 @@
 -- What a call on bytes gives: 20, or what the call on the numbers gives, as bytes.
 use Prim.Native.Nat.{ℕ, _+_, _≤_, _<_}
-use mathlib.Core.Path.{_≡_, refl, sym, ap, ap₂, _∙_}
+use mathlib.Core.Path.{_≡_, sym, ap, ap₂, _∙_}
 use mathlib.Core.List.{List}
 use mathlib.Core.Option.{none, some}
-use native.Mathlib.Omega.{arith}
 use borrow.Author.Tests.{lt-ltb, le-ltb}
 use lib.ListN.{length, getD}
 use Rattle.buffers.specs.Bytes.{put}
 use Rattle.buffers.proofs.Lists.{length-tab}
-use Rattle.refusals.specs.Order.{Reply, refuse, _else_}
+use Rattle.refusals.specs.Order.{Reply, refuse}
 use Rattle.refusals.specs.Answers.{Outcome, done, refused, Out, out, filled, outcomeOf}
 use Rattle.refusals.specs.declared.Answer.{Answer}
 use Rattle.refusals.specs.declared.Answer.the-variants.{Done, No}
@@ -17,7 +16,7 @@ use Rattle.disk.specs.Look.{look}
 use Rattle.reports.specs.Numbers.{numberAt, reportOf}
 use Rattle.reports.specs.Calls.{disksIn, raised, full, adding, joining}
 use Rattle.reports.proofs.Called.{length-raised, put-whole}
-use Rattle.bytereports.specs.Bytes.{numbersIn, inBytes, kept, short, addingBytes, joiningBytes}
+use Rattle.bytereports.specs.Bytes.{numbersIn, inBytes, kept, addingBytes, joiningBytes}
 
 length-numbers : (b : List ℕ) → length (numbersIn b) ≡ 111
 unfolding numbersIn

@@ -1,6 +1,6 @@
 -- The numbers of a report add up: classes and kinds to the files, accepted and refused to the disks, sectors to the data sectors.
-use Prim.Native.Nat.{ℕ, zero, suc, _+_, _*_, _-_, _≤_, _<_}
-use mathlib.Core.Path.{_≡_, refl, sym, ap, ap₂, _∙_, subst}
+use Prim.Native.Nat.{ℕ, zero, suc, _+_, _-_, _≤_, _<_}
+use mathlib.Core.Path.{_≡_, refl, sym, ap, ap₂, _∙_}
 use mathlib.Core.Bool.{Bool, true, false, cond, _&&_}
 use mathlib.Core.List.{List, [], _∷_}
 use mathlib.Core.Logic.{_≢_, ⊎-elim}
@@ -8,23 +8,21 @@ use mathlib.Core.Option.{Option, none, some}
 use native.Mathlib.Omega.{arith}
 use borrow.Author.Tests.{leb-true, eq-eqb, ne-eqb}
 use lib.Dec.{eqb, leb}
-use lib.ListN.{length}
 use Rattle.buffers.specs.Bytes.{count}
 use Rattle.buffers.proofs.Lists.{below-or-not}
 use Rattle.buffers.proofs.Tests.{and-both}
-use Rattle.maps.specs.Bits.{bitsOf}
 use Rattle.maps.proofs.Laws.{bits-le}
 use Rattle.refusals.specs.Order.{Refusal, Reply, Row, FirstRow}
 use Rattle.slots.specs.Slot.{kindOf, countOf}
 use Rattle.slots.specs.Rows.{dataCount}
 use Rattle.directory.specs.Places.{slots}
 use Rattle.directory.specs.Directory.{held, Directory, liveAmong}
-use Rattle.directory.specs.Survey.{survey, union, usedMap, counted, free, freeOf}
+use Rattle.directory.specs.Survey.{union, usedMap, counted, free, freeOf}
 use Rattle.disk.specs.Look.{Look, look, slotsOf, extra}
 use Rattle.disk.specs.Check.{checkLook, checkDisk}
 use Rattle.disk.specs.Given.{rows9, rows11, Given, by-length, by-slot, by-chain}
 use Rattle.disk.proofs.Order.{given, check-positive}
-use Rattle.reports.specs.Numbers.{sum, Numbers, inClass, filesAmong, sectorsAmong, filesReport, acceptedReport, refusedReport, empty, plus, over, reportOf}
+use Rattle.reports.specs.Numbers.{sum, Numbers, inClass, filesAmong, filesReport, acceptedReport, refusedReport, empty, plus, over, reportOf}
 use Rattle.reports.specs.Shelf.{Disks, ofAccepted, total, filesOf, dataOf, AddsUp}
 use Rattle.reports.proofs.Classes.{class-only, class-some}
 use Rattle.reports.proofs.Places.{only-from}

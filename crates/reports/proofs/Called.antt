@@ -9,7 +9,7 @@ use lib.Seq.{take-all}
 use Rattle.buffers.specs.Bytes.{put}
 use Rattle.buffers.proofs.Lists.{length-tab, length-put, take-put}
 use Rattle.refusals.specs.Order.{refuse}
-use Rattle.refusals.specs.Answers.{Outcome, done, refused, Out, out, filled}
+use Rattle.refusals.specs.Answers.{Outcome, done, refused, out, filled}
 use Rattle.disk.specs.Look.{look}
 use Rattle.reports.specs.Numbers.{numberAt, reportOf}
 use Rattle.reports.specs.Calls.{disksIn, raised, full, adding, joining}

@@ -1,5 +1,5 @@
 -- The numbers of one disk, as its check gives them.
-use Prim.Native.Nat.{ℕ, zero, suc, _+_, _-_, _^_, _≤_, _<_}
+use Prim.Native.Nat.{ℕ, zero, suc, _+_, _^_, _≤_, _<_}
 use mathlib.Core.Path.{_≡_, refl, sym, ap, ap₂, _∙_}
 use mathlib.Core.Bool.{not}
 use mathlib.Core.List.{List}
@@ -9,9 +9,9 @@ use native.Mathlib.Omega.{arith}
 use lib.Dec.{eqb}
 use lib.ListN.{length, getD, length-set}
 use Rattle.geometry.specs.Disk.{imageSize}
-use Rattle.maps.specs.Bits.{bitsOf, clear, join}
+use Rattle.maps.specs.Bits.{bitsOf, join}
 use Rattle.maps.proofs.Laws.{bits-clear, bits-le, bits-join}
-use Rattle.refusals.specs.Order.{Refusal, refuse, _else_, row, sweep}
+use Rattle.refusals.specs.Order.{Refusal, _else_, row, sweep}
 use Rattle.refusals.specs.Answers.{numberOf, lastNumber, replyOf, refusalOf}
 use Rattle.refusals.specs.declared.Refused.{Refused}
 use Rattle.refusals.specs.declared.Verdict.the-variants.{Sound, Unsound}
@@ -21,7 +21,7 @@ use Rattle.slots.specs.Rows.{dataCount}
 use Rattle.slots.specs.Slot.{countOf, mapOf}
 use Rattle.directory.specs.Places.{slots}
 use Rattle.directory.specs.Directory.{held, Directory, directory, liveAmong}
-use Rattle.directory.specs.Survey.{survey, union, counted, usedMap, freeOf, free, usedOr, filesOr}
+use Rattle.directory.specs.Survey.{survey, union, counted, usedMap, freeOf, free}
 use Rattle.directory.specs.declared.Survey.{Survey}
 use Rattle.directory.specs.declared.UsedMap.{UsedMap}
 use Rattle.directory.proofs.Union.{length-union, share-union}
@@ -50,7 +50,7 @@ used-sectors n v e (suc k) h = by (v k) refl (used-sectors n v e k (omega arith)
 
 -- what the check says where it accepts a look
 pub survey-accepts : (l : Look) → checkLook l ≡ none → survey (extra l) (slotsOf l) ≡ none
-unfolding checkLook
+unfolding checkBy
 survey-accepts l e =
     let a = else-none (row 1 0 (not (eqb (l .long) imageSize))) (survey (extra l) (slotsOf l) else sweep slots (chainAt l)) e in
     else-none (survey (extra l) (slotsOf l)) (sweep slots (chainAt l)) (a .1) .0

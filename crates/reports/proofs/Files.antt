@@ -3,24 +3,21 @@ use Prim.Native.Nat.{ℕ, zero, suc, _+_, _-_, _^_, _≤_, _<_}
 use mathlib.Core.Path.{_≡_, refl, sym, ap, ap₂, _∙_}
 use mathlib.Core.Bool.{Bool, true, false, cond}
 use mathlib.Core.List.{List}
-use mathlib.Core.Logic.{⊎-elim}
 use mathlib.Core.Option.{none, some}
 use native.Mathlib.Nat.{add-zero, add-suc}
 use native.Mathlib.Numerals.{add-one}
 use native.Mathlib.Omega.{arith}
-use borrow.Author.Tests.{eq-eqb, ne-eqb}
 use lib.Dec.{eqb}
 use lib.ListN.{length, getD}
 use Rattle.buffers.specs.Bytes.{count}
-use Rattle.buffers.proofs.Lists.{below-or-not}
-use Rattle.buffers.proofs.Counts.{count-more, count-cong}
+use Rattle.buffers.proofs.Counts.{count-more}
 use Rattle.slots.specs.Slot.{kindOf, countOf}
 use Rattle.directory.specs.Places.{slots}
 use Rattle.directory.specs.Directory.{held, Directory, liveAmong}
 use Rattle.directory.proofs.Live.{among-none, among-dead, among-live, among-rest}
 use Rattle.reports.specs.Numbers.{inClass, filesAmong, filesReport, Numbers, numberAt}
 use Rattle.reports.proofs.Classes.{class-only}
-use Rattle.reports.proofs.Places.{Place, at-accepted, at-refused, at-kind, at-sectors, at-free, at-class, placed, number-accepted, number-refused, number-kind, number-sectors, number-free, number-class, only, only-there, only-elsewhere, only-from}
+use Rattle.reports.proofs.Places.{Place, at-accepted, at-refused, at-kind, at-sectors, at-free, at-class, placed, number-accepted, number-refused, number-kind, number-sectors, number-free, number-class, only, only-elsewhere, only-from}
 use Rattle.reports.specs.Calls.{raisedAt, raised}
 use Rattle.reports.proofs.Raised.{Raised, raised-none, raised-more, raised-same, raised-is}
 

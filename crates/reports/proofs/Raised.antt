@@ -1,6 +1,6 @@
 -- A report's numbers as they are raised one after the other.
 use Prim.Native.Nat.{ℕ, _+_, _*_, _%_, _^_, _≤_, _<_}
-use mathlib.Core.Path.{_≡_, refl, sym, ap, ap₂, _∙_}
+use mathlib.Core.Path.{_≡_, refl, sym, ap, _∙_}
 use mathlib.Core.Bool.{cond}
 use mathlib.Core.List.{List}
 use mathlib.Core.Logic.{⊎-elim}
@@ -10,8 +10,7 @@ use borrow.Author.Tests.{lt-ltb, le-ltb}
 use lib.Dec.{ltb}
 use lib.ListN.{length, getD, set, length-set}
 use lib.Seq.{getD-set-same, getD-set-other}
-use Rattle.buffers.specs.Bytes.{tab}
-use Rattle.buffers.proofs.Lists.{below-or-not, getD-tab, length-tab, tab-of, tab-cong}
+use Rattle.buffers.proofs.Lists.{below-or-not, getD-tab, length-tab, tab-of}
 use Rattle.reports.specs.Calls.{disksIn, raisedAt, raised}
 use Rattle.reports.specs.Numbers.{sum}
 use Rattle.reports.proofs.Places.{only, only-there, only-elsewhere}

@@ -1,5 +1,5 @@
 -- The calls over lists of disks: a disk added gives the report over one disk more, and a join the report over both lists.
-use Prim.Native.Nat.{ℕ, zero, suc, _+_, _*_, _%_, _^_, _-_, _≤_, _<_}
+use Prim.Native.Nat.{ℕ, suc, _+_, _*_, _%_, _^_, _-_, _≤_, _<_}
 use mathlib.Core.Path.{_≡_, refl, sym, ap, ap₂, _∙_}
 use mathlib.Core.Bool.{Bool, true, false, cond}
 use mathlib.Core.List.{List, [], _∷_, _++_}
@@ -8,24 +8,24 @@ use mathlib.Core.Option.{none, some}
 use native.Mathlib.Omega.{arith}
 use borrow.Author.Tests.{ltb-true}
 use lib.Dec.{eqb, ltb}
-use lib.ListN.{length, getD, length-append, replicate}
-use Rattle.buffers.specs.Bytes.{tab, count}
+use lib.ListN.{length, getD, replicate}
+use Rattle.buffers.specs.Bytes.{tab}
 use Rattle.buffers.proofs.Lists.{below-or-not, past-end, length-tab, getD-tab, tab-cong}
 use Rattle.buffers.proofs.Counts.{count-le}
 use Rattle.refusals.specs.Order.{Refusal, Reply, refuse, row}
-use Rattle.refusals.specs.Answers.{Outcome, done, refused, Out, out, filled}
+use Rattle.refusals.specs.Answers.{Outcome, done, refused, out, filled}
 use Rattle.slots.specs.Slot.{kindOf, countOf}
 use Rattle.slots.specs.Rows.{dataCount}
 use Rattle.directory.specs.Places.{slots}
 use Rattle.directory.specs.Directory.{held}
 use Rattle.disk.specs.Look.{Look, look, slotsOf, extra}
 use Rattle.disk.specs.Check.{checkLook}
-use Rattle.reports.specs.Numbers.{sum, Numbers, inClass, filesAmong, filesReport, acceptedReport, refusedReport, reportOf, empty, plus, over, numberAt, listed}
+use Rattle.reports.specs.Numbers.{Numbers, inClass, filesAmong, filesReport, acceptedReport, refusedReport, reportOf, empty, plus, over, numberAt, listed}
 use Rattle.reports.specs.Calls.{disksIn, raised, full, adding, joining}
 use Rattle.reports.specs.Shelf.{Disks, Made, dataOf}
 use Rattle.reports.proofs.Places.{Place, at-accepted, at-refused, at-kind, at-sectors, at-free, at-class, placed, number-accepted, number-refused, number-kind, number-sectors, number-free, number-class, number-plus}
 use Rattle.reports.proofs.Disk.{report-accepted, report-refused}
-use Rattle.reports.proofs.Called.{full-refused, full-done, length-raised}
+use Rattle.reports.proofs.Called.{full-refused, full-done}
 use Rattle.reports.proofs.Sums.{over-both, over-one}
 use Rattle.reports.proofs.AddsUp.{adds-up, sum-cong, sum-first, sectors-data}
 
@@ -166,7 +166,7 @@ module _ (ds : Disks) (d r : List ℕ) (w : Made ds r) where
       let e = disks-are in
       sym (full-done r (disksIn r + 1) (numberAt (reportOf (look d))) (omega arith) (ap length (w .is) ∙ length-listed (over ds)) refl)
       ∙ ap₂ (λ (n : ℕ) (l : List ℕ). out (done (n + 1) 0) l) e
-        (ap (λ (r : List ℕ). raised r (numberAt (reportOf (look d)))) (w .is) ∙ raised-listed (over ds) (reportOf (look d)) small ∙ ap listed (sym (over-one ds d)))
+      (ap (λ (r : List ℕ). raised r (numberAt (reportOf (look d)))) (w .is) ∙ raised-listed (over ds) (reportOf (look d)) small ∙ ap listed (sym (over-one ds d)))
     where
       small : (k : ℕ) → numberAt (plus (over ds) (reportOf (look d))) k < 2 ^ 32
       small k = omega (arith, number-plus (over ds) (reportOf (look d)) k, small-over ds k, small-disk (look d) k)

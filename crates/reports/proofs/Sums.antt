@@ -1,15 +1,11 @@
 -- Laws of the report over a list: reports add up in any order, and the numbers of each add up.
-use Prim.Native.Nat.{ℕ, zero, suc, _+_, _*_, _-_, _≤_, _<_}
-use mathlib.Core.Path.{_≡_, refl, sym, ap, ap₂, _∙_}
-use mathlib.Core.Bool.{Bool, true, false, cond}
+use Prim.Native.Nat.{ℕ, _+_}
+use mathlib.Core.Path.{_≡_, refl, sym, ap, _∙_}
 use mathlib.Core.List.{List, [], _∷_, _++_}
-use mathlib.Core.Option.{Option, none, some}
-use native.Mathlib.Nat.{add-comm, add-assoc, zero-add}
+use native.Mathlib.Nat.{add-comm}
 use native.Mathlib.Omega.{arith}
-use lib.Dec.{eqb}
-use lib.ListN.{length, length-append}
 use Rattle.disk.specs.Look.{look}
-use Rattle.reports.specs.Numbers.{sum, Numbers, empty, plus, over, reportOf}
+use Rattle.reports.specs.Numbers.{Numbers, empty, plus, over, reportOf}
 use Rattle.reports.specs.Shelf.{Disks, Reordered, none-left, same-first, swapped, then-again}
 
 -- ---- reports add up in any order

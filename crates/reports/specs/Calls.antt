@@ -5,7 +5,7 @@ use lib.Dec.{ltb}
 use lib.ListN.{getD, set}
 use Rattle.buffers.specs.Bytes.{tab}
 use Rattle.refusals.specs.Order.{Reply, row}
-use Rattle.refusals.specs.Answers.{Outcome, done, Out, filled}
+use Rattle.refusals.specs.Answers.{done, Out, filled}
 use Rattle.disk.specs.Look.{look}
 use Rattle.reports.specs.Numbers.{sum, numberAt, reportOf}
 

@@ -1,18 +1,15 @@
 -- What is shown of reports over lists of disks.
-use Prim.Native.Nat.{ℕ, suc, _+_, _≤_, _<_}
+use Prim.Native.Nat.{ℕ, suc, _+_, _≤_}
 use mathlib.Core.Path.{_≡_}
-use mathlib.Core.List.{List, [], _∷_, _++_}
-use mathlib.Core.Option.{none}
+use mathlib.Core.List.{List, [], _∷_}
 use lib.ListN.{length}
-use Rattle.refusals.specs.Order.{refuse}
-use Rattle.refusals.specs.Answers.{done, refused, out}
+use Rattle.refusals.specs.Answers.{refused}
 use Rattle.slots.specs.Rows.{dataCount}
 use Rattle.directory.specs.Places.{slots}
 use Rattle.directory.specs.Directory.{held, liveAmong}
 use Rattle.disk.specs.Look.{Look, look, slotsOf, extra}
-use Rattle.disk.specs.Check.{checkLook, checkDisk}
-use Rattle.reports.specs.Numbers.{sum, Numbers, reportOf, over, listed}
-use Rattle.reports.specs.Calls.{adding, joining}
+use Rattle.disk.specs.Check.{checkDisk}
+use Rattle.reports.specs.Numbers.{sum, Numbers, over, listed}
 
 abbrev pub Disks : Type 0
 Disks = List (List ℕ)

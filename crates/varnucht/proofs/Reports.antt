@@ -7,8 +7,8 @@ use native.Mathlib.Omega.{arith}
 use borrow.Author.Tests.{ltb-false}
 use lib.Dec.{ltb}
 use lib.ListN.{length, getD}
-use Rattle.refusals.specs.Order.{Reply, _else_, row}
-use Rattle.refusals.specs.Answers.{Outcome, done, unless, Out, out, filled}
+use Rattle.refusals.specs.Order.{Reply, _else_}
+use Rattle.refusals.specs.Answers.{Outcome, done, Out, out, filled}
 use Rattle.refusals.proofs.First.{else-none}
 use Rattle.plans.proofs.Sure.{row-none}
 use Rattle.packing.specs.Packed.{packed, clipped, Within, Told}

@@ -1,5 +1,4 @@
 -- `bytereports::four_at` meets its contract: the bytes are taken low byte first.
-use native.Mathlib.Omega.{arith}
 use Rattle.bytereports.proofs.Fours.{four-is}
 use borrow.Author.Needs.{needs}
 use Rattle.bytereports.proofs.four_at.Statement.{statement}

@@ -1,6 +1,5 @@
 -- `bytereports::put_numbers` meets its contract: before each turn the bytes of the first `k` numbers are put.
 use Prim.Native.Nat.{_-_}
-use native.Mathlib.Omega.{arith}
 use lib.ListN.{length}
 use Rattle.bytereports.proofs.Fours.{Stored, stored-none, stored-more, stored-long, stored-room, stored-all}
 use borrow.Author.Needs.{needs}

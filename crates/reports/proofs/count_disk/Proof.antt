@@ -1,6 +1,6 @@
 -- `reports::count_disk` meets its contract: the check refuses the disk, or its sectors and its files are counted.
 use native.Mathlib.Omega.{arith}
-use Rattle.reports.proofs.Disk.{Taken, taken, counts-refused, counts-accepted, free-small, length-three}
+use Rattle.reports.proofs.Disk.{taken, counts-refused, counts-accepted, free-small, length-three}
 use borrow.Author.Needs.{needs}
 use Rattle.reports.proofs.count_disk.Statement.{statement}
 use Rattle.reports.proofs.count_disk.Tie as tie
