@@ -27,7 +27,7 @@ use Rattle.directory.specs.declared.UsedMap.{UsedMap}
 use Rattle.directory.proofs.Union.{length-union, share-union}
 use Rattle.directory.proofs.Pass.{survey-passed}
 use Rattle.disk.specs.Look.{Look, look, slotsOf, extra}
-use Rattle.disk.specs.Check.{chainAt, checkLook, checkDisk, Examined}
+use Rattle.disk.specs.Check.{chainAt, checkBy, checkLook, checkDisk, Examined}
 use Rattle.disk.proofs.Look.{look-slots}
 use Rattle.reports.specs.Numbers.{sum, Numbers, sectorsAmong, filesReport, acceptedReport, refusedReport, reportOf, numberAt}
 use Rattle.reports.specs.Calls.{raisedAt, raised}

@@ -6,7 +6,8 @@ use native.Mathlib.Omega.{arith}
 use denote.Ref.{now}
 use Rattle.directory.specs.Places.{slots}
 use Rattle.directory.specs.Directory.{slotsRead, directory}
-use Rattle.directory.proofs.Live.{read-most, met-live, met-dead, among-seen, among-read}
+use Rattle.directory.proofs.Ends.{read-most}
+use Rattle.directory.proofs.Live.{met-live, met-dead, among-seen, among-read}
 use Rattle.reports.proofs.Files.{Tallied, tallied-none, tallied-dead, tallied-live, tallied-all}
 use borrow.Author.Needs.{needs}
 use Rattle.reports.proofs.count_files.Statement.{statement}
