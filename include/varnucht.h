@@ -167,7 +167,7 @@ uint64_t varnucht_check(const uint8_t *image, size_t image_len);
 
 /* Whether the disk is good and fit to go out: no file of a carried kind has waste sectors behind it, where old texts hide. A
  * file has them where its count is above the least that its length needs. Every other call accepts such a disk still.
- * Value: 0. Refusals: 1 to 11, 22, 25. Stack: 1,288 bytes. */
+ * Value: 0. Refusals: 1 to 11, 22, 25. Stack: 1,336 bytes. */
 uint64_t varnucht_check_release(const uint8_t *image, size_t image_len);
 
 /* Every file, hidden ones too, by rising slot, at 258 bytes each from the front of `out`; section 6 says how to read them.
@@ -205,7 +205,7 @@ uint64_t varnucht_read(const uint8_t *image, size_t image_len, const uint8_t *na
 
 /* Finds a file. Value: the length of its body in bytes, 0 to 795,591. Slot: the sector that the body begins in, 0 to 1,599.
  * Free: the place of its first byte there, 9. Refusals: 1 to 11, 25, 12, 13, 15, as varnucht_read has them.
- * Stack: 1,368 bytes. */
+ * Stack: 1,416 bytes. */
 uint64_t varnucht_open(const uint8_t *image, size_t image_len, const uint8_t *name, size_t name_len);
 
 /* The next bytes, to the front of `out`: as many as it holds or as are left.
