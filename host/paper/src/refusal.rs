@@ -32,6 +32,7 @@ pub enum Reason {
     DiskFull = 19,
     BufferTooShort = 20,
     NoSuchSector = 21,
+    ReportFull = 31,
 }
 
 impl Reason {
