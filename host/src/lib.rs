@@ -80,6 +80,11 @@
 //! # Ok::<(), Box<dyn std::error::Error>>(())
 //! ```
 //!
+//! # A shelf of disks
+//!
+//! A [`Report`] is a shelf in numbers: disks accepted and refused, files by kind and by size, sectors. Disks are added to it
+//! one at a time, and two reports join.
+//!
 //! # A disk in a file
 //!
 //! A change answers with the [`Sectors`] that it altered, in the order in which they are to be written. Wherever that
@@ -114,7 +119,7 @@
 //! # Words
 //!
 //! "Document 01" and "the paper" are the rules that the library is proved against. A refusal prints their words. Below the
-//! types stand [`calls`], the fourteen calls on byte slices, and [`raw`], the C layer itself.
+//! types stand [`calls`], the sixteen calls on byte slices, and [`raw`], the C layer itself.
 #![warn(missing_docs)]
 
 mod answer;
@@ -133,6 +138,7 @@ mod place;
 pub mod raw;
 mod reader;
 mod refusal;
+mod report;
 mod sectors;
 mod start;
 mod store;
@@ -149,6 +155,7 @@ pub use name::{NAME_LENGTH, Name, NewName, Unusable};
 pub use place::{DATA_SECTORS, Drive, SECTOR_LENGTH, SECTORS, Sector, SectorNumber, Track};
 pub use reader::Reader;
 pub use refusal::{Refusal, Refused, Slot};
+pub use report::{MOST_DISKS, REPORT_LENGTH, Report, SectorClass};
 pub use sectors::{LONGEST_BODY, Sectors};
 pub use start::Start;
 pub use store::{Store, WriteError};

@@ -49,6 +49,8 @@ pub enum Refusal {
     ShortBuffer,
     /// 21: no such drive, track or sector.
     NoSuchSector,
+    /// 31: a report that would pass 65,535 disks.
+    ReportFull,
     /// A number that this table does not have. No call of today's library gives one.
     Unlisted(u8),
 }
@@ -91,11 +93,22 @@ const TABLE: [(Refusal, &str); 21] = [
     (Refusal::NoSuchSector, "no such drive, track or sector"),
 ];
 
+/// The rows that document 02 adds further down, each with its number.
+const LATER: [(u8, (Refusal, &str)); 1] = [(31, (Refusal::ReportFull, "a disk or join that would pass 65,535 disks"))];
+
+/// Every row with its number.
+fn rows() -> impl Iterator<Item = (u8, (Refusal, &'static str))> {
+    (1..).zip(TABLE).chain(LATER)
+}
+
 impl Refusal {
     /// The refusal with this number; none for 0, which stands for "accepted".
     pub fn from_number(number: u8) -> Option<Refusal> {
-        let row = usize::from(number).checked_sub(1)?;
-        Some(TABLE.get(row).map_or(Refusal::Unlisted(number), |(refusal, _)| *refusal))
+        let listed = rows().find(|(row, _)| *row == number);
+        match number {
+            0 => None,
+            _ => Some(listed.map_or(Refusal::Unlisted(number), |(_, (refusal, _))| refusal)),
+        }
     }
 
     /// Document 01's number of this refusal.
@@ -106,11 +119,9 @@ impl Refusal {
     pub fn number(self) -> u8 {
         match self {
             Refusal::Unlisted(number) => number,
-            listed => TABLE
-                .iter()
-                .zip(1..)
-                .find(|((refusal, _), _)| *refusal == listed)
-                .map_or(0, |(_, number)| number),
+            listed => rows()
+                .find(|(_, (refusal, _))| *refusal == listed)
+                .map_or(0, |(number, _)| number),
         }
     }
 
@@ -120,10 +131,9 @@ impl Refusal {
     /// assert_eq!(varnucht::Refusal::NotFound.words(), "no live slot has the name");
     /// ```
     pub fn words(self) -> &'static str {
-        TABLE
-            .iter()
-            .find(|(refusal, _)| *refusal == self)
-            .map_or("a refusal that is not in the table", |(_, words)| words)
+        rows()
+            .find(|(_, (refusal, _))| *refusal == self)
+            .map_or("a refusal that is not in the table", |(_, (_, words))| words)
     }
 }
 
