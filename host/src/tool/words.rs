@@ -18,6 +18,11 @@ impl Given {
         &self.places[place]
     }
 
+    /// All words. A command whose last place is for many takes any number.
+    pub fn words(&self) -> &[OsString] {
+        &self.places
+    }
+
     /// The value of the choice of this name, if it was given.
     pub fn value(&self, name: &str) -> Option<&OsStr> {
         self.choices
@@ -106,10 +111,14 @@ fn valued(
     }
 }
 
+/// Ends the name of a last place that takes any number of words, none too.
+const MANY: &str = "...";
+
 /// What was given, where it is as many words as the command takes.
 fn counted(given: Given) -> Result<Given, Failure> {
     let (takes, has) = (given.command.places, given.places.len());
-    if takes.len() == has {
+    let many = takes.last().is_some_and(|last| last.ends_with(MANY));
+    if takes.len() == has || many && has + 1 >= takes.len() {
         return Ok(given);
     }
     let words = match takes.get(has) {

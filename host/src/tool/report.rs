@@ -1,0 +1,215 @@
+//! `report`: a shelf of images in numbers. Several threads read and check images, each into a report of its own and with one
+//! buffer of its own; then the reports are joined.
+use super::colour;
+use super::failure::{Failure, Outcome};
+use super::numbers;
+use super::output;
+use super::progress::Progress;
+use super::shelf::{List, Next, Shelf};
+use super::source::{self, STANDARD, Wait};
+use super::values;
+use super::words::Given;
+use std::collections::BTreeMap;
+use std::ffi::{OsStr, OsString};
+use std::fs::File;
+use std::io::{self, Read};
+use std::sync::{Mutex, MutexGuard, PoisonError};
+use std::thread;
+use varnucht::{IMAGE_LENGTH, MOST_DISKS, Report};
+
+/// Prints the report over all images that are named or found.
+pub fn run(given: &Given) -> Outcome {
+    let (colour, threads) = (colour::wanted(given)?, threads(given)?);
+    let desk = Mutex::new(Desk::new(shelf(given)?));
+    let reports = thread::scope(|scope| {
+        let work = || work(&desk, given);
+        // Where the system gives no more threads, those that are there do the work.
+        let others: Vec<_> = (1..threads)
+            .map_while(|_| thread::Builder::new().spawn_scoped(scope, work).ok())
+            .collect();
+        let own = work();
+        let others = others.into_iter().map(|other| other.join().expect("a thread ends well"));
+        others.chain([own]).collect::<Vec<Report>>()
+    });
+    let desk = desk.into_inner().unwrap_or_else(PoisonError::into_inner);
+    let (images, unread) = desk.finish()?;
+    let report = joined(&reports)?;
+    output::print(match given.has("--json") {
+        true => numbers::json(&report, unread),
+        false => numbers::table(&report, unread, colour),
+    })?;
+    match unread {
+        0 => Ok(()),
+        _ => Err(Failure::Unread(format!(
+            "{unread} of {} could not be read, and the report is without them",
+            images + unread
+        ))),
+    }
+}
+
+/// How many threads read, as `--threads` says: else as many as can run at once, and no more than sixteen.
+fn threads(given: &Given) -> Result<usize, Failure> {
+    let usual = || thread::available_parallelism().map_or(1, |many| many.get().min(16));
+    let Some(word) = given.value("--threads") else {
+        return Ok(usual());
+    };
+    match values::number(given, word)? {
+        many @ 1..=64 => Ok(many as usize),
+        _ => Err(given.usage(format!("`--threads` takes 1 to 64, and not `{}`", output::shown(word)))),
+    }
+}
+
+/// The shelf that the command line names.
+fn shelf(given: &Given) -> Result<Shelf<'_>, Failure> {
+    let list = given.value("--files-from");
+    let standard = given.words().iter().filter(|word| *word == STANDARD).count();
+    if given.words().is_empty() && list.is_none() {
+        return Err(given.usage("`report` takes IMAGE... or `--files-from LIST`: neither is given"));
+    }
+    if standard + usize::from(list.is_some_and(|list| list == STANDARD)) > 1 {
+        return Err(given.usage("standard input can be read once: `-` is given twice"));
+    }
+    Ok(Shelf::new(given.words(), list.map(List::open).transpose()?))
+}
+
+/// The report over the images of all threads. Refused 31 where they are too many.
+fn joined(reports: &[Report]) -> Result<Report, Failure> {
+    let mut all = Report::new();
+    for report in reports {
+        all.join(report)
+            .map_err(|refused| Failure::Refused("report".into(), refused.into()))?;
+    }
+    Ok(all)
+}
+
+/// Takes image after image until none is left.
+fn work(desk: &Mutex<Desk>, given: &Given) -> Report {
+    let (mut report, mut buffer) = (Report::new(), vec![0; IMAGE_LENGTH + 1]);
+    let say = |words: &str| at(desk).say(words);
+    let wait = Wait::new(given, &say);
+    loop {
+        let Some((turn, image)) = at(desk).take() else {
+            return report;
+        };
+        let added = image.and_then(|path| add(&mut report, &path, &wait, &mut buffer));
+        at(desk).done(turn, added);
+    }
+}
+
+/// Adds the image in a file to the report. Of a longer file no more is read than shows that it is too long.
+fn add(report: &mut Report, path: &OsStr, wait: &Wait, buffer: &mut [u8]) -> Outcome {
+    let fill = |file: &mut File| fill(file, buffer).map_err(|error| Failure::io(path, error));
+    let length = source::open(path, wait, fill)?;
+    report
+        .add(&buffer[..length])
+        .map(|_| ())
+        .map_err(|refused| Failure::Refused("report".into(), refused.into()))
+}
+
+/// Fills a buffer from a file, to its end or to the file's. Gives how many bytes came.
+fn fill(file: &mut File, buffer: &mut [u8]) -> io::Result<usize> {
+    let mut came = 0;
+    while came < buffer.len() {
+        match file.read(&mut buffer[came..]) {
+            Ok(0) => break,
+            Ok(more) => came += more,
+            Err(error) if error.kind() == io::ErrorKind::Interrupted => {}
+            Err(error) => return Err(error),
+        }
+    }
+    Ok(came)
+}
+
+/// What the threads share: the images that are still to be read, and what is said meanwhile.
+struct Desk<'a> {
+    shelf: Shelf<'a>,
+    /// How many images were handed out, which is the turn of the next; and the turns of those that are not done yet.
+    turn: usize,
+    busy: Vec<usize>,
+    /// What is to be said of images, by their turn: it is said when all before them are done.
+    said: BTreeMap<usize, String>,
+    images: usize,
+    unread: usize,
+    /// Why no more is handed out.
+    stopped: Option<Failure>,
+    progress: Progress,
+}
+
+/// The desk, for one thread at a time.
+fn at<'m, 'a>(desk: &'m Mutex<Desk<'a>>) -> MutexGuard<'m, Desk<'a>> {
+    desk.lock().unwrap_or_else(PoisonError::into_inner)
+}
+
+impl<'a> Desk<'a> {
+    fn new(shelf: Shelf<'a>) -> Desk<'a> {
+        Desk {
+            shelf,
+            turn: 0,
+            busy: Vec::new(),
+            said: BTreeMap::new(),
+            images: 0,
+            unread: 0,
+            stopped: None,
+            progress: Progress::new(),
+        }
+    }
+
+    /// Hands out the next image, or what is in its way, and its turn; no more images than show that no report holds them.
+    fn take(&mut self) -> Option<(usize, Result<OsString, Failure>)> {
+        if self.stopped.is_some() || self.images > MOST_DISKS as usize {
+            return None;
+        }
+        let image = match self.shelf.next()? {
+            Next::Image(path) => Ok(path),
+            Next::Unread(failure) => Err(failure),
+            Next::Broken(failure) => {
+                self.stopped = Some(failure);
+                return None;
+            }
+        };
+        let turn = self.turn;
+        self.turn += 1;
+        self.busy.push(turn);
+        Some((turn, image))
+    }
+
+    /// The image of this turn is added, or could not be read.
+    fn done(&mut self, turn: usize, added: Outcome) {
+        self.busy.retain(|busy| *busy != turn);
+        match added {
+            Ok(()) => self.images += 1,
+            Err(failure @ Failure::Refused(..)) => self.stopped = Some(failure),
+            Err(failure) => {
+                self.unread += 1;
+                self.said.extend(failure.words().map(|words| (turn, words)));
+            }
+        }
+        let first = self.busy.iter().copied().min().unwrap_or(self.turn);
+        while let Some(next) = self.said.first_entry()
+            && *next.key() < first
+        {
+            let words = next.remove();
+            self.say(&words);
+        }
+        let (images, unread) = (self.images, self.unread);
+        self.progress.show(|| match unread {
+            0 => format!("{images} read "),
+            _ => format!("{images} read, {unread} could not be "),
+        });
+    }
+
+    /// Says something on a line of its own.
+    fn say(&mut self, words: &str) {
+        self.progress.clear();
+        output::say(words);
+    }
+
+    /// How many images were read and how many could not be.
+    fn finish(mut self) -> Result<(usize, usize), Failure> {
+        self.progress.clear();
+        match self.stopped {
+            Some(failure) => Err(failure),
+            None => Ok((self.images, self.unread)),
+        }
+    }
+}
