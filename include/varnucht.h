@@ -260,8 +260,8 @@ uint64_t varnucht_sector(const uint8_t *one, size_t one_len, const uint8_t *two,
  * Two reports join, and the join is the report over the disks of both, in whichever order they are joined: each thread can
  * count into a report of its own. Being bytes, a report may be kept in a file, and means the same on every machine.
  *
- * Of a report that was not made by these calls alone no more is promised than that the call answers, that it takes sums
- * modulo 2^32 and touches nothing but `report`, and that a refused call changes nothing. */
+ * Of a report that was not made by these calls alone no more is promised than that the call answers, that it adds to each
+ * number modulo 2^32 and touches nothing but `report`, and that a refused call changes nothing. */
 enum varnucht_report_place {
     VARNUCHT_REPORT_ACCEPTED = 0,       /* how many disks are accepted */
     VARNUCHT_REPORT_REFUSED = 0,        /* + r, 1 to 32: how many are refused r (section 3) */

@@ -63,7 +63,8 @@ impl Report {
 
     /// The report with these bytes, as [`as_bytes`](Report::as_bytes) gave them.
     ///
-    /// Of bytes that no report had it is only promised that every call answers: sums are taken modulo 2^32.
+    /// Of bytes that no report had it is only promised that every call answers: what is added to a number is added modulo
+    /// 2^32.
     pub fn from_bytes(bytes: [u8; REPORT_LENGTH]) -> Report {
         Report(bytes)
     }
@@ -150,9 +151,9 @@ impl Report {
         u32::from_le_bytes(self.0.as_chunks().0[at])
     }
 
-    /// The sum of the numbers at these places.
+    /// The sum of the numbers at these places. No report of the library's own making comes near to the greatest.
     fn sum(&self, places: Range<usize>) -> u32 {
-        places.map(|at| self.number(at)).fold(0, u32::wrapping_add)
+        places.map(|at| self.number(at)).fold(0, u32::saturating_add)
     }
 }
 

@@ -14,10 +14,10 @@ mod table;
 use compilers::{BOTH, Folder, Language, build, compile, link, part, root, try_compile};
 use std::fs;
 use std::process::Command;
-use table::TABLE;
+use table::words;
 
 /// The parts of the program that checks the header from inside.
-const CHECKS: [&str; 8] = [
+const CHECKS: [&str; 9] = [
     "main.c",
     "constants.c",
     "answers.c",
@@ -26,6 +26,7 @@ const CHECKS: [&str; 8] = [
     "empty.c",
     "sizes.c",
     "pieces.c",
+    "reports.c",
 ];
 
 fn header_text() -> String {
@@ -112,6 +113,10 @@ fn a_wrong_type_is_refused() {
             "next_call(const uint8_t *, size_t, uint32_t, uint32_t, uint32_t,",
             "next_call(const uint8_t *, size_t, uint32_t, uint32_t, size_t,",
         ),
+        (
+            "join_call(uint8_t *, size_t, const uint8_t *, size_t)",
+            "join_call(uint8_t *, size_t, uint8_t *, size_t)",
+        ),
     ];
     for (right, other) in wrong {
         assert_eq!(text.matches(right).count(), 1, "{right}");
@@ -140,11 +145,9 @@ fn the_words_are_the_papers() {
         let lines: Vec<&str> = text.lines().collect();
         assert_eq!(lines.len(), 256);
         assert_eq!(lines[0], "0 accepted");
-        for (number, words) in (1..).zip(TABLE) {
-            assert_eq!(lines[number], format!("{number} {words}"));
-        }
-        for (number, line) in lines.iter().enumerate().skip(22) {
-            assert_eq!(*line, format!("{number} not a number of refusal"));
+        for (number, line) in lines.iter().enumerate().skip(1) {
+            let words = words(number).unwrap_or("not a number of refusal");
+            assert_eq!(*line, format!("{number} {words}"));
         }
     }
 }
@@ -159,7 +162,7 @@ fn the_header_declares_what_raw_declares() {
         raw_text.matches("pub fn ").count(),
         "every function of raw.rs is read"
     );
-    assert_eq!(header.len(), 14);
+    assert_eq!(header.len(), 16);
     assert_eq!(header, raw);
     for call in &header {
         for (at, (name, kind)) in call

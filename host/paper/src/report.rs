@@ -1,7 +1,7 @@
 //! Document 02, M-111: a shelf of disks in numbers.
 //!
 //! A report is 124 numbers of four bytes each, low byte first. All zero is the report over no disk. A report that other hands
-//! made may hold any numbers: every sum is taken modulo 2^32.
+//! made may hold any numbers: what is added to one of them is added modulo 2^32.
 
 use crate::check::survey;
 use crate::geometry::{Image, whole};
@@ -75,10 +75,10 @@ fn class(sectors: usize) -> usize {
     firsts.take_while(|first| *first <= sectors).count()
 }
 
-/// How many disks a report holds.
+/// How many disks a report holds. A report of other hands may say that there are very many.
 fn disks(report: &Numbers) -> u64 {
     let counts = report[..DISKS].iter().map(|number| u32::from_le_bytes(*number));
-    counts.fold(0, u32::wrapping_add).into()
+    counts.map(u64::from).sum()
 }
 
 /// How many disks there are with so many more, if a report can hold them.

@@ -151,7 +151,7 @@ fn what_stays() {
     assert_eq!(report_join(&mut long, &other), refused(31, 0));
 }
 
-/// Numbers that no call gave: sums modulo 2^32.
+/// Numbers that no call gave: sums are taken modulo 2^32.
 #[test]
 fn other_reports_get_an_answer() {
     let [_, one, ..] = shelf();
@@ -165,9 +165,11 @@ fn other_reports_get_an_answer() {
     let other = report.clone();
     assert_eq!(report_join(&mut report, &other), Ok(2));
     assert_eq!((number(&report, 99), number(&report, 111)), (u32::MAX - 1, u32::MAX));
-    // So is the number of disks.
+    // But not the number of disks: these are more than 65,535, and not one.
     set(&mut report, 0, u32::MAX);
-    set(&mut report, 7, 1);
-    assert_eq!(report_add(&one, &mut report), Ok(1));
-    assert_eq!((number(&report, 0), number(&report, 7)), (0, 1));
+    set(&mut report, 7, 2);
+    let full = report.clone();
+    assert_eq!(report_add(&one, &mut report), refused(31, 0));
+    assert_eq!(report_join(&mut report, &empty()), refused(31, 0));
+    assert!(report == full);
 }

@@ -1,5 +1,5 @@
 //! Every refusal prints document 01's words, and every one of them is met.
-use super::table::TABLE;
+use super::table::{self, LATER, TABLE};
 use super::*;
 use std::collections::HashSet;
 use varnucht::{Answer, LONGEST_BODY, Refusal, Track, calls};
@@ -9,26 +9,29 @@ fn every_number_prints_with_and_without_a_slot() {
     for number in 1..=255u8 {
         let refusal = Refusal::from_number(number).expect("0 alone is no refusal");
         assert_eq!(refusal.number(), number);
-        let words = TABLE
-            .get(usize::from(number) - 1)
-            .copied()
-            .unwrap_or("a refusal that is not in the table");
+        let words = table::words(number.into()).unwrap_or("a refusal that is not in the table");
         assert_eq!(refusal.words(), words);
         assert_eq!(Refused::from(refusal).to_string(), format!("refusal {number}: {words}"));
         let at = Answer::from_number(u64::from(number) + 256 * 80).decode().unwrap_err();
         assert_eq!(at.to_string(), format!("refusal {number} at slot 80: {words}"));
     }
     assert_eq!(Refusal::from_number(0), None);
-    let distinct: HashSet<_> = (1..=21).map(|number| Refusal::from_number(number).unwrap()).collect();
-    assert_eq!(distinct.len(), 21);
+    let distinct: HashSet<_> = numbers().map(|number| Refusal::from_number(number).unwrap()).collect();
+    assert_eq!(distinct.len(), TABLE.len() + LATER.len());
 }
 
-/// Each of the 21 refusals, brought about and caught as an error.
+/// The numbers that have a row.
+fn numbers() -> impl Iterator<Item = u8> {
+    let later = LATER.iter().map(|(number, _)| *number as u8);
+    (1..=TABLE.len() as u8).chain(later)
+}
+
+/// Each refusal, brought about and caught as an error.
 #[test]
 fn every_refusal_is_met() {
     let mut met = Vec::new();
     for (number, slot, refused) in provoked() {
-        let words = TABLE[usize::from(number) - 1];
+        let words = table::words(number.into()).expect("it has a row");
         let at = if slot == 0 {
             String::new()
         } else {
@@ -37,7 +40,7 @@ fn every_refusal_is_met() {
         assert_eq!(parts(refused), (number, slot, format!("refusal {number}{at}: {words}")));
         met.push(number);
     }
-    assert_eq!(met, (1..=21).collect::<Vec<u8>>());
+    assert_eq!(met, numbers().collect::<Vec<u8>>());
 }
 
 /// A refusal of every number, each with the number and the slot that it should have.
@@ -66,6 +69,7 @@ fn provoked() -> Vec<(u8, u16, Refused)> {
         calls::list(pair().image().as_bytes(), &mut [0; 515]).decode().unwrap_err(),
     ));
     all.push((21, 0, Track::new(80).unwrap_err()));
+    all.push((31, 0, reports::full().add(b"").unwrap_err()));
     all
 }
 

@@ -170,13 +170,23 @@ fn the_last_disk() {
     for (there, more) in [(65_535, 0), (65_000, 535), (65_000, 536), (40_000, 25_536), (1, 65_535)] {
         let mut both = [there, more].map(|wanted| {
             let mut report = random.bytes(REPORT);
-            (0..DISKS).for_each(|at| set(&mut report, at, random.below(900) as u32));
             with_disks(&mut report, wanted, random);
             report
         });
         both[0].extend([7; 5]);
         let expected = if there + more <= 65_535 { holds(65_535) } else { 31 };
         assert_eq!(join(&both[0], &both[1]).0, expected, "{there} and {more}");
+    }
+    // So many that they are few modulo 2^32: in one report, and in two.
+    let mut wrapped = vec![0; REPORT];
+    set(&mut wrapped, 0, u32::MAX);
+    let mut one = vec![0; REPORT];
+    set(&mut one, 1, 1);
+    assert_eq!((join(&wrapped, &one).0, join(&one, &wrapped).0, add(&image, &wrapped).0), (31, 31, 31));
+    for (place, number) in [(1, 1), (32, 1), (0, 0)] {
+        set(&mut wrapped, place, number);
+        set(&mut wrapped, 7, if number == 0 { u32::MAX } else { 0 });
+        assert_eq!((add(&image, &wrapped).0, join(&wrapped, &vec![0; REPORT]).0), (31, 31));
     }
 }
 

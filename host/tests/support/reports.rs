@@ -20,10 +20,9 @@ pub fn set(report: &mut [u8], at: usize, number: u32) {
     report[4 * at..][..4].copy_from_slice(&number.to_le_bytes());
 }
 
-/// How many disks a report holds: a sum like every other, modulo 2^32.
+/// How many disks a report holds: as many as its first numbers come to, also where that passes 2^32.
 pub fn disks(report: &[u8]) -> u64 {
-    let sum: u64 = (0..DISKS).map(|at| u64::from(number(report, at))).sum();
-    sum % (1 << 32)
+    (0..DISKS).map(|at| u64::from(number(report, at))).sum()
 }
 
 /// What is counted of some disks.
@@ -96,7 +95,7 @@ fn buffer(random: &mut Random) -> Vec<u8> {
     buffer
 }
 
-/// A report: empty, of few disks, nearly full, full, or of rubbish.
+/// A report: empty, of few disks, nearly full, full, or of far too many; its other numbers are 0, or rubbish.
 pub fn report(random: &mut Random) -> Vec<u8> {
     let mut report = match random.below(3) {
         0 => vec![0; REPORT],
@@ -108,16 +107,32 @@ pub fn report(random: &mut Random) -> Vec<u8> {
         2 => random.pick(&[32_767, 32_768, 65_533, 65_534, 65_535]),
         3 => random.below(65_536) as u32,
         4 => random.below(33_000) as u32,
-        _ => random.pick(&[65_536, 65_537, 1 << 31, u32::MAX - 1, u32::MAX]),
+        _ => return of_too_many(report, random),
     };
     with_disks(&mut report, wanted, random);
     report
 }
 
-/// Gives one of the numbers that count disks the value by which they come to so many, modulo 2^32.
+/// Far too many disks, some of them so many that only high bits are left.
+fn of_too_many(mut report: Vec<u8>, random: &mut Random) -> Vec<u8> {
+    let wanted = random.pick(&[0, 1, 7, 65_535, 65_536, 65_537, 1 << 31, u32::MAX]);
+    with_disks(&mut report, wanted, random);
+    for _ in 0..random.pick(&[0, 2, 4]) {
+        let at = random.below(DISKS);
+        let more = number(&report, at).wrapping_add(1 << 31);
+        set(&mut report, at, more);
+    }
+    report
+}
+
+/// Gives the numbers that count disks values that come to so many.
 pub fn with_disks(report: &mut [u8], wanted: u32, random: &mut Random) {
-    let at = random.below(DISKS);
-    set(report, at, 0);
-    let others = disks(report) as u32;
-    set(report, at, wanted.wrapping_sub(others));
+    report[..4 * DISKS].fill(0);
+    let mut left = wanted;
+    while left > 0 {
+        let (at, part) = (random.below(DISKS), if random.coin() { left } else { left / 3 + 1 });
+        let more = number(report, at) + part;
+        set(report, at, more);
+        left -= part;
+    }
 }

@@ -22,3 +22,12 @@ pub const TABLE: [&str; 21] = [
     "a lent output buffer is too short",
     "no such drive, track or sector",
 ];
+
+/// The words of the rows that document 02 adds further down, with their numbers.
+pub const LATER: [(usize, &str); 1] = [(31, "a disk or join that would pass 65,535 disks")];
+
+/// The words of a number, where a row has it.
+pub fn words(number: usize) -> Option<&'static str> {
+    let later = LATER.iter().find(|(row, _)| *row == number).map(|(_, words)| *words);
+    TABLE.get(number.wrapping_sub(1)).copied().or(later)
+}
