@@ -69,17 +69,13 @@ pub fn sector(one: &[u8], two: &[u8], drive: u32, track: u32, sector: u32) -> An
 /// Adds a disk, accepted or refused, to the report at the front of `report`. Value: how many disks it holds then.
 pub fn report_add(image: &[u8], report: &mut [u8]) -> Answer {
     // SAFETY: pointers and lengths are those of slices, and `report` is borrowed alone.
-    Answer::from_number(unsafe {
-        raw::varnucht_report_add(image.as_ptr(), image.len(), report.as_mut_ptr(), report.len())
-    })
+    Answer::from_number(unsafe { raw::varnucht_report_add(image.as_ptr(), image.len(), report.as_mut_ptr(), report.len()) })
 }
 
 /// Joins the report at the front of `other` to the one at the front of `report`. Value: how many disks that holds then.
 pub fn report_join(report: &mut [u8], other: &[u8]) -> Answer {
     // SAFETY: pointers and lengths are those of slices, and `report` is borrowed alone.
-    Answer::from_number(unsafe {
-        raw::varnucht_report_join(report.as_mut_ptr(), report.len(), other.as_ptr(), other.len())
-    })
+    Answer::from_number(unsafe { raw::varnucht_report_join(report.as_mut_ptr(), report.len(), other.as_ptr(), other.len()) })
 }
 
 /// What a save is asked for.

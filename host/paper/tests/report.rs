@@ -161,7 +161,10 @@ fn other_reports_get_an_answer() {
     }
     assert_eq!(report_add(&one, &mut report), Ok(1));
     assert_eq!((number(&report, 52), number(&report, 97), number(&report, 98)), (3, 9, 1_549));
-    assert_eq!((number(&report, 101), number(&report, 99), number(&report, 111)), (1, u32::MAX, u32::MAX));
+    assert_eq!(
+        (number(&report, 101), number(&report, 99), number(&report, 111)),
+        (1, u32::MAX, u32::MAX)
+    );
     let other = report.clone();
     assert_eq!(report_join(&mut report, &other), Ok(2));
     assert_eq!((number(&report, 99), number(&report, 111)), (u32::MAX - 1, u32::MAX));

@@ -56,7 +56,10 @@ fn what_a_report_counts() {
     let refusals: Vec<_> = report.refusals().collect();
     let expected = [(Refusal::ImageLength, 2), (Refusal::UnknownKind, 1), (Refusal::Count, 1)];
     assert_eq!(refusals, expected);
-    assert_eq!((report.refused(Refusal::ImageLength), report.refused(Refusal::BrokenChain)), (2, 0));
+    assert_eq!(
+        (report.refused(Refusal::ImageLength), report.refused(Refusal::BrokenChain)),
+        (2, 0)
+    );
     assert_eq!(report.refused(Refusal::Unlisted(200)), 0);
     let kinds: Vec<_> = report.kinds().map(|(kind, files)| (kind.number(), files)).collect();
     assert_eq!(kinds, [(5, 1), (19, 12)]);
@@ -66,14 +69,30 @@ fn what_a_report_counts() {
     assert_eq!(report.file_sectors() + report.free_sectors(), 5 * 1_560);
     let classes: Vec<_> = report.classes().map(|(class, files)| (class.to_string(), files)).collect();
     let words = [
-        "0", "1", "2 to 3", "4 to 7", "8 to 15", "16 to 31", "32 to 63", "64 to 127", "128 to 255", "256 to 511",
-        "512 to 1023", "1024 and more",
+        "0",
+        "1",
+        "2 to 3",
+        "4 to 7",
+        "8 to 15",
+        "16 to 31",
+        "32 to 63",
+        "64 to 127",
+        "128 to 255",
+        "256 to 511",
+        "512 to 1023",
+        "1024 and more",
     ];
     let files = [0, 2, 6, 2, 1, 0, 0, 0, 0, 1, 0, 1];
     assert_eq!(classes, words.map(String::from).into_iter().zip(files).collect::<Vec<_>>());
     let ends: Vec<_> = report.classes().map(|(class, _)| (class.first(), class.last())).collect();
-    assert_eq!((ends[0], ends[1], ends[10], ends[11]), ((0, Some(0)), (1, Some(1)), (512, Some(1_023)), (1_024, None)));
-    assert!(ends.windows(2).all(|pair| pair[0].1 == Some(pair[1].0 - 1)), "no count is between two classes");
+    assert_eq!(
+        (ends[0], ends[1], ends[10], ends[11]),
+        ((0, Some(0)), (1, Some(1)), (512, Some(1_023)), (1_024, None))
+    );
+    assert!(
+        ends.windows(2).all(|pair| pair[0].1 == Some(pair[1].0 - 1)),
+        "no count is between two classes"
+    );
     assert_eq!(format!("{report:?}"), "Report { disks: 9, accepted: 5, files: 13, .. }");
 }
 
@@ -109,7 +128,10 @@ fn a_full_report_stays_as_it_is() {
     assert_eq!((report.disks(), report.refused(Refusal::ImageLength)), (65_535, 65_535));
     let before = report;
     let refused = report.add(Image::blank().as_bytes()).unwrap_err();
-    assert_eq!(parts(refused), (31, 0, "refusal 31: a disk or join that would pass 65,535 disks".into()));
+    assert_eq!(
+        parts(refused),
+        (31, 0, "refusal 31: a disk or join that would pass 65,535 disks".into())
+    );
     let mut one = over([&b""[..]]);
     assert_eq!(report.join(&one).unwrap_err().refusal, Refusal::ReportFull);
     assert_eq!(one.join(&report).unwrap_err().refusal, Refusal::ReportFull);
@@ -122,7 +144,10 @@ fn a_full_report_stays_as_it_is() {
 #[test]
 fn other_bytes_are_answered() {
     let mut report = Report::from_bytes([255; REPORT_LENGTH]);
-    assert_eq!((report.disks(), report.files(), report.classes().len()), (u32::MAX, u32::MAX, 12));
+    assert_eq!(
+        (report.disks(), report.files(), report.classes().len()),
+        (u32::MAX, u32::MAX, 12)
+    );
     assert_eq!((report.refusals().count(), report.kinds().count()), (32, 64));
     assert_eq!(report.add(b"").unwrap_err().refusal, Refusal::ReportFull);
     assert_eq!(report.as_bytes(), &[255; REPORT_LENGTH]);

@@ -7,7 +7,9 @@ use crate::support::damage::{self, Outcome};
 use crate::support::disks;
 use crate::support::margins::Margins;
 use crate::support::random::Random;
-use crate::support::reports::{Counts, DISKS, KEPT, MOST, NUMBERS, REPORT, disks as disks_in, number, report, set, with_disks};
+use crate::support::reports::{
+    Counts, DISKS, KEPT, MOST, NUMBERS, REPORT, disks as disks_in, number, report, set, with_disks,
+};
 use crate::support::settings::{Round, Rounds};
 use crate::support::tally::possible;
 
@@ -75,7 +77,9 @@ fn drawn_shelves() {
         (0..DISKS).for_each(|at| numbers[at] += number(&whole, at));
     }
     println!("disks accepted, and refused by number: {numbers:?}");
-    let all_given = possible(Call::Check).into_iter().all(|number| numbers[usize::from(number)] > 0);
+    let all_given = possible(Call::Check)
+        .into_iter()
+        .all(|number| numbers[usize::from(number)] > 0);
     assert!(!rounds.enough() || all_given, "{numbers:?}");
 }
 
@@ -155,7 +159,15 @@ fn the_last_disk() {
     let random = &mut Random::new(9_300_000);
     let image = disks::draw(random).image;
     for place in 0..DISKS {
-        for (there, more) in [(0, 0), (0, 1), (65_533, 1), (65_534, 1), (65_535, 0), (65_535, 1), (65_536, 0)] {
+        for (there, more) in [
+            (0, 0),
+            (0, 1),
+            (65_533, 1),
+            (65_534, 1),
+            (65_535, 0),
+            (65_535, 1),
+            (65_536, 0),
+        ] {
             let (mut report, mut other) = (vec![0; REPORT], vec![0; REPORT]);
             set(&mut report, place, there);
             set(&mut other, random.below(DISKS), more);
@@ -182,7 +194,10 @@ fn the_last_disk() {
     set(&mut wrapped, 0, u32::MAX);
     let mut one = vec![0; REPORT];
     set(&mut one, 1, 1);
-    assert_eq!((join(&wrapped, &one).0, join(&one, &wrapped).0, add(&image, &wrapped).0), (31, 31, 31));
+    assert_eq!(
+        (join(&wrapped, &one).0, join(&one, &wrapped).0, add(&image, &wrapped).0),
+        (31, 31, 31)
+    );
     for (place, number) in [(1, 1), (32, 1), (0, 0)] {
         set(&mut wrapped, place, number);
         set(&mut wrapped, 7, if number == 0 { u32::MAX } else { 0 });
@@ -207,14 +222,20 @@ fn lengths_of_reports() {
         }
     }
     assert_eq!(join(&full[..495], &good[..495]).0, 20);
-    assert_eq!((add(&image, &full).0, join(&full, &good).0, join(&good, &full).0), (31, 31, 31));
+    assert_eq!(
+        (add(&image, &full).0, join(&full, &good).0, join(&good, &full).0),
+        (31, 31, 31)
+    );
     for more in [0, 1, 2, 3, 4, 100, 496, 900_000] {
         let mut long = good.clone();
         long.extend(random.bytes(more));
         let (answer, after) = add(&image, &long);
         assert!(answer == holds(8) && after[REPORT..] == long[REPORT..], "{more} behind it");
         let (answer, after) = join(&long, &long);
-        assert!(answer == holds(14) && after[4 * KEPT..] == long[4 * KEPT..], "{more} behind it");
+        assert!(
+            answer == holds(14) && after[4 * KEPT..] == long[4 * KEPT..],
+            "{more} behind it"
+        );
     }
     assert_eq!(4 * NUMBERS, REPORT);
 }

@@ -69,5 +69,9 @@ fn the_calls_need_little_stack() {
         assert!(number == "0" || (call, number) == ("check", "10"), "{line}");
         calls.insert((call, number));
     }
-    assert_eq!(calls.len(), 17, "sixteen calls that are accepted, and a check that is refused");
+    assert_eq!(
+        calls.len(),
+        17,
+        "sixteen calls that are accepted, and a check that is refused"
+    );
 }
