@@ -20,7 +20,7 @@ use varnucht::{IMAGE_LENGTH, MOST_DISKS, Report};
 /// Prints the report over all images that are named or found.
 pub fn run(given: &Given) -> Outcome {
     let (colour, threads) = (colour::wanted(given)?, threads(given)?);
-    let desk = Mutex::new(Desk::new(shelf(given)?));
+    let desk = Desk::new(shelf(given)?);
     let reports = thread::scope(|scope| {
         let work = || work(&desk, given);
         // Where the system gives no more threads, those that are there do the work.
@@ -31,7 +31,6 @@ pub fn run(given: &Given) -> Outcome {
         let others = others.into_iter().map(|other| other.join().expect("a thread ends well"));
         others.chain([own]).collect::<Vec<Report>>()
     });
-    let desk = desk.into_inner().unwrap_or_else(PoisonError::into_inner);
     let (images, unread) = desk.finish()?;
     let report = joined(&reports)?;
     output::print(match given.has("--json") {
@@ -83,17 +82,15 @@ fn joined(reports: &[Report]) -> Result<Report, Failure> {
 }
 
 /// Takes image after image until none is left.
-fn work(desk: &Mutex<Desk>, given: &Given) -> Report {
+fn work(desk: &Desk, given: &Given) -> Report {
     let (mut report, mut buffer) = (Report::new(), vec![0; IMAGE_LENGTH + 1]);
-    let say = |words: &str| at(desk).say(words);
+    let say = |words: &str| locked(&desk.state).say(words);
     let wait = Wait::new(given, &say);
-    loop {
-        let Some((turn, image)) = at(desk).take() else {
-            return report;
-        };
+    while let Some((turn, image)) = desk.take() {
         let added = image.and_then(|path| add(&mut report, &path, &wait, &mut buffer));
-        at(desk).done(turn, added);
+        locked(&desk.state).done(turn, added);
     }
+    report
 }
 
 /// Adds the image in a file to the report. Of a longer file no more is read than shows that it is too long.
@@ -120,9 +117,15 @@ fn fill(file: &mut File, buffer: &mut [u8]) -> io::Result<usize> {
     Ok(came)
 }
 
-/// What the threads share: the images that are still to be read, and what is said meanwhile.
+/// What the threads share. The next image may have to be waited for, where standard input names it: meanwhile the others work
+/// on, and what they did is told.
 struct Desk<'a> {
-    shelf: Shelf<'a>,
+    shelf: Mutex<Shelf<'a>>,
+    state: Mutex<State>,
+}
+
+/// How far the work has come.
+struct State {
     /// How many images were handed out, which is the turn of the next; and the turns of those that are not done yet.
     turn: usize,
     busy: Vec<usize>,
@@ -135,15 +138,14 @@ struct Desk<'a> {
     progress: Progress,
 }
 
-/// The desk, for one thread at a time.
-fn at<'m, 'a>(desk: &'m Mutex<Desk<'a>>) -> MutexGuard<'m, Desk<'a>> {
-    desk.lock().unwrap_or_else(PoisonError::into_inner)
+/// What is shared, for one thread at a time.
+fn locked<T>(shared: &Mutex<T>) -> MutexGuard<'_, T> {
+    shared.lock().unwrap_or_else(PoisonError::into_inner)
 }
 
 impl<'a> Desk<'a> {
     fn new(shelf: Shelf<'a>) -> Desk<'a> {
-        Desk {
-            shelf,
+        let state = State {
             turn: 0,
             busy: Vec::new(),
             said: BTreeMap::new(),
@@ -151,15 +153,42 @@ impl<'a> Desk<'a> {
             unread: 0,
             stopped: None,
             progress: Progress::new(),
+        };
+        Desk {
+            shelf: Mutex::new(shelf),
+            state: Mutex::new(state),
         }
     }
 
-    /// Hands out the next image, or what is in its way, and its turn; no more images than show that no report holds them.
-    fn take(&mut self) -> Option<(usize, Result<OsString, Failure>)> {
-        if self.stopped.is_some() || self.images > MOST_DISKS as usize {
-            return None;
+    /// Hands out the next image, or what is in its way, and its turn.
+    fn take(&self) -> Option<(usize, Result<OsString, Failure>)> {
+        let mut shelf = locked(&self.shelf);
+        // The state is free again before the next image is asked for.
+        let over = locked(&self.state).is_over();
+        let next = if over { None } else { shelf.next() };
+        locked(&self.state).begin(next?)
+    }
+
+    /// How many images were read and how many could not be.
+    fn finish(self) -> Result<(usize, usize), Failure> {
+        let mut state = self.state.into_inner().unwrap_or_else(PoisonError::into_inner);
+        state.progress.clear();
+        match state.stopped {
+            Some(failure) => Err(failure),
+            None => Ok((state.images, state.unread)),
         }
-        let image = match self.shelf.next()? {
+    }
+}
+
+impl State {
+    /// Whether no more is handed out: something stands against it, or there are more images than a report holds.
+    fn is_over(&self) -> bool {
+        self.stopped.is_some() || self.images > MOST_DISKS as usize
+    }
+
+    /// Gives an image its turn.
+    fn begin(&mut self, next: Next) -> Option<(usize, Result<OsString, Failure>)> {
+        let image = match next {
             Next::Image(path) => Ok(path),
             Next::Unread(failure) => Err(failure),
             Next::Broken(failure) => {
@@ -202,14 +231,5 @@ impl<'a> Desk<'a> {
     fn say(&mut self, words: &str) {
         self.progress.clear();
         output::say(words);
-    }
-
-    /// How many images were read and how many could not be.
-    fn finish(mut self) -> Result<(usize, usize), Failure> {
-        self.progress.clear();
-        match self.stopped {
-            Some(failure) => Err(failure),
-            None => Ok((self.images, self.unread)),
-        }
     }
 }

@@ -2,7 +2,7 @@
 use crate::support::*;
 use std::ffi::OsStr;
 use std::fs::{self, File};
-use std::io::Write;
+use std::io::{BufRead, BufReader, Write};
 use std::os::unix::ffi::OsStrExt;
 use std::os::unix::fs::symlink;
 use std::process::{Command, Stdio};
@@ -216,6 +216,28 @@ fn lists() {
     report(&folder, ["--files-from", "nowhere", "files.mgt"]).fails(3, "varnucht: nowhere: No such file");
     report(&folder, ["--files-from", ".", "files.mgt"]).fails(3, "varnucht: .: Is a directory");
     report(&folder, ["--files-from="]).fails(3, "No such file");
+}
+
+/// While a list is still being written, what it has named is read, and what could not be is said.
+#[test]
+fn a_list_that_comes_slowly() {
+    let folder = scene();
+    for threads in ["--threads=1", "--threads=2", "--threads=9"] {
+        let mut command = tool(["report", "--files-from=-", "--json", threads]);
+        command.current_dir(folder.path(""));
+        let piped = command.stdin(Stdio::piped()).stdout(Stdio::piped()).stderr(Stdio::piped());
+        let mut child = piped.spawn().expect("the tool runs");
+        let (mut list, mut said) = (child.stdin.take().unwrap(), BufReader::new(child.stderr.take().unwrap()));
+        for name in ["one", "two"] {
+            write!(list, "files.mgt\n{name}\n").unwrap();
+            let mut line = String::new();
+            said.read_line(&mut line).unwrap();
+            assert_eq!(line, format!("varnucht: {name}: No such file or directory (os error 2)\n"));
+        }
+        drop(list);
+        let run = Run::of(child.wait_with_output().unwrap());
+        assert_eq!((run.status, counted(&run)), (3, (1, 1, 2)));
+    }
 }
 
 /// What cannot be read is named in the order in which it was met, and counted; the rest is done. A lock is waited for.
