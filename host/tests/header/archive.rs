@@ -46,8 +46,8 @@ fn the_archive_keeps_no_state() {
     }
 }
 
-/// `stack.c` says of each call how many bytes of painted stack it wrote over. A save took less than 5,500 bytes and every
-/// other call at most 1,400 when the walk along a chain began to mark the sectors passed. The frames in the compiled code
+/// `stack.c` says of each call how many bytes of painted stack it wrote over. A save took less than 5,500 bytes, the calls on
+/// reports less than 2,500 and every other call at most 1,400 when reports came. The frames in the compiled code
 /// have fixed sizes and no call leads back to itself, so that their sum, about the same, holds for every input.
 #[test]
 fn the_calls_need_little_stack() {
@@ -64,7 +64,11 @@ fn the_calls_need_little_stack() {
             panic!("{line}")
         };
         let bytes: usize = bytes.parse().expect("a number");
-        let most = if call == "save" { 8192 } else { 2048 };
+        let most = match call {
+            "save" => 8192,
+            "report_add" | "report_join" => 3072,
+            _ => 2048,
+        };
         assert!(bytes > 0 && bytes < most, "{line}");
         assert!(number == "0" || (call, number) == ("check", "10"), "{line}");
         calls.insert((call, number));
