@@ -21,8 +21,8 @@
  * You own every buffer before, during and after a call. The library allocates nothing, keeps no pointer and has no state:
  * what a call does depends on its arguments alone. So calls on different buffers may run at once on different threads, and
  * calls that only read may share an image. Nobody may read or write a buffer while a call that may change it is running.
- * Nothing outside is called but memcpy, memset and their like. A save needs less than 8 KiB of stack, the calls on reports less
- * than 3 KiB, every other call less than 2 KiB.
+ * Nothing outside is called but memcpy, memset and their like. A save needs less than 8 KiB of stack, the calls on reports
+ * less than 3 KiB, every other call less than 2 KiB.
  *
  * Every call answers one number with four parts, which the functions below take apart:
  *

@@ -56,7 +56,7 @@ fn image(random: &mut Random, all: &[&'static damage::Damage]) -> (Vec<u8>, Opti
 /// of the list in two gives the same report, joined in either order.
 #[test]
 fn drawn_shelves() {
-    let (all, rounds) = (damage::all(), Rounds::new(9_000_000, 60));
+    let (all, rounds) = (damage::all(), Rounds::new(9_000_000, 200));
     let mut numbers = [0_u32; DISKS];
     for seed in rounds.seeds() {
         let _round = Round(seed);

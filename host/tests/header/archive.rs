@@ -47,8 +47,8 @@ fn the_archive_keeps_no_state() {
 }
 
 /// `stack.c` says of each call how many bytes of painted stack it wrote over. A save took less than 5,500 bytes, the calls on
-/// reports less than 2,500 and every other call at most 1,400 when reports came. The frames in the compiled code
-/// have fixed sizes and no call leads back to itself, so that their sum, about the same, holds for every input.
+/// reports less than 2,500 and every other call at most 1,400 when reports came. The frames in the compiled code have fixed
+/// sizes and no call leads back to itself, so that their sum, about the same, holds for every input.
 #[test]
 fn the_calls_need_little_stack() {
     let folder = Folder::new("stack");
