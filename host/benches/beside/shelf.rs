@@ -25,6 +25,8 @@ pub fn measure(disks: &[&Disk]) {
     let expected = count(&theirs(), &shelf, 1);
     for threads in [1, 2] {
         let [ours, theirs] = [ours(), theirs()].map(|side| {
+            // What threads take once is in use from then on.
+            count(&side, &shelf, threads);
             let before = resident();
             let rounds = (0..ROUNDS).map(|_| {
                 let begin = Instant::now();
@@ -36,11 +38,10 @@ pub fn measure(disks: &[&Disk]) {
             (rounds.fold(0.0, f64::max), resident().saturating_sub(before))
         });
         println!(
-            "{threads} thread{}: {:.0} (paper {:.0}), {:.2} GB a second were they read whole; {} KiB more in use after {} images.",
+            "{threads} thread{}: {:.0} (paper {:.0}); {} KiB more in use after {} images.",
             if threads == 1 { " " } else { "s" },
             ours.0,
             theirs.0,
-            ours.0 * 819_200.0 / 1e9,
             ours.1,
             ROUNDS * IMAGES
         );
