@@ -92,6 +92,40 @@ fn refused_disks() {
     assert_eq!((number(&mixed, 0), number(&mixed, 1), number(&mixed, 2)), (1, 2, 1));
 }
 
+/// A disk is counted as the check has it: waste sectors are not refused there, a Spectrum file whose length is too great is,
+/// and what stands behind the directory's end is no file.
+#[test]
+fn as_the_check_has_it() {
+    let mut waste = blank();
+    let list = put(&mut waste, b"WASTE", 900);
+    for place in [slot_place(1) + 240, list[0] * 512 + 1] {
+        waste[place..place + 2].copy_from_slice(&[100, 0]);
+    }
+    assert_eq!(paper::check_release(&waste), refused(22, 1));
+    assert_eq!(
+        counted(&over(&[&waste])),
+        [(0, 1), (33 + 19, 1), (97, 2), (98, 1_558), (101, 1)]
+    );
+
+    let mut spectrum = blank();
+    let list = put(&mut spectrum, b"ZX", 900);
+    spectrum[slot_place(1)] = 3;
+    let mut with_length = |length: u16| {
+        spectrum[list[0] * 512 + 1..][..2].copy_from_slice(&length.to_le_bytes());
+        counted(&over(&[&spectrum]))
+    };
+    assert_eq!(with_length(1_012), [(25, 1)]);
+    assert_eq!(with_length(1_011), [(0, 1), (33 + 3, 1), (97, 2), (98, 1_558), (101, 1)]);
+
+    let [_, mut ended, ..] = shelf();
+    ended[slot_place(3) + 1] = 0;
+    ended[slot_place(4)] = 63;
+    assert_eq!(
+        counted(&over(&[&ended])),
+        [(0, 1), (33 + 19, 2), (97, 3), (98, 1_557), (100, 1), (101, 1)]
+    );
+}
+
 #[test]
 fn joins_are_reports_over_both_lists() {
     let shelf = shelf();

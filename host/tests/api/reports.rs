@@ -96,6 +96,27 @@ fn what_a_report_counts() {
     assert_eq!(format!("{report:?}"), "Report { disks: 9, accepted: 5, files: 13, .. }");
 }
 
+/// A disk is counted as the check has it: waste sectors are not refused there, a Spectrum file whose length is too great is,
+/// and what stands behind the directory's end is no file.
+#[test]
+fn as_the_check_has_it() {
+    let waste = shortened(501);
+    assert_eq!(waste.check_release().unwrap_err().refusal, Refusal::WasteSectors);
+    let images = [
+        waste.into_image(),
+        spectrum(4, 1_012, 0),
+        spectrum(4, 1_011, 0),
+        pair_that_ends(),
+        damaged(&[(1, 0)]),
+    ];
+    let report = over(images.iter().map(|image| &image.as_bytes()[..]));
+    let refusals: Vec<_> = report.refusals().collect();
+    assert_eq!((report.accepted(), refusals), (4, vec![(Refusal::BodyTooLong, 1)]));
+    let kinds: Vec<_> = report.kinds().map(|(kind, files)| (kind.number(), files)).collect();
+    assert_eq!(kinds, [(4, 1), (19, 6)]);
+    assert_eq!((report.file_sectors(), report.free_sectors()), (14, 4 * 1_560 - 14));
+}
+
 /// In whatever parts the shelf is counted, on however many threads.
 #[test]
 fn joins_are_reports_over_both() {

@@ -32,7 +32,7 @@ static void check_reasons(void) {
         expect(reasons[number] == number, "the number of a refusal", (unsigned long)number);
     }
     expect(VARNUCHT_BODY_TOO_LONG == 25, "the number of a refusal", 25);
-    expect(VARNUCHT_REPORT_FULL == 31, "a full report", 31);
+    expect(VARNUCHT_REPORT_FULL == 31, "the number of a refusal", 31);
 }
 
 static void check_sizes(void) {
