@@ -133,6 +133,7 @@ fn check_of_several_images() {
     assert_eq!(piped.done(), accepted(&good) + "standard input: accepted\n");
     fed([&"check".into(), &OsString::from("-"), &good, &"-".into()], &shortened(9))
         .fails(2, "standard input can be read once");
+    check(&[]).fails(2, "`check` takes IMAGE...: IMAGE is missing");
     assert_eq!(folder.names(), ["good.mgt", "short.mgt", "waste.mgt"]);
 }
 
