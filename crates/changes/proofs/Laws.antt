@@ -67,9 +67,9 @@ pub slot-put : (d : List ℕ) (i o a : ℕ) (y e : List ℕ) → i < slots → a
 slot-put d i o a y e h p q = q ∙ ap (λ (a : ℕ). put d (a + o) y) (p ∙ slot-placed i h)
 
 -- its sector number fits the list
-pub sector-small : (i n : ℕ) → n ≡ dirSector i → i < slots → n < 65536
+pub sector-small : (i n : ℕ) → n ≡ dirSector i → i ≤ slots → n < 65536
 unfolding dirSector
-sector-small i n e h = let q : i / 20 ≤ 3 = omega arith in omega arith
+sector-small i n e h = omega arith
 
 module _ (d : List ℕ) (i o : ℕ) (y buf : List ℕ) where
   abbrev steps : List (Step Look)

@@ -85,8 +85,3 @@ module _ (old : Bool) (i : ℕ) {two : Bool} (e : two ≡ (old && not (together 
 
     pub put-alone : two ≡ false → (y : ℕ) → y ≡ dirSector i → set l a y ≡ put l a (dirSectors old i)
     put-alone q y r = put-one l a y ∙ ap (λ (v : ℕ). put l a (v ∷ [])) r ∙ sym (ap (put l a) (dirs-one q))
-
--- the number of a slot's sector, or of the next one's, has 16 bits
-pub sector-next : (i a : ℕ) → a ≡ dirSector (i + 1) → i < slots → a < 1600
-unfolding dirSector
-sector-next i a e h = omega arith

@@ -60,8 +60,8 @@ front-writable m n i old s body buf w l p = rw (bits-front buf (lowest m n) l n 
 
 -- and the end of the list with the sectors of the directory
 pub back-listable : (m : List ℕ) (n i : ℕ) (old : Bool) (s : Start) (body buf : List ℕ) → Savable m n i old s body buf → (x y l₁ l₂ : List ℕ) → l₁ ≡ put buf 0 x
-    → l₂ ≡ put l₁ 0 y → Listable n i old l₂
-back-listable m n i old s body buf w x y l₁ l₂ p q = record {
+    → l₂ ≡ put l₁ 0 y → (a : ℕ) → a ≤ n → Listable a i old l₂
+back-listable m n i old s body buf w x y l₁ l₂ p q a h = record {
   slot = w .file .slot;
   room = omega (arith, w .room, ap length q ∙ length-put l₁ 0 y, ap length p ∙ length-put buf 0 x);
 }

@@ -1,4 +1,5 @@
 -- `changes::touch` meets its contract: the list too short, or both written.
+use native.Mathlib.Omega.{arith}
 use Rattle.changes.proofs.Laws.{touch-short, touch-done, sector-small}
 use borrow.Author.Needs.{needs}
 use Rattle.changes.proofs.touch.Statement.{statement}
@@ -19,7 +20,7 @@ dir-sector-requires c κs = search needs
 put-number-requires : tie.Need-put-number-requires
 put-number-requires c κs =
     let e = c .before .before .before .before .before .before in
-    (e .if1 .left, sector-small _ _ (c .dir-sector .ensures) (e .before .before .before .before .pre .slot .below))
+    (e .if1 .left, sector-small _ _ (c .dir-sector .ensures) (omega (arith, e .before .before .before .before .pre .slot .below)))
 
 same-length : tie.Need-same-length
 same-length c = search needs

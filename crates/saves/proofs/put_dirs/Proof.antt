@@ -2,7 +2,7 @@
 use native.Mathlib.Omega.{arith}
 use lib.ListN.{length-set}
 use Rattle.changes.proofs.Laws.{sector-small}
-use Rattle.saves.proofs.Dirs.{two-long, one-long, put-both, put-alone, sector-next}
+use Rattle.saves.proofs.Dirs.{two-long, one-long, put-both, put-alone}
 use borrow.Author.Needs.{needs}
 use Rattle.saves.proofs.put_dirs.Statement.{statement}
 use Rattle.saves.proofs.put_dirs.Tie as tie
@@ -25,7 +25,7 @@ dir-sector-requires c κs = search needs
 
 -- src/lib.rt:262:20
 cast-list : tie.Need-cast-list
-cast-list c = omega (arith, sector-next _ _ (c .dir-sector .ensures) (c .before .before .before .before .pre .slot))
+cast-list c = let h = c .before .before .before .before .pre .slot in let q = sector-small _ _ (c .dir-sector .ensures) (omega arith) in omega arith
 
 -- src/lib.rt:262:9
 mul-list : tie.Need-mul-list
@@ -44,7 +44,7 @@ dir-sector-requires-2 c κs = search needs
 
 -- src/lib.rt:263:24
 cast-list-2 : tie.Need-cast-list-2
-cast-list-2 c = omega (arith, sector-small _ _ (c .dir-sector2 .ensures) (c .before .before .before .before .before .pre .slot))
+cast-list-2 c = let h = c .before .before .before .before .before .pre .slot in let q = sector-small _ _ (c .dir-sector2 .ensures) (omega arith) in omega arith
 
 -- src/lib.rt:263:14
 add-list : tie.Need-add-list
@@ -78,7 +78,7 @@ dir-sector-requires-3 c κs = search needs
 
 -- src/lib.rt:266:16
 cast-list-3 : tie.Need-cast-list-3
-cast-list-3 c = omega (arith, sector-small _ _ (c .dir-sector3 .ensures) (c .before .before .before .before .pre .slot))
+cast-list-3 c = let h = c .before .before .before .before .pre .slot in let q = sector-small _ _ (c .dir-sector3 .ensures) (omega arith) in omega arith
 
 -- src/lib.rt:266:5
 mul-list-3 : tie.Need-mul-list-3

@@ -26,7 +26,7 @@ put-dirs-requires : tie.Need-put-dirs-requires
 put-dirs-requires c κs =
     let t = c .before .before .before in
     let p = t .before .before .before .before .before .before .before .before .before in
-    back-listable _ _ _ _ _ _ _ (p .before .before .before .before .before .before .before .before .before .pre) _ _ _ _ (p .pick-bits .ensures) (t .to-numbers .ensures)
+    back-listable _ _ _ _ _ _ _ (p .before .before .before .before .before .before .before .before .before .pre) _ _ _ _ (p .pick-bits .ensures) (t .to-numbers .ensures) _ (omega arith)
 
 same-length : tie.Need-same-length
 same-length c = search needs

@@ -18,7 +18,7 @@ abbrev Inv-loop : tie.InvT-loop
 Inv-loop image end i₀ i = (i ≤ slotsRead image) × (lowestSlot 0 (directory image) ≡ sweepFrom (slots - i) i (emptyAt (directory image)))
 
 abbrev μ-loop : tie.MeasureT-loop
-μ-loop image end i₀ i = end - i
+μ-loop image end i₀ i = slots - i
 
 slots-read-requires : tie.Need-slots-read-requires Inv-loop μ-loop
 slots-read-requires c κs = search needs
