@@ -1,9 +1,11 @@
 /* Varnucht: disk images of the SAM Coupé. Check a disk, list it, read a file's body, whole or piece by piece, give its start
- * address, find a raw sector; save, erase, rename, hide, show, protect and release files. C99 and C++. Link libvarnucht.a.
+ * address, find a raw sector; save, erase, rename, hide, show, protect and release files; count a shelf of disks. C99 and
+ * C++. Link libvarnucht.a.
  *
  * Contents: 1 what a call takes and answers, 2 sizes, 3 refusals, 4 the calls that read, 5 the calls that change, and how
  * to write what they changed, 6 reading a listing, 7 names and kinds, 8 what is proved and where it runs. A whole program
- * stands in examples/tunes.c, and one that reads piece by piece in examples/play.c.
+ * stands in examples/tunes.c, one that reads piece by piece in examples/play.c, and one that counts a shelf of disks in
+ * examples/shelf.c.
  *
  *
  * 1. WHAT A CALL TAKES AND ANSWERS
@@ -19,8 +21,8 @@
  * You own every buffer before, during and after a call. The library allocates nothing, keeps no pointer and has no state:
  * what a call does depends on its arguments alone. So calls on different buffers may run at once on different threads, and
  * calls that only read may share an image. Nobody may read or write a buffer while a call that may change it is running.
- * Nothing outside is called but memcpy, memset and their like. A save needs less than 8 KiB of stack, every other call less
- * than 2 KiB.
+ * Nothing outside is called but memcpy, memset and their like. A save needs less than 8 KiB of stack, the calls on reports
+ * less than 3 KiB, every other call less than 2 KiB.
  *
  * Every call answers one number with four parts, which the functions below take apart:
  *
@@ -40,8 +42,9 @@
  * before the end is erased, and free too, when its byte 0 is zero; else it is live and holds a file. It says the file's kind
  * and name, how many sectors the file has (its count), which they are (its map, a bit for each data sector) and which is the
  * first. The other 1,560 are the data sectors. Each holds 510 bytes of a file and the address of the file's next sector; that
- * is its chain. A file that can be read (section 7) begins with a header of 9 bytes, and its body follows. Every call but
- * varnucht_sector and varnucht_next checks the whole disk first: you need not call varnucht_check before it.
+ * is its chain. A file that can be read (section 7) begins with a header of 9 bytes, and its body follows. Every call on a
+ * disk but varnucht_sector and varnucht_next checks the whole disk first: you need not call varnucht_check before it.
+ * varnucht_report_add refuses no disk: it counts it.
  */
 #ifndef VARNUCHT_H
 #define VARNUCHT_H
@@ -71,21 +74,24 @@ enum varnucht_size {
     VARNUCHT_LISTING_BYTES = 20640,     /* `out` of varnucht_list: 80 * 258 */
     VARNUCHT_BODY_BYTES = 795591,       /* `out` of varnucht_read; the longest body on an empty disk: 510 * 1,560 - 9 */
     VARNUCHT_SAVE_LIST_BYTES = 3124,    /* `list` of varnucht_save: 2 * 1,562, the data sectors and two of the directory */
-    VARNUCHT_CHANGE_LIST_BYTES = 2      /* `list` of every other change */
+    VARNUCHT_CHANGE_LIST_BYTES = 2,     /* `list` of every other change */
+    VARNUCHT_REPORT_BYTES = 496         /* a report: 124 numbers of four bytes */
 };
 
 /* 3. REFUSALS, in the words of the rules (document 01), in the order in which they are tested: 1 first; then 2 to 9 at every
  * live slot, the lowest slot first and at a slot the lowest number; then 10, 11 and 25 likewise; then the lowest that
  * applies of 12 to 20. So 12 to 20 say that the disk itself is good. varnucht_check_release alone tests 22 too, directly
- * after 7 at a slot. varnucht_sector tests 1 and then 21, and looks at no directory. varnucht_next refuses nothing.
- * 3 is given no more, by any call: its number stays reserved, and "1 to 11" below is without it.
+ * after 7 at a slot. varnucht_sector tests 1 and then 21, and looks at no directory. varnucht_next refuses nothing. The calls
+ * on reports test 20 and then 31. 3 is given no more, by any call: its number stays reserved, and "1 to 11" below is without
+ * it.
  *
  * The slot comes with 2 to 11, 22 and 25; with 13 and 14 of varnucht_read, varnucht_open and varnucht_start, where it is the
  * file's; with 16, where it is that of the file which has the new name; and with 17. With all others, 13 and 14 of
  * varnucht_save too, it is 0. */
 enum varnucht_reason {
     VARNUCHT_ACCEPTED = 0,
-    /* The disk is not good. Every call can give these and 25 but varnucht_sector, which can give 1, and varnucht_next. */
+    /* The disk is not good. Every call can give these and 25 but varnucht_sector, which can give 1, varnucht_next, and the
+       calls on reports. */
     VARNUCHT_NOT_AN_IMAGE = 1,          /* the image is not 819,200 bytes */
     VARNUCHT_KIND_UNKNOWN = 2,          /* the kind is not known (1 to 12 and 16 to 23 are) */
     VARNUCHT_NAME_MISSING = 3,          /* reserved, given no more: where the first name byte is 0 the directory ends */
@@ -116,7 +122,9 @@ enum varnucht_reason {
     VARNUCHT_WASTE_SECTORS = 22,        /* carried kind, and the count is above the least that its length needs: the least n
                                            with 510 * n at least 9 + length (varnucht_check_release alone) */
     /* The disk is not good, as with 1 to 11; the same calls can give it, but varnucht_sector. */
-    VARNUCHT_BODY_TOO_LONG = 25         /* kind 1 to 4, and 510 * count is below 9 + the length in the file's header */
+    VARNUCHT_BODY_TOO_LONG = 25,        /* kind 1 to 4, and 510 * count is below 9 + the length in the file's header */
+    /* The shelf is full. */
+    VARNUCHT_REPORT_FULL = 31           /* a disk or join that would pass 65,535 disks (the calls on reports alone) */
 };
 
 /* A refusal in the words of the rules, for a message; UTF-8. A string that lasts, never NULL, for any number. */
@@ -153,13 +161,14 @@ static inline const char *varnucht_words(unsigned refusal) {
         return "carried kind, and the count is above the least that its length needs (waste sectors behind the file)";
     case VARNUCHT_BODY_TOO_LONG: /* with a multiplication sign */
         return "kind 1 to 4, and 510 \xc3\x97 count is below 9 + the length in the header";
+    case VARNUCHT_REPORT_FULL: return "a disk or join that would pass 65,535 disks";
     default: return "not a number of refusal";
     }
 }
 
-/* 4. THE CALLS THAT READ. They change nothing but `out`. `image` is the disk; anything but 819,200 bytes is refused 1, and
- * only varnucht_next refuses nothing. A name has 1 to 10 bytes (section 7). What a call does not fill of `out` stays as it
- * was. */
+/* 4. THE CALLS THAT READ. They change nothing but `out`, or `report`. `image` is the disk; anything but 819,200 bytes is
+ * refused 1, but not by varnucht_next, which refuses nothing, nor by varnucht_report_add, which counts it. A name has 1 to 10
+ * bytes (section 7). What a call does not fill of `out` stays as it was. */
 
 /* Whether the disk is good. Its directory up to its end, sector maps and chains agree exactly when this accepts. Value: 0.
  * Refusals: 1 to 11, 25. */
@@ -262,6 +271,53 @@ uint64_t varnucht_start(const uint8_t *image, size_t image_len, const uint8_t *n
  * multiple of 512. Nothing is copied. Refusals: 1, 21. */
 uint64_t varnucht_sector(const uint8_t *one, size_t one_len, const uint8_t *two, size_t two_len, uint32_t drive,
                          uint32_t track, uint32_t sector);
+
+/* A SHELF IN NUMBERS. A report counts disks: how many are accepted and how many refused, by number; and of the accepted ones
+ * their files by kind, the sectors of these files, the free sectors, and the files by how many sectors they have. It is
+ * VARNUCHT_REPORT_BYTES that the app lends: 124 numbers of four bytes, low byte first, at the places below. All zero is the
+ * report over no disk. Of a longer buffer the front is used, and its rest stays. Disks are added one at a time:
+ *
+ *     static uint8_t report[VARNUCHT_REPORT_BYTES];          (all zero)
+ *     for each image {
+ *         answer = varnucht_report_add(image, image_len, report, sizeof report);
+ *     }
+ *     files = varnucht_report_number(report, VARNUCHT_REPORT_KINDS + VARNUCHT_KIND_CODE);
+ *
+ * Two reports join, and the join is the report over the disks of both, in whichever order they are joined: each thread can
+ * count into a report of its own. Being bytes, a report may be kept in a file, and means the same on every machine.
+ *
+ * Of a report that was not made by these calls alone no more is promised than that the call answers, that it adds to each
+ * number modulo 2^32 and touches nothing but `report`, and that a refused call changes nothing. */
+enum varnucht_report_place {
+    VARNUCHT_REPORT_ACCEPTED = 0,       /* how many disks are accepted */
+    VARNUCHT_REPORT_REFUSED = 0,        /* + r, 1 to 32: how many are refused r (section 3) */
+    VARNUCHT_REPORT_KINDS = 33,         /* + k, 0 to 63: how many files have kind k, hidden ones too */
+    VARNUCHT_REPORT_FILE_SECTORS = 97,  /* the sectors of all files */
+    VARNUCHT_REPORT_FREE_SECTORS = 98,  /* the free sectors of the accepted disks */
+    VARNUCHT_REPORT_CLASSES = 99,       /* + c, 0 to 11: how many files have 0 sectors, 1, 2 to 3, 4 to 7, .., 512 to 1,023,
+                                           1,024 and more. They add up to the files. From 111 on nothing is counted, and
+                                           what stands there stays */
+    VARNUCHT_REPORT_CLASS_COUNT = 12
+};
+
+/* Adds a disk to a report: any bytes, which are only read. A disk that varnucht_check refuses is counted by the number that
+ * it gives, and nowhere else. Value: how many disks are in the report then, 1 to 65,535. Refusals: 20 where `report` is too
+ * short to be one, then 31 where 65,535 disks are in it. Stack: 2,504 bytes. */
+uint64_t varnucht_report_add(const uint8_t *image, size_t image_len, uint8_t *report, size_t report_len);
+
+/* Joins `other`, which is only read, to `report`. Value: how many disks are in the report then, 0 to 65,535. Refusals: 20
+ * where one of them is too short to be a report, then 31 where they have more than 65,535 disks together.
+ * Stack: 2,492 bytes. */
+uint64_t varnucht_report_join(uint8_t *report, size_t report_len, const uint8_t *other, size_t other_len);
+
+/* The number at a place of a report, 0 to 123. */
+static inline uint32_t varnucht_report_number(const uint8_t *report, unsigned place) {
+    const uint8_t *at = report + 4 * (size_t)place;
+    return at[0] | (uint32_t)at[1] << 8 | (uint32_t)at[2] << 16 | (uint32_t)at[3] << 24;
+}
+
+/* The fewest sectors that a file of class c has, c below VARNUCHT_REPORT_CLASS_COUNT. */
+static inline unsigned varnucht_report_class_first(unsigned c) { return c == 0 ? 0 : 1u << (c - 1); }
 
 /* 5. THE CALLS THAT CHANGE, AND HOW TO WRITE WHAT THEY CHANGED
  *

@@ -2,8 +2,8 @@
 # Makes the sample disk: samples/make.sh IMAGE
 #
 # IMAGE must not be there yet. The tool is `varnucht`, or what the variable VARNUCHT names. All bodies are made here, always
-# the same, so the disk is always the same: sample.mgt beside this script. What `list` and `map` print of it is in list.txt
-# and map.txt.
+# the same, so the disk is always the same: sample.mgt beside this script. What `list`, `map` and `report` print of it is in
+# list.txt, map.txt and report.txt.
 set -eu
 image=$1
 varnucht=${VARNUCHT:-varnucht}

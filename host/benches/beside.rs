@@ -15,6 +15,8 @@ mod geometry;
 mod random;
 #[path = "beside/rows.rs"]
 mod rows;
+#[path = "beside/shelf.rs"]
+mod shelf;
 #[path = "beside/sides.rs"]
 mod sides;
 #[path = "beside/table.rs"]
@@ -34,6 +36,8 @@ fn main() {
     for (row, most) in rows::pieces(&rows) {
         table::print_pieces(row, most, &clock::together(row, timer));
     }
+    println!();
+    shelf::measure(&rows::reported(&rows));
     println!();
     println!(
         "{} rows, each equal on both sides before it was timed. {:.1} seconds.",

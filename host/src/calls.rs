@@ -1,4 +1,4 @@
-//! The fifteen calls on byte slices: safe, and total on every input, but without types that rule anything out.
+//! The seventeen calls on byte slices: safe, and total on every input, but without types that rule anything out.
 //!
 //! Each function hands its slices to the C layer and gives back the [`Answer`]. Nothing is decided here. A refused call
 //! changes no byte of anything lent. In the changes, `list` takes the numbers of the sectors to write, two bytes to a number,
@@ -70,6 +70,18 @@ pub fn sector(one: &[u8], two: &[u8], drive: u32, track: u32, sector: u32) -> An
     Answer::from_number(unsafe {
         raw::varnucht_sector(one.as_ptr(), one.len(), two.as_ptr(), two.len(), drive, track, sector)
     })
+}
+
+/// Adds a disk, accepted or refused, to the report at the front of `report`. Value: how many disks it holds then.
+pub fn report_add(image: &[u8], report: &mut [u8]) -> Answer {
+    // SAFETY: pointers and lengths are those of slices, and `report` is borrowed alone.
+    Answer::from_number(unsafe { raw::varnucht_report_add(image.as_ptr(), image.len(), report.as_mut_ptr(), report.len()) })
+}
+
+/// Joins the report at the front of `other` to the one at the front of `report`. Value: how many disks that holds then.
+pub fn report_join(report: &mut [u8], other: &[u8]) -> Answer {
+    // SAFETY: pointers and lengths are those of slices, and `report` is borrowed alone.
+    Answer::from_number(unsafe { raw::varnucht_report_join(report.as_mut_ptr(), report.len(), other.as_ptr(), other.len()) })
 }
 
 /// What a save is asked for.

@@ -91,6 +91,11 @@
 //! A file may have more sectors than its length needs, and old texts hide in them. Every call accepts such a disk but
 //! [`Disk::check_release`] and [`Image::check_release`], which refuse it (22) with the slot.
 //!
+//! # A shelf of disks
+//!
+//! A [`Report`] is a shelf in numbers: disks accepted and refused, files by kind and by size, sectors. Disks are added to it
+//! one at a time, and two reports join.
+//!
 //! # A disk in a file
 //!
 //! A change answers with the [`Sectors`] that it altered, in the order in which they are to be written. Wherever that
@@ -127,7 +132,7 @@
 //! "Document 01" and "the paper" are the rules that the library is proved against. A refusal prints their words. The
 //! directory's end is its first slot whose first name byte is 0: that slot and all later ones are free, and what stands there
 //! is no file and is not looked at; a save clears the old name that would come back when it takes that slot. Below the
-//! types stand [`calls`], the fifteen calls on byte slices, and [`raw`], the C layer itself.
+//! types stand [`calls`], the seventeen calls on byte slices, and [`raw`], the C layer itself.
 #![warn(missing_docs)]
 
 mod answer;
@@ -146,6 +151,7 @@ mod place;
 pub mod raw;
 mod reader;
 mod refusal;
+mod report;
 mod sectors;
 mod start;
 mod store;
@@ -162,6 +168,7 @@ pub use name::{NAME_LENGTH, Name, NewName, Unusable};
 pub use place::{DATA_SECTORS, Drive, SECTOR_LENGTH, SECTORS, Sector, SectorNumber, Track};
 pub use reader::Reader;
 pub use refusal::{Refusal, Refused, Slot};
+pub use report::{MOST_DISKS, REPORT_LENGTH, Report, SectorClass};
 pub use sectors::{LONGEST_BODY, Sectors};
 pub use start::Start;
 pub use store::{Store, WriteError};

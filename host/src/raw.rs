@@ -33,6 +33,8 @@ unsafe extern "C" {
         track: u32,
         sector: u32,
     ) -> u64;
+    pub fn varnucht_report_add(image: *const u8, image_len: usize, report: *mut u8, report_len: usize) -> u64;
+    pub fn varnucht_report_join(report: *mut u8, report_len: usize, other: *const u8, other_len: usize) -> u64;
     pub fn varnucht_save(
         image: *mut u8,
         image_len: usize,

@@ -54,12 +54,14 @@ pub enum Refusal {
     WasteSectors,
     /// 25: a kind of the Spectrum, 1 to 4, and its sectors are too few for the length in its header.
     BodyTooLong,
+    /// 31: a report that would pass 65,535 disks.
+    ReportFull,
     /// A number that this table does not have. No call of today's library gives one.
     Unlisted(u8),
 }
 
 /// The table of document 01 with the rows that document 02 adds, by rising number.
-const TABLE: [(u8, Refusal, &str); 23] = [
+const TABLE: [(u8, Refusal, &str); 24] = [
     (1, Refusal::ImageLength, "the image is not 819,200 bytes"),
     (2, Refusal::UnknownKind, "the kind is not known"),
     (3, Refusal::NoFirstNameByte, "the first name byte is 0 (given no more)"),
@@ -112,6 +114,7 @@ const TABLE: [(u8, Refusal, &str); 23] = [
         Refusal::BodyTooLong,
         "kind 1 to 4, and 510 × count is below 9 + the length in the header",
     ),
+    (31, Refusal::ReportFull, "a disk or join that would pass 65,535 disks"),
 ];
 
 impl Refusal {

@@ -5,6 +5,8 @@ mod changing;
 mod pieces;
 #[path = "api/reading.rs"]
 mod reading;
+#[path = "api/reports.rs"]
+mod reports;
 #[path = "support/table.rs"]
 mod table;
 #[path = "api/texts.rs"]

@@ -17,6 +17,8 @@ mod map;
 mod messages;
 #[path = "tool/names.rs"]
 mod names;
+#[path = "tool/report.rs"]
+mod report;
 #[path = "tool/standard.rs"]
 mod standard;
 #[path = "tool/support.rs"]

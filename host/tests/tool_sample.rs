@@ -44,6 +44,10 @@ fn the_tool_prints_what_is_kept() {
         fs::read_to_string(sample("list.txt")).unwrap()
     );
     assert_eq!(on("map", &image, NONE).done(), fs::read_to_string(sample("map.txt")).unwrap());
+    assert_eq!(
+        on("report", &image, NONE).done(),
+        fs::read_to_string(sample("report.txt")).unwrap()
+    );
 }
 
 /// The bodies are those that the script says: the bytes 0 to 255 again and again, and a screen of stripes.

@@ -30,6 +30,7 @@ pub enum Reason {
     NoSuchSector,
     WasteSectors,
     BodyTooLong,
+    ReportFull,
 }
 
 // A refusal: its reason, and the slot (from 1) it was found at, or 0.
@@ -78,6 +79,7 @@ pub fn number_of(reason: Reason) -> usize
         Reason::NoSuchSector => 21,
         Reason::WasteSectors => 22,
         Reason::BodyTooLong => 25,
+        Reason::ReportFull => 31,
     }
 }
 

@@ -55,11 +55,11 @@ use Rattle.directory.proofs.Live.{among-few}
 pub within-refused : (r : Refusal) (v f : ℕ) → Small (some r) → Within (refused r) v f
 within-refused r v f a = record { refusal = a .0; slot = a .1; value = omega arith; free = omega arith }
 
-within-unless : (q : Reply) (x y v f : ℕ) → Small q → (q ≡ none → (x ≤ v) × (y ≤ f)) → Within (unless q (done x y)) v f
+pub within-unless : (q : Reply) (x y v f : ℕ) → Small q → (q ≡ none → (x ≤ v) × (y ≤ f)) → Within (unless q (done x y)) v f
 within-unless none x y v f a h = record { refusal = omega arith; slot = omega arith; value = h refl .0; free = h refl .1 }
 within-unless (some r) x y v f a h = within-refused r v f a
 
-filled-outcome : (q : Reply) (o : Outcome) (x buf : List ℕ) → filled q o x buf .outcome ≡ unless q o
+pub filled-outcome : (q : Reply) (o : Outcome) (x buf : List ℕ) → filled q o x buf .outcome ≡ unless q o
 filled-outcome none o x buf = refl
 filled-outcome (some r) o x buf = refl
 

@@ -1,3 +1,4 @@
 pub mod Bounds
 pub mod Replies
 pub mod Reading
+pub mod Reports

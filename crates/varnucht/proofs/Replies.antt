@@ -23,7 +23,7 @@ use Rattle.varnucht.proofs.Bounds.{Bytes, listing-within, reading-withi
 
 -- ---- a number that is packed of an outcome within bounds
 
-packed-within : (o : Outcome) (v f : ℕ) → v < 2 ^ 24 → f < 2 ^ 16 → Within o v f → (p : Outcome) → p ≡ o → (n : ℕ) → n ≡ clipped p → n ≡ packed o
+pub packed-within : (o : Outcome) (v f : ℕ) → v < 2 ^ 24 → f < 2 ^ 16 → Within o v f → (p : Outcome) → p ≡ o → (n : ℕ) → n ≡ clipped p → n ≡ packed o
 packed-within o v f h k w p e n q = q ∙ ap clipped e ∙ clipped-is o (within-fits o v f h k w)
 
 -- a check's verdict

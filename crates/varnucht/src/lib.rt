@@ -9,6 +9,7 @@ ghost use Rattle.readers.specs.Opening.{beginning};
 ghost use Rattle.plans.specs.Change.{save, erase, rename, mark, hide, show, protect, release};
 ghost use Rattle.changes.specs.Marks.{markOf};
 ghost use Rattle.saves.specs.Write.{wish};
+ghost use Rattle.bytereports.specs.Bytes.{addingBytes, joiningBytes};
 ghost use Rattle.varnucht.specs.Calls.{checking, releasing, sectorPlace, Returns};
 ghost use Rattle.varnucht.specs.Reading.{packedBegin, packedPiece};
 use changes::Marking;
@@ -199,4 +200,22 @@ pub extern "C" fn varnucht_save(
         list,
     );
     packing::pack(saved)
+}
+
+// Adds a disk to a report: the disks in it after.
+#[no_mangle]
+pub extern "C" fn varnucht_report_add(image: &[u8], report: &mut [u8]) -> u64
+    ensures { λ r. ⌜ (r ≡ packed (addingBytes (now (report .entry)) (now (image .entry)) .outcome)) × (now (report .exit) ≡ addingBytes (now (report .entry)) (now (image .entry)) .buffer) ⌝ }
+{
+    let added = bytereports::add(image, report);
+    packing::pack(added)
+}
+
+// Joins another report to one: the disks in both.
+#[no_mangle]
+pub extern "C" fn varnucht_report_join(report: &mut [u8], other: &[u8]) -> u64
+    ensures { λ r. ⌜ (r ≡ packed (joiningBytes (now (report .entry)) (now (other .entry)) .outcome)) × (now (report .exit) ≡ joiningBytes (now (report .entry)) (now (other .entry)) .buffer) ⌝ }
+{
+    let joined = bytereports::join(report, other);
+    packing::pack(joined)
 }

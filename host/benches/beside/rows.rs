@@ -2,7 +2,7 @@
 
 use crate::disks::{self, Disk, LIST_BYTES, LONGEST};
 use crate::sides::{Side, reader, value};
-use paper::Reader;
+use paper::{REPORT_BYTES, Reader};
 
 /// A call with what it is asked for.
 pub enum Work {
@@ -19,6 +19,8 @@ pub enum Work {
     Save(Vec<u8>),
     /// Erases the disk's last file.
     Erase,
+    /// Adds the disk to a report that has no disk yet.
+    Report,
 }
 
 pub struct Row {
@@ -54,7 +56,14 @@ pub fn all() -> Vec<Row> {
     rows.extend(saves(&blank, &eighty, &seventy_eight, &one));
     rows.extend([&three, &three_and_old].map(|disk| row(disk, Work::Save(disks::body(900)), 0)));
     rows.extend(disks.map(|disk| row(disk, Work::Erase, if disk.title == blank.title { 15 } else { 0 })));
+    rows.extend([&blank, &eighty, &eighty_alike, &seventy_eight, &one, &scattered].map(|disk| row(disk, Work::Report, 0)));
     rows
+}
+
+/// The disks that are added to reports.
+pub fn reported(rows: &[Row]) -> Vec<&Disk> {
+    let added = rows.iter().filter(|row| matches!(row.work, Work::Report));
+    added.map(|row| &row.disk).collect()
 }
 
 /// The rows of pieces, each behind the check and the read of its disk, and how much more than the one read without the check
@@ -110,6 +119,7 @@ impl Row {
             Work::Pieces(_, room) => format!("pieces {room}"),
             Work::Save(body) => format!("save {}", body.len()),
             Work::Erase => "erase".into(),
+            Work::Report => "report add".into(),
         }
     }
 
@@ -125,6 +135,7 @@ impl Row {
             Work::List => 80 * 258,
             Work::Read | Work::Pieces(..) => LONGEST,
             Work::Save(_) | Work::Erase => LIST_BYTES,
+            Work::Report => REPORT_BYTES,
         }
     }
 
@@ -139,6 +150,11 @@ impl Row {
             Work::Pieces(opened, room) => read_on(side, image, *opened, *room, buffer),
             Work::Save(body) => (side.save)(image, &disks::wish(Row::NEW, body), buffer),
             Work::Erase => (side.erase)(image, &self.disk.last, buffer),
+            Work::Report => {
+                // The numbers that count disks begin at 0 again, so that the report is never full.
+                buffer[..4 * 33].fill(0);
+                (side.report_add)(image, buffer)
+            }
         }
     }
 }

@@ -15,6 +15,8 @@ pub struct Side {
     pub next: fn(&[u8], Reader, &mut [u8]) -> u64,
     pub save: fn(&mut [u8], &Wish, &mut [u8]) -> u64,
     pub erase: fn(&mut [u8], &[u8], &mut [u8]) -> u64,
+    pub report_add: fn(&[u8], &mut [u8]) -> u64,
+    pub report_join: fn(&mut [u8], &[u8]) -> u64,
 }
 
 /// The proved library. The compiler does not see which functions these are.
@@ -28,6 +30,8 @@ pub fn ours() -> Side {
         next: |image, at, out| calls::next(image, at.sector, at.offset, at.left, out).number(),
         save: our_save,
         erase: |image, name, list| calls::erase(image, name, list).number(),
+        report_add: |image, report| calls::report_add(image, report).number(),
+        report_join: |report, other| calls::report_join(report, other).number(),
     })
 }
 
@@ -48,6 +52,8 @@ pub fn theirs() -> Side {
         },
         save: |image, wish, list| word(paper::save(image, wish, list), |count| (count, 0)),
         erase: |image, name, list| word(paper::erase(image, name, list), |count| (count, 0)),
+        report_add: |image, report| word(paper::report_add(image, report), |disks| (disks, 0)),
+        report_join: |report, other| word(paper::report_join(report, other), |disks| (disks, 0)),
     })
 }
 

@@ -7,7 +7,7 @@ use std::time::Duration;
 pub fn print_head(timer: Duration) {
     println!("The proved library (ours) beside document 01 in plain Rust (paper), both built for release, in one process.");
     println!("Microseconds for one call; ratio: ours / paper. The sides take turns; a round is at least 100 us of calls.");
-    println!("both checks, list, read, open, pieces and refused calls: many calls between two looks at the clock.");
+    println!("both checks, list, read, open, pieces, report and refused calls: many calls between two looks at the clock.");
     println!("pieces: a whole body by next, so many bytes to a call, laid end to end; it was opened before, untimed.");
     println!(
         "save and erase that are accepted: every call timed alone, less {} ns, the cost of an empty timed",

@@ -13,6 +13,7 @@
 //! - `pieces`: a file's body a piece at a time
 //! - `save`: the change that takes slots and sectors
 //! - `changes`: the changes of one directory byte or name
+//! - `report`: a shelf of disks in numbers
 //! - `refusal`: the numbers of refusal
 
 mod calls;
@@ -23,6 +24,7 @@ mod map;
 mod name;
 mod pieces;
 mod refusal;
+mod report;
 mod save;
 mod slot;
 mod spectrum;
@@ -31,4 +33,5 @@ pub use calls::{Listed, check, check_release, list, read, sector, start};
 pub use changes::{erase, hide, protect, release, rename, show};
 pub use pieces::{Reader, next, open};
 pub use refusal::Refused;
+pub use report::{REPORT_BYTES, report_add, report_join};
 pub use save::{Wish, save};

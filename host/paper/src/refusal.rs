@@ -34,6 +34,7 @@ pub enum Reason {
     NoSuchSector = 21,
     WasteSectors = 22,
     BodyTooLong = 25,
+    ReportFull = 31,
 }
 
 impl Reason {

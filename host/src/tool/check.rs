@@ -1,7 +1,7 @@
 //! `check`: whether disks are sound, and fit to go out.
 use super::failure::{Failure, Outcome, Reason};
 use super::output::{self, counted};
-use super::source::{self, STANDARD};
+use super::source;
 use super::words::Given;
 use std::ffi::OsStr;
 use varnucht::{Disk, Image, Refusal, Refused};
@@ -9,9 +9,7 @@ use varnucht::{Disk, Image, Refusal, Refused};
 /// Prints `accepted`, or fails with the refusal. Of several images each gets its line, and the worst status is given.
 pub fn run(given: &Given) -> Outcome {
     let paths = given.words();
-    if paths.iter().filter(|path| *path == STANDARD).count() > 1 {
-        return Err(given.usage("standard input can be read once"));
-    }
+    source::standard_once(given, None)?;
     if let [path] = paths {
         check(given, path)?;
         return output::print("accepted\n");

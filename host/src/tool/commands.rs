@@ -1,13 +1,14 @@
 //! The table of commands.
 use super::failure::Outcome;
 use super::words::Given;
-use super::{blank, change, check, dump, list, map, read, save};
+use super::{blank, change, check, dump, list, map, read, report, save};
 
 /// A command of the tool.
 pub struct Command {
     /// What it is called by.
     pub name: &'static str,
-    /// What it takes, in order.
+    /// What it takes, in order: a word for each place. A last place `WORD...` takes one or more, and `[WORD...]` any number,
+    /// none too.
     pub places: &'static [&'static str],
     /// Its options.
     pub options: &'static [&'static Choice],
@@ -94,6 +95,19 @@ const EXEC: Choice = valued(
     "up to 3 execution bytes (ffffff: it does not run when
 it is loaded)",
 );
+const FILES_FROM: Choice = valued(
+    &["--files-from"],
+    "LIST",
+    "take also the images and folders that the file LIST
+names, one to a line; `-` is standard input",
+);
+const JSON: Choice = flag(&["--json"], "print one JSON object, on one line");
+const THREADS: Choice = valued(
+    &["--threads"],
+    "N",
+    "how many threads read, 1 to 64 (as many as can run at
+once, at most 16)",
+);
 const INFO: Choice = valued(&["--info"], "HEX", "up to 11 bytes of kind information (all zero)");
 
 /// What is said of names wherever a command takes one.
@@ -114,6 +128,25 @@ as it was. Setuid, setgid and sticky are not kept.";
 /// What is said of IMAGE where it is only read.
 const PIPE: &str = "IMAGE may be a pipe, read to its end: one that nobody writes to is waited for.
 `-` is standard input.";
+
+/// What is said of a report: what it counts; what is taken in folders and lists; what cannot be read; the names in JSON.
+const SHELF: &str = "Prints how many disks are accepted and how many refused, by number; and of the
+accepted ones the files by kind, the sectors of the files, the free sectors,
+and the files by how many sectors they have, with a bar for each class. A disk
+that is refused is counted as such, and is no failure. At most 65,535 disks
+are in a report: more are refused, 31 (status 1).";
+const FOLDERS: &str = "An IMAGE that is a folder is searched, and the folders in it. Taken there are
+files whose names end in .mgt, .dsk or .img, capitals or not, and files of
+819,200 bytes, whatever their names. Names that begin with a dot are passed
+over. Links are followed; each file and each folder is taken once, however
+many paths lead to it.";
+const LISTS: &str = "In LIST empty lines are passed over, and a line `-` is a file of that name.";
+const UNREAD: &str = "What cannot be read is named on standard error, in the order in which it was
+met, and counted apart; the rest is done, the report is printed, and the
+status is 3.";
+const FIELDS: &str = "JSON: disks, accepted, refused (an array of number, words, disks), not_read,
+files, kinds (of kind, words, files), file_sectors, free_sectors, classes (of
+from, to, files; the last `to` is null).";
 
 /// What is said of a save.
 const START: &str = "The usual start, page 1 and offset 32768, is address 32768.";
@@ -214,6 +247,14 @@ second. Each file has a sign, and the signs are named below.",
         brief: "dump one raw sector; no directory is checked",
         more: &["Tracks are 0 to 79 and 128 to 207, sectors 1 to 10.", NUMBERS, PIPE],
         run: dump::run,
+    },
+    Command {
+        name: "report",
+        places: &["[IMAGE...]"],
+        options: &[&FILES_FROM, &JSON, &THREADS, &COLOR, &NO_WAIT],
+        brief: "count a shelf of images: disks, files, sectors",
+        more: &[SHELF, FOLDERS, LISTS, UNREAD, FIELDS, PIPE],
+        run: report::run,
     },
     Command {
         name: "blank",

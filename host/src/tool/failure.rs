@@ -37,6 +37,8 @@ pub enum Failure {
     Io(String, io::Error),
     /// The sectors of a change could not all be written. Status 3.
     Write(String, WriteError),
+    /// All was done but with what could not be read, which was named before. Status 3.
+    Unread(String),
     /// Nobody reads standard output any more. Status 3, and nothing is said.
     Closed,
     /// Something of several failed, and was said when it did. The greatest status of all.
@@ -83,7 +85,7 @@ impl Failure {
         match self {
             Failure::Refused(..) => 1,
             Failure::Usage(..) => 2,
-            Failure::Io(..) | Failure::Write(..) | Failure::Closed => 3,
+            Failure::Io(..) | Failure::Write(..) | Failure::Unread(_) | Failure::Closed => 3,
             Failure::Said(status) => *status,
         }
     }
@@ -99,6 +101,7 @@ impl Failure {
             Failure::Usage(words, Some(command)) => Some(format!("{words}\nTry `varnucht help {command}`.")),
             Failure::Io(what, error) => Some(format!("{what}: {error}")),
             Failure::Write(what, error) => Some(format!("{what}: {error}.")),
+            Failure::Unread(words) => Some(words.clone()),
             Failure::Closed | Failure::Said(_) => None,
         }
     }

@@ -1,12 +1,13 @@
-//! How far a long save has come, on a terminal.
+//! How far a long command has come, on a terminal.
 use std::io::{self, IsTerminal, Write};
 use std::time::{Duration, Instant};
 
-/// A line on standard error that follows the writing. It appears where that takes longer than a moment, and goes away again.
+/// A line on standard error that follows the work. It appears where that takes longer than a moment, and goes away again.
 pub struct Progress {
     terminal: bool,
     last: Instant,
-    shown: bool,
+    /// How long the longest line was that is there to be taken away; 0 for none.
+    shown: usize,
 }
 
 /// How long to wait between two lines, and before the first.
@@ -18,25 +19,36 @@ impl Progress {
         Progress {
             terminal: io::stderr().is_terminal(),
             last: Instant::now(),
-            shown: false,
+            shown: 0,
         }
     }
 
     /// So many sectors are written.
     pub fn step(&mut self, written: usize, of: usize) {
+        self.show(|| format!("{written} of {of} sectors written "));
+    }
+
+    /// Shows how far it has come, in words, where it is time to.
+    pub fn show(&mut self, words: impl FnOnce() -> String) {
         if self.terminal && self.last.elapsed() >= MOMENT {
-            let _ = write!(io::stderr(), "\r{written} of {of} sectors written ");
+            let words = words();
+            let _ = write!(io::stderr(), "\r{words}");
             self.last = Instant::now();
-            self.shown = true;
+            self.shown = self.shown.max(words.len());
+        }
+    }
+
+    /// Takes the line away.
+    pub fn clear(&mut self) {
+        if self.shown > 0 {
+            let _ = write!(io::stderr(), "\r{:1$}\r", "", self.shown);
+            self.shown = 0;
         }
     }
 }
 
 impl Drop for Progress {
-    /// Takes the line away.
     fn drop(&mut self) {
-        if self.shown {
-            let _ = write!(io::stderr(), "\r{:40}\r", "");
-        }
+        self.clear();
     }
 }

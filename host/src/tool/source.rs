@@ -16,25 +16,46 @@ pub fn image(given: &Given) -> Result<Image, Failure> {
     image_at(given, given.word(0))
 }
 
-/// The image in this file of the command line. The file is locked while it is read, so that no change of another program
-/// comes in between.
+/// The image in this file of the command line.
 pub fn image_at(given: &Given, path: &OsStr) -> Result<Image, Failure> {
+    open(path, &Wait::new(given, &output::say), |file| read(file, path))
+}
+
+/// What a command does where another program has locked a file: it waits, and says so, unless it shall not wait.
+pub struct Wait<'a> {
+    no_wait: bool,
+    say: &'a dyn Fn(&str),
+}
+
+impl<'a> Wait<'a> {
+    /// As the command line asks for.
+    pub fn new(given: &Given, say: &'a dyn Fn(&str)) -> Wait<'a> {
+        Wait {
+            no_wait: given.has("--no-wait"),
+            say,
+        }
+    }
+}
+
+/// Opens the file at a path, or standard input for `-`, and reads it. The file is locked meanwhile, so that no change of
+/// another program comes in between.
+pub fn open<T>(path: &OsStr, wait: &Wait, read: impl FnOnce(&mut File) -> Result<T, Failure>) -> Result<T, Failure> {
     if path == STANDARD {
         // A lock on standard input would be that of whoever opened it, so the file is opened anew for the lock.
         let anew = File::open("/dev/stdin");
         if let Ok(file) = &anew {
-            share(file, path, given)?;
+            share(file, path, wait)?;
         }
-        return read(&mut *standard_input()?, path);
+        return read(&mut *standard_input()?);
     }
     let mut file = File::open(path).map_err(|error| Failure::io(path, error))?;
-    share(&file, path, given)?;
-    read(&mut file, path)
+    share(&file, path, wait)?;
+    read(&mut file)
 }
 
 /// Locks a file that is read. What cannot be locked can be read all the same.
-fn share(file: &File, path: &OsStr, given: &Given) -> Outcome {
-    match lock(file, path, given, false) {
+fn share(file: &File, path: &OsStr, wait: &Wait) -> Outcome {
+    match lock(file, path, wait, false) {
         Err(Failure::Io(_, error)) if error.kind() != ErrorKind::WouldBlock => Ok(()),
         locked => locked,
     }
@@ -46,6 +67,15 @@ pub const STANDARD: &str = "-";
 /// Standard input.
 pub fn standard_input() -> Result<ManuallyDrop<File>, Failure> {
     system::standard(system::INPUT).map_err(|error| Failure::io(STANDARD.as_ref(), error))
+}
+
+/// Fails where standard input is asked for twice, by the words and by the value of an option.
+pub fn standard_once(given: &Given, value: Option<&OsStr>) -> Outcome {
+    let words = given.words().iter().map(OsString::as_os_str).chain(value);
+    match words.filter(|word| *word == STANDARD).count() {
+        0 | 1 => Ok(()),
+        _ => Err(given.usage("standard input can be read once: `-` is given twice")),
+    }
 }
 
 /// Fails where the image is standard input and the command writes to it.
@@ -70,7 +100,7 @@ pub fn changing(given: &Given) -> Result<(Held, Disk), Failure> {
         path: path.into(),
     };
     let whole = held.length().map_err(failed)? == WHOLE;
-    lock(&held.file, path, given, true)?;
+    lock(&held.file, path, &Wait::new(given, &output::say), true)?;
     let image = read(&mut held.file, path);
     // A file that was no image from the start is refused as one.
     if whole { held.still_whole() } else { held.still_there() }.map_err(failed)?;
@@ -152,17 +182,17 @@ fn open_to_change(path: &OsStr) -> io::Result<File> {
 }
 
 /// Locks a file, alone or shared. Where another program holds it this waits, and says so, unless it shall not.
-fn lock(file: &File, path: &OsStr, given: &Given, alone: bool) -> Result<(), Failure> {
+fn lock(file: &File, path: &OsStr, wait: &Wait, alone: bool) -> Result<(), Failure> {
     let tried = if alone { file.try_lock() } else { file.try_lock_shared() };
     match tried {
         Ok(()) => Ok(()),
         Err(TryLockError::Error(error)) => Err(Failure::io(path, error)),
-        Err(TryLockError::WouldBlock) if given.has("--no-wait") => Err(Failure::io(
+        Err(TryLockError::WouldBlock) if wait.no_wait => Err(Failure::io(
             path,
             io::Error::new(ErrorKind::WouldBlock, "another program has locked it"),
         )),
         Err(TryLockError::WouldBlock) => {
-            output::say(&format!(
+            (wait.say)(&format!(
                 "{}: waiting for another program that has locked it",
                 output::shown_file(path)
             ));

@@ -111,11 +111,13 @@ fn valued(
     }
 }
 
-/// What was given, where it is as many words as the command takes, or more of what it takes several of.
+/// What was given, where it is as many words as the command takes: one for each place, but for a last one that takes more.
 fn counted(given: Given) -> Result<Given, Failure> {
     let (takes, has) = (given.command.places, given.places.len());
-    let several = takes.last().is_some_and(|last| last.ends_with("..."));
-    if takes.len() == has || several && takes.len() < has {
+    let last = takes.last().copied().unwrap_or_default();
+    let least = takes.len() - usize::from(last.starts_with('['));
+    let most = if last.contains("...") { usize::MAX } else { takes.len() };
+    if (least..=most).contains(&has) {
         return Ok(given);
     }
     let words = match takes.get(has) {

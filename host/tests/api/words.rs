@@ -66,6 +66,7 @@ fn provoked() -> Vec<(u8, u16, Refused)> {
     all.push((21, 0, Track::new(80).unwrap_err()));
     all.push((22, 2, shortened(501).check_release().unwrap_err()));
     all.push((25, 2, Disk::open(spectrum(4, 1_012, 0)).unwrap_err().into()));
+    all.push((31, 0, reports::full().add(b"").unwrap_err()));
     all
 }
 

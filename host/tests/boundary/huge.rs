@@ -11,6 +11,8 @@ use crate::support::disks::Disk;
 use crate::support::facts::Facts;
 use crate::support::geometry::{bit_place, number};
 use crate::support::guarded::{Empty, Flush, Guarded};
+use crate::support::random::Random;
+use crate::support::reports;
 use crate::wide;
 use std::env;
 use std::process::Command;
@@ -46,9 +48,11 @@ const HUGEST: [usize; 10] = [
     below(1),
 ];
 
-/// The refusal that such a length alone brings about, where it does.
-fn refusal(role: usize) -> Option<u64> {
+/// The refusal that such a length alone brings about, where it does. Of a report the front is enough, and an image of any
+/// length is counted.
+fn refusal(call: Call, role: usize) -> Option<u64> {
     match role {
+        _ if call.is_report() => None,
         IMAGE | TWO => Some(1),
         NAME | NEW => Some(12),
         BODY => Some(19),
@@ -81,23 +85,38 @@ fn accepted(call: Call, disk: &Disk, i: usize) -> Asked {
             }
         }
         Call::Rename => asked.with(NAME, file.name).with(NEW, b"unlike all").with(OUT, [0x5c; 2]),
+        Call::ReportAdd => asked.with(OUT, report(9)),
+        Call::ReportJoin => asked.with(TWO, report(8)).with(OUT, report(7)),
         _ => asked.with(NAME, file.name).with(OUT, [0x5c; 2]),
     }
 }
 
+/// A report of so many disks, with rubbish elsewhere.
+fn report(disks: u32) -> Vec<u8> {
+    let random = &mut Random::new(19_000_000);
+    let mut report = random.bytes(reports::REPORT);
+    reports::with_disks(&mut report, disks, random);
+    report
+}
+
 /// Asks with slices of that length in these roles; the answer and every slice at return are as they should be.
 fn ask(request: &Request, roles: &[usize], length: usize) {
+    // An image that no disk has the length of is counted like one of no bytes.
+    let request = &match request.call == Call::ReportAdd && roles.contains(&IMAGE) {
+        true => request.with(IMAGE, &[]),
+        false => *request,
+    };
     let mut lender = Guarded::new(Flush::End, Empty::Closed);
     let mut parts = [NOTHING; 8];
     let refused = roles
         .iter()
-        .filter_map(|&role| refusal(role))
+        .filter_map(|&role| refusal(request.call, role))
         .min()
         .map(|number| match request.call {
             Call::Next => request.call.answer_to_no_image(),
             _ => number,
         });
-    let there = |role: usize| match roles.contains(&role) && refusal(role).is_some() {
+    let there = |role: usize| match roles.contains(&role) && refusal(request.call, role).is_some() {
         true => &[],
         false => request.slices[role],
     };

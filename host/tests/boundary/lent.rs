@@ -108,7 +108,10 @@ fn short_images() {
     counts.print("short images");
     let accepted = CALLS.into_iter().zip(counts.0).filter(|(_, [accepted, _])| *accepted > 0);
     assert!(
-        accepted.map(|(call, _)| call).eq([Call::Next]),
+        accepted
+            .map(|(call, _)| call)
+            .filter(|call| !call.is_report())
+            .eq([Call::Next]),
         "an image of a wrong length was accepted"
     );
 }

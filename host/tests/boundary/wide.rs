@@ -9,6 +9,7 @@ use crate::support::fields;
 use crate::support::geometry;
 use crate::support::guarded::{Empty, Flush, Guarded, PAGE, Pages};
 use crate::support::random::Random;
+use crate::support::reports;
 use crate::support::waste;
 
 const WIDE: usize = 1 << 32;
@@ -96,7 +97,7 @@ fn images() {
     let (disk, i) = disk();
     let usual = Usual::new(&disk, &disk.files[i].name);
     let image = Wide::new(&disk.image);
-    for call in calls::CALLS {
+    for call in calls::CALLS.into_iter().filter(|call| !call.is_report()) {
         assert_eq!(
             usual.ask(call, [19, 1, 40_000], IMAGE, image.part(geometry::IMAGE)),
             call.answer_to_no_image(),
@@ -167,4 +168,36 @@ fn what_is_saved() {
     assert_eq!(usual.ask(Call::Save, numbers, BODY, Wide::new(&[]).part(10)), 19);
     assert!(usual.lender.bytes(IMAGE) == disk.image);
     assert!(disk.files[i].body.len() > 9);
+}
+
+/// An image whose length is right in its low 32 bits is counted as refused 1; a report whose low 32 bits are too few is long
+/// enough, the one that is added to and the one that is joined.
+#[test]
+fn reports() {
+    let (disk, _) = disk();
+    let lend = |bytes: &[u8], may_change: bool| {
+        let mut lender = Guarded::new(Flush::End, Empty::Closed);
+        let part = lender.lend(0, bytes, may_change);
+        (lender, part)
+    };
+    let counted = |report: &[u8]| [0, 1, 98].map(|at| reports::number(report, at) as usize);
+    let ask = |call: Call, image: Part, two: Part, out: Part| {
+        let mut parts = [NOTHING; 8];
+        (parts[IMAGE], parts[TWO], parts[OUT]) = (image, two, out);
+        // Safety: the slices stand apart from each other, and the report may be written.
+        unsafe { ask_c(call, [0; 3], &parts) }
+    };
+    let (_image, whole) = lend(&disk.image, false);
+    let (report, own) = lend(&[0; reports::REPORT], true);
+    let wide_image = Wide::new(&disk.image);
+    assert_eq!(ask(Call::ReportAdd, wide_image.part(geometry::IMAGE), NOTHING, own), 1 << 24);
+    assert_eq!(counted(report.bytes(0)), [0, 1, 0]);
+    let wide = Wide::new(&[]);
+    assert_eq!(ask(Call::ReportAdd, whole, NOTHING, wide.part(1)), 1 << 24);
+    assert_eq!(counted(wide.front(reports::REPORT)), [1, 0, disk.free()]);
+    assert_eq!(ask(Call::ReportJoin, NOTHING, wide.part(1), own), 2 << 24);
+    assert_eq!(counted(report.bytes(0)), [1, 1, disk.free()]);
+    let (_other, other) = lend(report.bytes(0), false);
+    assert_eq!(ask(Call::ReportJoin, NOTHING, other, wide.part(1)), 3 << 24);
+    assert_eq!(counted(wide.front(reports::REPORT)), [2, 1, 2 * disk.free()]);
 }

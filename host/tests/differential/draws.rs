@@ -141,7 +141,8 @@ fn wrong_lengths(run: &mut Run) -> bool {
         assert_eq!(run.check(&disk.image), 1, "{length} bytes");
         for call in CALLS {
             let answer = run.ask(&asking::draw(call, &facts, random).on(&disk.image)).answer;
-            assert_eq!(answer, call.answer_to_no_image(), "{call:?} on {length} bytes");
+            let as_it_should = call.is_report() || answer == call.answer_to_no_image();
+            assert!(as_it_should, "{call:?} on {length} bytes");
         }
     }
     rounds.enough()

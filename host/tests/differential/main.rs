@@ -6,6 +6,7 @@
 //! - `edges`: each argument of each call and each field of a slot at, below and above its boundaries, one after the other.
 //! - `sectors`: every drive, track and sector of the raw sector call.
 //! - `pieces`: readers, however the asking is cut, and readers of any three numbers.
+//! - `reports`: shelves in numbers, and reports of any bytes.
 //!
 //! `VARNUCHT_SEED` and `VARNUCHT_ROUNDS` draw other tests, or a single one again. `VARNUCHT_TABLE` names a file for the table
 //! of counts, which `--nocapture` shows too.
@@ -17,4 +18,5 @@ mod drawn;
 mod draws;
 mod edges;
 mod pieces;
+mod reports;
 mod sectors;

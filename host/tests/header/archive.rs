@@ -60,9 +60,9 @@ fn stack_said() -> Vec<(String, usize)> {
         .collect()
 }
 
-/// `stack.c` says of each call how many bytes of painted stack it wrote over. A save took less than 5,500 bytes and every
-/// other call at most 1,400 when the walk along a chain began to mark the sectors passed. The frames in the compiled code
-/// have fixed sizes and no call leads back to itself, so that their sum, about the same, holds for every input.
+/// `stack.c` says of each call how many bytes of painted stack it wrote over. A save took less than 5,500 bytes, the calls on
+/// reports less than 2,600 and every other call less than 1,600 when reports came. The frames in the compiled code have fixed
+/// sizes and no call leads back to itself, so that their sum, about the same, holds for every input.
 #[test]
 fn the_calls_need_little_stack() {
     let folder = Folder::new("stack");
@@ -81,7 +81,11 @@ fn the_calls_need_little_stack() {
         let bytes: usize = bytes.parse().expect("a number");
         let said = said.iter().find(|(name, _)| name == call).map(|(_, most)| *most);
         assert!(said.is_none_or(|most| bytes <= most), "{line}: the header says {said:?}");
-        let most = if call == "save" { 8192 } else { 2048 };
+        let most = match call {
+            "save" => 8192,
+            "report_add" | "report_join" => 3072,
+            _ => 2048,
+        };
         assert!(bytes > 0 && bytes < most, "{line}");
         let checks = ["check", "check_release"].contains(&call);
         assert!(number == "0" || checks && number == "10", "{line}");
@@ -89,7 +93,7 @@ fn the_calls_need_little_stack() {
     }
     assert_eq!(
         calls.len(),
-        17,
-        "fifteen calls that are accepted, and two checks that are refused"
+        19,
+        "seventeen calls that are accepted, and two checks that are refused"
     );
 }

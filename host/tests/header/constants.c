@@ -32,6 +32,7 @@ static void check_reasons(void) {
         expect(reasons[number] == number, "the number of a refusal", (unsigned long)number);
     }
     expect(VARNUCHT_BODY_TOO_LONG == 25, "the number of a refusal", 25);
+    expect(VARNUCHT_REPORT_FULL == 31, "the number of a refusal", 31);
 }
 
 static void check_sizes(void) {
@@ -47,6 +48,17 @@ static void check_sizes(void) {
     expect(VARNUCHT_BODY_BYTES == 510 * 1560 - 9, "bytes of a body", 0);
     expect(VARNUCHT_SAVE_LIST_BYTES == 2 * (1560 + 2), "bytes of a save's list", 0);
     expect(VARNUCHT_CHANGE_LIST_BYTES == 2, "bytes of another list", 0);
+    expect(VARNUCHT_REPORT_BYTES == 4 * 124, "bytes of a report", 0);
+}
+
+/* The places of a report follow each other: 1 + 32 disks, 64 kinds, two sums, 12 classes, and 13 that are kept. */
+static void check_places(void) {
+    expect(VARNUCHT_REPORT_ACCEPTED == 0 && VARNUCHT_REPORT_REFUSED == 0, "disks", 0);
+    expect(VARNUCHT_REPORT_KINDS == 1 + 32, "kinds", 0);
+    expect(VARNUCHT_REPORT_FILE_SECTORS == VARNUCHT_REPORT_KINDS + 64, "file sectors", 0);
+    expect(VARNUCHT_REPORT_FREE_SECTORS == VARNUCHT_REPORT_FILE_SECTORS + 1, "free sectors", 0);
+    expect(VARNUCHT_REPORT_CLASSES == VARNUCHT_REPORT_FREE_SECTORS + 1, "classes", 0);
+    expect(VARNUCHT_REPORT_CLASSES + VARNUCHT_REPORT_CLASS_COUNT + 13 == 124, "the rest", 0);
 }
 
 /* A field's place in an entry is two more than in the slot. */
@@ -81,6 +93,7 @@ static void check_kinds(void) {
 void check_constants(void) {
     check_reasons();
     check_sizes();
+    check_places();
     check_fields();
     check_kinds();
 }

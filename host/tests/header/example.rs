@@ -202,6 +202,34 @@ fn the_player_reads_piece_by_piece() {
     }
 }
 
+/// A shelf is counted, with what is no disk; a file that is not there is named and the rest is counted.
+#[test]
+fn the_shelf_is_counted() {
+    for language in BOTH {
+        let folder = Folder::new(&format!("shelf-{language:?}"));
+        let shelf = build(language, &["-O2"], &[root().join("examples/shelf.c")], &folder, "shelf");
+        let (disk, _) = saved(&vec![0; IMAGE], b"TUNES", &some_bytes(2_000));
+        let images = [
+            folder.write("disk", &disk),
+            folder.write("blank", vec![0; IMAGE]),
+            folder.write("short", b"no disk"),
+            folder.write("long", vec![0; IMAGE + 1]),
+        ];
+        let paths: Vec<&Path> = images.iter().map(PathBuf::as_path).collect();
+        let counted = String::from_utf8(done(run(&shelf, &paths))).expect("text");
+        let lines: Vec<&str> = counted.lines().map(str::trim_start).collect();
+        assert_eq!(lines[..2], ["2 accepted", "2 refused 1: the image is not 819,200 bytes"]);
+        assert_eq!((lines.len(), lines[5]), (15, "1 files of 4 or more sectors"));
+        assert_eq!(lines[14], "3116 sectors free");
+        let nowhere = folder.file("nowhere");
+        let output = run(&shelf, &[&nowhere, &images[0]]);
+        assert_eq!(output.status.code(), Some(1));
+        assert!(String::from_utf8_lossy(&output.stderr).contains("nowhere: "));
+        assert!(String::from_utf8_lossy(&output.stdout).starts_with("         1 accepted\n"));
+        assert!(done(run(&shelf, &[])).starts_with(b"         0 accepted\n"));
+    }
+}
+
 /// What the example cannot do it says in words, and leaves the disk alone.
 #[test]
 fn the_example_says_refusals_in_words() {

@@ -17,5 +17,6 @@ void check_entries(void);
 void check_empty_slices(void);
 void check_size_limits(void);
 void check_pieces(void);
+void check_reports(void);
 
 #endif

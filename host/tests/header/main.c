@@ -43,6 +43,7 @@ int main(int argc, char **argv) {
     run("empty slices", check_empty_slices);
     run("sizes", check_size_limits);
     run("pieces", check_pieces);
+    run("reports", check_reports);
     printf("held %lu, failed %lu\n", held, failed);
     return failed != 0;
 }

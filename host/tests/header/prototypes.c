@@ -11,6 +11,7 @@ typedef uint64_t sector_call(const uint8_t *, size_t, const uint8_t *, size_t, u
 typedef uint64_t save_call(uint8_t *, size_t, uint32_t, const uint8_t *, size_t, uint32_t, uint32_t, const uint8_t *, size_t,
                            const uint8_t *, size_t, const uint8_t *, size_t, uint8_t *, size_t);
 typedef uint64_t change_call(uint8_t *, size_t, const uint8_t *, size_t, uint8_t *, size_t);
+typedef uint64_t join_call(uint8_t *, size_t, const uint8_t *, size_t);
 typedef uint64_t rename_call(uint8_t *, size_t, const uint8_t *, size_t, const uint8_t *, size_t, uint8_t *, size_t);
 
 static image_call *const volatile check = varnucht_check;
@@ -23,10 +24,13 @@ static start_call *const volatile start = varnucht_start;
 static sector_call *const volatile sector = varnucht_sector;
 static save_call *const volatile save = varnucht_save;
 static rename_call *const volatile renaming = varnucht_rename;
+static list_call *const volatile adding = varnucht_report_add;
+static join_call *const volatile joining = varnucht_report_join;
 static change_call *const volatile changes[] = {varnucht_erase, varnucht_hide, varnucht_show, varnucht_protect,
                                                 varnucht_release};
 
-/* With nothing lent every call is there and answers 1, slot 0, and nothing else; but of the next piece that none comes. */
+/* With nothing lent every call is there and answers 1, slot 0, and nothing else; but of the next piece that none comes, and of
+ * a report that it is too short. */
 void check_prototypes(void) {
     expect(check(NULL, 0) == 1, "check of nothing", 0);
     expect(check_release(NULL, 0) == 1, "check for a release of nothing", 0);
@@ -38,6 +42,8 @@ void check_prototypes(void) {
     expect(sector(NULL, 0, NULL, 0, 0, 0, 0) == 1, "sector of nothing", 0);
     expect(save(NULL, 0, 0, NULL, 0, 0, 0, NULL, 0, NULL, 0, NULL, 0, NULL, 0) == 1, "save of nothing", 0);
     expect(renaming(NULL, 0, NULL, 0, NULL, 0, NULL, 0) == 1, "rename of nothing", 0);
+    expect(adding(NULL, 0, NULL, 0) == 20, "a disk added to nothing", 0);
+    expect(joining(NULL, 0, NULL, 0) == 20, "nothing joined to nothing", 0);
     for (unsigned long i = 0; i < sizeof changes / sizeof changes[0]; i++) {
         expect(changes[i](NULL, 0, NULL, 0, NULL, 0) == 1, "a change of nothing", i);
     }

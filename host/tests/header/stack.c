@@ -18,6 +18,7 @@ static uint8_t blank[VARNUCHT_IMAGE_BYTES], full[VARNUCHT_IMAGE_BYTES], crowded[
 static uint8_t ring[VARNUCHT_IMAGE_BYTES], ended[VARNUCHT_IMAGE_BYTES];
 static uint8_t image[VARNUCHT_IMAGE_BYTES];
 static uint8_t body[VARNUCHT_BODY_BYTES], list[VARNUCHT_SAVE_LIST_BYTES];
+static uint8_t report[VARNUCHT_REPORT_BYTES], shelf[VARNUCHT_REPORT_BYTES];
 static const uint8_t name[] = {'A', '0'}, other[] = {'T', 'U', 'N', 'E', 'S'};
 static unsigned refusal;
 
@@ -44,6 +45,8 @@ static void renaming(void) { refusal = varnucht_refusal(varnucht_rename(image, s
 static void hide(void) { refusal = varnucht_refusal(varnucht_hide(image, sizeof image, name, 2, list, 2)); }
 static void show(void) { refusal = varnucht_refusal(varnucht_show(image, sizeof image, name, 2, list, 2)); }
 static void protect(void) { refusal = varnucht_refusal(varnucht_protect(image, sizeof image, name, 2, list, 2)); }
+static void report_add(void) { refusal = varnucht_refusal(varnucht_report_add(image, sizeof image, report, sizeof report)); }
+static void report_join(void) { refusal = varnucht_refusal(varnucht_report_join(report, sizeof report, shelf, sizeof shelf)); }
 static void release(void) { refusal = varnucht_refusal(varnucht_release(image, sizeof image, name, 2, list, 2)); }
 
 /* The bytes from the deepest that was written to the stack's end. */
@@ -102,6 +105,8 @@ int main(void) {
         say("show", show, disks[i]);
         say("protect", protect, disks[i]);
         say("release", release, disks[i]);
+        say("report_add", report_add, disks[i]);
+        say("report_join", report_join, disks[i]);
     }
     say("check", check, ring);
     say("check_release", check_release, ring);

@@ -6,6 +6,7 @@ use super::geometry;
 use super::names;
 use super::random::Random;
 use super::readers;
+use super::reports;
 use super::wishes;
 
 /// A request with slices of its own; the image is added when it is asked.
@@ -56,6 +57,7 @@ pub fn draw(call: Call, facts: &Facts, random: &mut Random) -> Asked {
             asked.with(NAME, name).with(OUT, buffer(need, random))
         }
         Call::Sector => sector(random),
+        Call::ReportAdd | Call::ReportJoin => reports::draw(call, random),
         Call::Save => wishes::draw(facts, random),
         Call::Rename => {
             let name = asked_name(facts, random);

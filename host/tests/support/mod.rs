@@ -10,6 +10,7 @@
 //! - `compare`: the same request to both, with every buffer compared at return.
 //! - `margins`, `guarded`: two ways to lend the buffers to the C layer.
 //! - `facts`, `asking`, `wishes`, `readers`: drawn requests that fit a disk.
+//! - `reports`: drawn reports, and what is counted of a disk.
 //! - `tally`: how often each call gave each refusal.
 
 // Every test program takes this whole folder and uses a part of it.
@@ -28,6 +29,7 @@ pub mod margins;
 pub mod names;
 pub mod random;
 pub mod readers;
+pub mod reports;
 pub mod settings;
 pub mod shapes;
 pub mod tally;

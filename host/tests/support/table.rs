@@ -1,7 +1,7 @@
 /// The words of document 01's table by number, copied from it; and those of the rows that document 02 moves or adds. Numbers
 /// between them belong to requests that have not landed.
 #[rustfmt::skip]
-pub const TABLE: [(u8, &str); 23] = [
+pub const TABLE: [(u8, &str); 24] = [
     (1, "the image is not 819,200 bytes"),
     (2, "the kind is not known"),
     (3, "the first name byte is 0 (given no more)"),
@@ -25,6 +25,7 @@ pub const TABLE: [(u8, &str); 23] = [
     (21, "no such drive, track or sector"),
     (22, "carried kind, and the count is above the least that its length needs (waste sectors behind the file)"),
     (25, "kind 1 to 4, and 510 × count is below 9 + the length in the header"),
+    (31, "a disk or join that would pass 65,535 disks"),
 ];
 
 /// The words of a number, if it has any.

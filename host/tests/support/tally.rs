@@ -7,7 +7,7 @@ use std::fmt::Write;
 pub struct Tally([[usize; 1 + MOST]; CALLS.len()]);
 
 /// The greatest number of refusal.
-const MOST: usize = 25;
+const MOST: usize = 31;
 
 /// The numbers that a call can give, by document 01's table and document 02; 0 for an accepted request. 3 is given no more.
 pub fn possible(call: Call) -> Vec<u8> {
@@ -20,6 +20,7 @@ pub fn possible(call: Call) -> Vec<u8> {
         Call::Next => return vec![0],
         Call::Start => &[12, 13, 14, 15],
         Call::Sector => return vec![0, 1, 21],
+        Call::ReportAdd | Call::ReportJoin => return vec![0, 20, 31],
         Call::Save => &[12, 13, 14, 16, 18, 19, 20],
         Call::Erase => &[12, 15, 17, 20],
         Call::Rename => &[12, 15, 16, 17, 20],
@@ -51,13 +52,14 @@ impl Tally {
             .collect()
     }
 
-    /// A row for each number, a column for each call; a dash where the call cannot give the number.
+    /// A row for each number that is given, a column for each call; a dash where the call cannot give the number.
     pub fn table(&self) -> String {
         let mut text = String::from("No.");
         for call in CALLS {
             write!(text, "{:>1$}", format!("{call:?}").to_lowercase(), width(call)).expect("a string takes all");
         }
-        for number in 0..=MOST as u8 {
+        let given = |number: &u8| CALLS.into_iter().any(|call| possible(call).contains(number));
+        for number in (0..=MOST as u8).filter(given) {
             write!(text, "\n{number:>3}").expect("a string takes all");
             for call in CALLS {
                 let count = self.0[call as usize][usize::from(number)];

@@ -133,6 +133,7 @@ fn check_of_several_images() {
     assert_eq!(piped.done(), accepted(&good) + "standard input: accepted\n");
     fed([&"check".into(), &OsString::from("-"), &good, &"-".into()], &shortened(9))
         .fails(2, "standard input can be read once");
+    check(&[]).fails(2, "`check` takes IMAGE...: IMAGE is missing");
     assert_eq!(folder.names(), ["good.mgt", "short.mgt", "waste.mgt"]);
 }
 
@@ -486,15 +487,18 @@ fn blank_makes_a_disk_and_replaces_none() {
 fn help_and_version() {
     let commands = [
         "check", "list", "map", "read", "save", "erase", "rename", "hide", "show", "protect", "release", "sector", "blank",
+        "report",
     ];
     let all = run(["help"]);
     for command in commands {
-        assert!(all.done().contains(&format!("\n  {command} IMAGE")), "{command}");
+        // A report may take its images from a list alone.
+        let takes = if command == "report" { "[IMAGE...]" } else { "IMAGE" };
+        assert!(all.done().contains(&format!("\n  {command} {takes}")), "{command}");
         let one = run(["help", command]);
-        assert!(one.done().starts_with(&format!("varnucht {command} IMAGE")));
+        assert!(one.done().starts_with(&format!("varnucht {command} {takes}")));
         assert_eq!(run([command, "--help"]).done(), one.done());
         assert!(one.text().contains("\n  3  something could not be read or written\n"));
-        let only_reads = ["check", "list", "map", "read", "sector"].contains(&command);
+        let only_reads = ["check", "list", "map", "read", "sector", "report"].contains(&command);
         assert_eq!(one.text().contains("\nIMAGE may be a pipe, "), only_reads, "{command}");
         assert!(
             one.text()

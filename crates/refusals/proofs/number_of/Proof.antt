@@ -80,6 +80,9 @@ enum-told-22 c = search needs
 enum-told-23 : tie.Need-enum-told-23
 enum-told-23 c = search needs
 
+enum-told-24 : tie.Need-enum-told-24
+enum-told-24 c = search needs
+
 returns : tie.Need-returns
 returns c = told (c .enum-told .given .1) refl (omega arith)
 
@@ -149,6 +152,9 @@ returns-22 c = told (c .enum-told22 .given .1) refl (omega arith)
 returns-23 : tie.Need-returns-23
 returns-23 c = told (c .enum-told23 .given .1) refl (omega arith)
 
+returns-24 : tie.Need-returns-24
+returns-24 c = told (c .enum-told24 .given .1) refl (omega arith)
+
 pub number-of-spec : {M : Type 1} → statement M
 number-of-spec =
     tie.close
@@ -176,6 +182,7 @@ number-of-spec =
     enum-told-21
     enum-told-22
     enum-told-23
+    enum-told-24
     returns
     returns-2
     returns-3
@@ -198,4 +205,5 @@ number-of-spec =
     returns-20
     returns-21
     returns-22
-    returns-23)
+    returns-23
+    returns-24)

@@ -6,6 +6,7 @@ use crate::support::calls::{self, CALLS, Call, NAME, OUT};
 use crate::support::disks::{Disk, File};
 use crate::support::fields;
 use crate::support::geometry::{fills, sectors_for};
+use crate::support::reports;
 use crate::support::waste;
 
 /// A disk with three files of five sectors each, all carried, which their bodies need.
@@ -176,11 +177,13 @@ fn other_calls_accept_them() {
     set_length(&mut disk, 1, 3);
     disk.slot_mut(file.slot)[fields::OFFSET..fields::PAGES].copy_from_slice(&32_768_u16.to_le_bytes());
     disk.slot_mut(file.slot)[0] &= !fields::PROTECTED;
-    for call in CALLS.into_iter().filter(|call| *call != Call::Sector) {
+    let checks = |call: &Call| !matches!(call, Call::Sector | Call::ReportJoin);
+    for call in CALLS.into_iter().filter(checks) {
         let asked = match call {
             Call::Check | Call::CheckRelease => Asked::new(call),
             Call::List | Call::Next => Asked::new(call).with(OUT, vec![0x5c; 1_000]),
             Call::Open | Call::Start => Asked::new(call).with(NAME, file.name),
+            Call::ReportAdd => Asked::new(call).with(OUT, [0; reports::REPORT]),
             Call::Save => super::save(vec![7; 10]),
             Call::Rename => Asked::new(call)
                 .with(NAME, file.name)

@@ -48,6 +48,8 @@ fn look(request: &Request, out: &mut [u8]) -> Result<Parts, Refused> {
         }
         Call::Start => paper::start(image, name).map(|address| [0, address as usize, 0]),
         Call::Sector => paper::sector(image, two, a, b, c).map(|place| [0, place, 0]),
+        Call::ReportAdd => paper::report_add(image, out).map(|disks| [0, disks, 0]),
+        Call::ReportJoin => paper::report_join(out, two).map(|disks| [0, disks, 0]),
         call => unreachable!("{call:?} is a change"),
     }
 }

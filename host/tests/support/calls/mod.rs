@@ -29,9 +29,11 @@ pub enum Call {
     Show,
     Protect,
     Release,
+    ReportAdd,
+    ReportJoin,
 }
 
-pub const CALLS: [Call; 15] = [
+pub const CALLS: [Call; 17] = [
     Call::Check,
     Call::CheckRelease,
     Call::List,
@@ -47,6 +49,8 @@ pub const CALLS: [Call; 15] = [
     Call::Show,
     Call::Protect,
     Call::Release,
+    Call::ReportAdd,
+    Call::ReportJoin,
 ];
 
 pub const CHANGES: [Call; 7] = [
@@ -61,17 +65,18 @@ pub const CHANGES: [Call; 7] = [
 
 /// The slices that calls lend, as places in the arrays below.
 pub const IMAGE: usize = 0;
+/// The image of drive 2, or the other report of a join.
 pub const TWO: usize = 1;
 pub const NAME: usize = 2;
 pub const NEW: usize = 3;
 pub const EXEC: usize = 4;
 pub const INFO: usize = 5;
 pub const BODY: usize = 6;
-/// The output buffer of list, read and next, the list of sector numbers of a change.
+/// The output buffer of list, read and next, the list of sector numbers of a change, the report that is added or joined to.
 pub const OUT: usize = 7;
 pub const ROLES: [&str; 8] = [
     "image",
-    "image of drive 2",
+    "second image or report",
     "name",
     "new name",
     "execution bytes",
@@ -85,9 +90,14 @@ impl Call {
         CHANGES.contains(&self)
     }
 
-    /// Whether this call tests no directory: what a damaged one holds makes no difference to it.
+    /// Whether this call refuses no directory: what a damaged one holds makes no difference to its refusal.
     pub fn is_raw(self) -> bool {
-        matches!(self, Call::Sector | Call::Next)
+        matches!(self, Call::Sector | Call::Next) || self.is_report()
+    }
+
+    /// Whether this call is on reports.
+    pub fn is_report(self) -> bool {
+        matches!(self, Call::ReportAdd | Call::ReportJoin)
     }
 
     /// What this call answers to an image of another length than a disk's.
@@ -106,6 +116,8 @@ impl Call {
             Call::Sector => &[IMAGE, TWO],
             Call::Save => &[IMAGE, NAME, EXEC, INFO, BODY, OUT],
             Call::Rename => &[IMAGE, NAME, NEW, OUT],
+            Call::ReportAdd => &[IMAGE, OUT],
+            Call::ReportJoin => &[TWO, OUT],
             _ => &[IMAGE, NAME, OUT],
         }
     }

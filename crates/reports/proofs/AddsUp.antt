@@ -1,0 +1,175 @@
+-- The numbers of a report add up: classes and kinds to the files, accepted and refused to the disks, sectors to the data sectors.
+use Prim.Native.Nat.{ℕ, zero, suc, _+_, _-_, _≤_, _<_}
+use mathlib.Core.Path.{_≡_, refl, sym, ap, ap₂, _∙_}
+use mathlib.Core.Bool.{Bool, true, false, cond, _&&_}
+use mathlib.Core.List.{List, [], _∷_}
+use mathlib.Core.Logic.{_≢_, ⊎-elim}
+use mathlib.Core.Option.{Option, none, some}
+use native.Mathlib.Omega.{arith}
+use borrow.Author.Tests.{leb-true, eq-eqb, ne-eqb}
+use lib.Dec.{eqb, leb}
+use Rattle.buffers.specs.Bytes.{count}
+use Rattle.buffers.proofs.Lists.{below-or-not}
+use Rattle.buffers.proofs.Tests.{and-both}
+use Rattle.maps.proofs.Laws.{bits-le}
+use Rattle.refusals.specs.Order.{Refusal, Reply, Row, FirstRow}
+use Rattle.slots.specs.Slot.{kindOf, countOf}
+use Rattle.slots.specs.Rows.{dataCount}
+use Rattle.directory.specs.Places.{slots}
+use Rattle.directory.specs.Directory.{held, Directory, liveAmong}
+use Rattle.directory.specs.Survey.{union, usedMap, counted, free, freeOf}
+use Rattle.disk.specs.Look.{Look, look, slotsOf, extra}
+use Rattle.disk.specs.Check.{checkLook, checkDisk}
+use Rattle.disk.specs.Given.{rows9, rows11, Given, by-length, by-slot, by-chain}
+use Rattle.disk.proofs.Order.{given, check-positive}
+use Rattle.reports.specs.Numbers.{sum, Numbers, inClass, filesAmong, filesReport, acceptedReport, refusedReport, empty, plus, over, reportOf}
+use Rattle.reports.specs.Shelf.{Disks, ofAccepted, total, filesOf, dataOf, AddsUp}
+use Rattle.reports.proofs.Classes.{class-only, class-some}
+use Rattle.reports.proofs.Places.{only-from}
+use Rattle.reports.proofs.Disk.{used-sectors, survey-accepts, report-accepted, report-refused}
+
+-- ---- sums
+
+pub sum-cong : (n : ℕ) (f g : ℕ → ℕ) → ((k : ℕ) → k < n → f k ≡ g k) → sum n f ≡ sum n g
+unfolding sum
+sum-cong zero f g h = refl
+sum-cong (suc n) f g h = ap₂ _+_ (sum-cong n f g (λ k l. h k (omega arith))) (h n (omega arith))
+
+pub sum-plus : (n : ℕ) (f g : ℕ → ℕ) → sum n (λ k. f k + g k) ≡ sum n f + sum n g
+unfolding sum
+sum-plus zero f g = refl
+sum-plus (suc n) f g = omega (arith, sum-plus n f g)
+
+pub sum-zero : (n : ℕ) → sum n (λ k. 0) ≡ 0
+unfolding sum
+sum-zero zero = refl
+sum-zero (suc n) = omega (arith, sum-zero n)
+
+-- the first one apart
+pub sum-first : (n : ℕ) (f : ℕ → ℕ) → sum (suc n) f ≡ f 0 + sum n (λ k. f (suc k))
+unfolding sum
+sum-first zero f = omega arith
+sum-first (suc n) f = ap (λ (a : ℕ). a + f (suc n)) (sum-first n f) ∙ omega arith
+
+-- a test that one number below n passes
+sum-one : (n j : ℕ) → j < n → sum n (λ k. cond (eqb k j) 1 0) ≡ 1
+unfolding sum
+sum-one zero j h = absurd (omega arith)
+sum-one (suc n) j h =
+    ⊎-elim (λ (l : j < n). rw (ne-eqb n j (λ q. omega arith)) (omega (arith, sum-one n j l)))
+    (λ (l : n ≤ j). let e : n ≡ j = omega arith in rw (eq-eqb n j e) (omega (arith, before e))) (below-or-not j n)
+  where
+    before : n ≡ j → sum n (λ k. cond (eqb k j) 1 0) ≡ 0
+    before e = sum-cong n _ (λ k. 0) (λ k l. rw (ne-eqb k j (λ q. omega arith))) ∙ sum-zero n
+
+-- ---- the files of a disk, by a test of which each file passes one
+
+module _ (v : Directory) (m : ℕ) (p : ℕ → List ℕ → Bool) (one : (s : List ℕ) → sum m (λ k. cond (p k s) 1 0) ≡ 1) where
+  parted : (i : ℕ) → sum m (λ k. filesAmong v i (p k)) ≡ liveAmong v i
+  unfolding filesAmong liveAmong count
+  parted zero = sum-zero m
+  parted (suc i) =
+      sum-plus m (λ k. count i (λ j. held false (p k) (v j))) (λ k. cond (held false (p k) (v i)) 1 0) ∙ ap₂ _+_ (parted i) (by (v i))
+    where
+      by : (o : Option (List ℕ)) → sum m (λ k. cond (held false (p k) o) 1 0) ≡ cond (held false (λ s. true) o) 1 0
+      by none = sum-zero m
+      by (some s) = one s
+
+one-class : (s : List ℕ) → sum 12 (λ c. cond (inClass c (countOf s)) 1 0) ≡ 1
+one-class s =
+    let w = class-some (countOf s) in
+    sum-cong 12 _ (λ c. cond (eqb c (w .0)) 1 0) (λ c l. ap (λ (t : Bool). cond t 1 0) (class-only (w .0) c (countOf s) (w .1) l (w .2))) ∙ sum-one 12 (w .0) (w .1)
+
+one-kind : (s : List ℕ) → sum 64 (λ k. cond (eqb k (kindOf s)) 1 0) ≡ 1
+one-kind s = sum-one 64 (kindOf s) (omega arith)
+
+-- ---- the number of a refusal is 1 to 32
+
+low : List Row → Bool
+low [] = true
+low (r ∷ rs) = leb (r .number) 32 && low rs
+
+first-low : (rs : List Row) (n : ℕ) → low rs ≡ true → FirstRow n rs → n ≤ 32
+unfolding low
+first-low [] n e f = absurd f
+first-low (r ∷ rs) n e f =
+    let w = and-both (leb (r .number) 32) (low rs) e in
+    ⊎-elim (λ a. let z : r .number ≡ n = a .1 in omega (arith, leb-true (r .number) 32 (w .0))) (λ a. first-low rs n (w .1) (a .1)) f
+
+check-low : (l : Look) (r : Refusal) → checkLook l ≡ some r → r .number ≤ 32
+unfolding low
+check-low l r e = by (given l r e)
+  where
+    by : Given l r → r .number ≤ 32
+    by (by-length n q) = omega (arith, ap (λ (x : Refusal). x .number) q)
+    by (by-slot n w) = first-low (rows9 l (w .at) (w .file)) (r .number) refl (w .number)
+    by (by-chain n c w) = first-low (rows11 l (w .at) (w .file)) (r .number) refl (w .number)
+
+one-refused : (x : ℕ) → x ≢ 0 → x ≤ 32 → sum 32 (λ n. cond (eqb (suc n) x) 1 0) ≡ 1
+one-refused x h l =
+    let e : 1 + (x - 1) ≡ x = omega arith in
+    sum-cong 32 _ (λ n. cond (eqb n (x - 1)) 1 0) (λ n k. ap (λ (y : ℕ). cond (eqb (suc n) y) 1 0) (sym e) ∙ sym (only-from 1 (x - 1) (suc n) (omega arith) (ap (λ (y : ℕ). eqb y (x - 1)) (less n))))
+    ∙ sum-one 32 (x - 1) (omega arith)
+  where
+    less : (n : ℕ) → n ≡ suc n - 1
+    less n = omega arith
+
+-- ---- one disk
+
+record One (d : List ℕ) (r : Numbers) : Type 0 where
+  disks : r .accepted + sum 32 (λ n. r .refused (suc n)) ≡ 1
+  classes : sum 12 (r .classes) ≡ ofAccepted filesOf d
+  kinds : sum 64 (r .kinds) ≡ ofAccepted filesOf d
+  sectors : r .sectors + r .free ≡ ofAccepted dataOf d
+
+-- "file and free sectors": of an accepted disk they add up to its data sectors
+pub sectors-data : (l : Look) → checkLook l ≡ none → reportOf l .sectors + reportOf l .free ≡ dataOf l
+unfolding acceptedReport free freeOf usedMap counted extra dataCount
+sectors-data l e =
+    ap (λ (r : Numbers). r .sectors + r .free) (report-accepted l e)
+    ∙ omega (arith, used-sectors 0 (slotsOf l) (survey-accepts l e) slots (omega arith), bits-le (union (slotsOf l) slots))
+
+one : (d : List ℕ) → One d (reportOf (look d))
+unfolding checkDisk acceptedReport filesReport refusedReport
+one d = by (checkLook (look d)) refl
+  where
+    l : Look
+    l = look d
+
+    v : Directory
+    v = slotsOf l
+
+    by : (q : Reply) → checkLook l ≡ q → One d (reportOf l)
+    by none e =
+        let a = report-accepted l e in
+        record {
+          disks = ap (λ (r : Numbers). r .accepted + sum 32 (λ n. r .refused (suc n))) a ∙ ap (λ (n : ℕ). 1 + n) (sum-zero 32);
+          classes = ap (λ (r : Numbers). sum 12 (r .classes)) a ∙ parted v 12 (λ c s. inClass c (countOf s)) one-class slots ∙ sym (ap (held (filesOf l) (λ r. 0)) e);
+          kinds = ap (λ (r : Numbers). sum 64 (r .kinds)) a ∙ parted v 64 (λ k s. eqb k (kindOf s)) one-kind slots ∙ sym (ap (held (filesOf l) (λ r. 0)) e);
+          sectors = sectors-data l e ∙ sym (ap (held (dataOf l) (λ r. 0)) e);
+        }
+    by (some r) e =
+        let a = report-refused l r e in
+        record {
+          disks = ap (λ (r : Numbers). r .accepted + sum 32 (λ n. r .refused (suc n))) a ∙ ap (λ (n : ℕ). 0 + n) (one-refused (r .number) (check-positive d r e) (check-low l r e));
+          classes = ap (λ (r : Numbers). sum 12 (r .classes)) a ∙ sum-zero 12 ∙ sym (ap (held (filesOf l) (λ r. 0)) e);
+          kinds = ap (λ (r : Numbers). sum 64 (r .kinds)) a ∙ sum-zero 64 ∙ sym (ap (held (filesOf l) (λ r. 0)) e);
+          sectors = ap (λ (r : Numbers). r .sectors + r .free) a ∙ sym (ap (held (dataOf l) (λ r. 0)) e);
+        }
+
+-- ---- a list of disks
+
+pub adds-up : (ds : Disks) → AddsUp ds (over ds)
+unfolding over empty plus total
+adds-up [] = record { disks = omega (arith, sum-zero 32); classes = sum-zero 12; kinds = sum-zero 64; sectors = refl }
+adds-up (d ∷ ds) =
+    let a = one d in
+    let b = adds-up ds in
+    let x = reportOf (look d) in
+    let y = over ds in
+    record {
+      disks = omega (arith, sum-plus 32 (λ n. x .refused (suc n)) (λ n. y .refused (suc n)), a .disks, b .disks);
+      classes = sum-plus 12 (x .classes) (y .classes) ∙ ap₂ _+_ (a .classes) (b .classes);
+      kinds = sum-plus 64 (x .kinds) (y .kinds) ∙ ap₂ _+_ (a .kinds) (b .kinds);
+      sectors = omega (arith, a .sectors, b .sectors);
+    }

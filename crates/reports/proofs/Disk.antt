@@ -1,0 +1,198 @@
+-- The numbers of one disk, as its check gives them.
+use Prim.Native.Nat.{ℕ, zero, suc, _+_, _^_, _≤_, _<_}
+use mathlib.Core.Path.{_≡_, refl, sym, ap, ap₂, _∙_}
+use mathlib.Core.Bool.{not}
+use mathlib.Core.List.{List}
+use mathlib.Core.Logic.{_≢_}
+use mathlib.Core.Option.{Option, none, some}
+use native.Mathlib.Omega.{arith}
+use lib.Dec.{eqb}
+use lib.ListN.{length, getD, length-set}
+use Rattle.geometry.specs.Disk.{imageSize}
+use Rattle.maps.specs.Bits.{bitsOf, join}
+use Rattle.maps.proofs.Laws.{bits-clear, bits-le, bits-join}
+use Rattle.refusals.specs.Order.{Refusal, _else_, row, sweep}
+use Rattle.refusals.specs.Answers.{numberOf, lastNumber, replyOf, refusalOf}
+use Rattle.refusals.specs.declared.Refused.{Refused}
+use Rattle.refusals.specs.declared.Verdict.the-variants.{Sound, Unsound}
+use Rattle.refusals.proofs.First.{else-none}
+use Rattle.refusals.proofs.Lowest.{positive}
+use Rattle.slots.specs.Rows.{dataCount}
+use Rattle.slots.specs.Slot.{countOf, mapOf}
+use Rattle.directory.specs.Places.{slots}
+use Rattle.directory.specs.Directory.{held, Directory, directory, liveAmong}
+use Rattle.directory.specs.Survey.{survey, union, counted, usedMap, freeOf, free}
+use Rattle.directory.specs.declared.Survey.{Survey}
+use Rattle.directory.specs.declared.UsedMap.{UsedMap}
+use Rattle.directory.proofs.Union.{length-union, share-union}
+use Rattle.directory.proofs.Pass.{survey-passed}
+use Rattle.disk.specs.Look.{Look, look, slotsOf, extra}
+use Rattle.disk.specs.Check.{chainAt, checkBy, checkLook, checkDisk, Examined}
+use Rattle.disk.proofs.Look.{look-slots}
+use Rattle.reports.specs.Numbers.{sum, Numbers, sectorsAmong, filesReport, acceptedReport, refusedReport, reportOf, numberAt}
+use Rattle.reports.specs.Calls.{raisedAt, raised}
+use Rattle.reports.proofs.Places.{Place, at-accepted, at-refused, at-kind, at-sectors, at-free, at-class, placed, number-accepted, number-refused, number-kind, number-sectors, number-free, number-class, only, only-there, only-elsewhere}
+use Rattle.reports.proofs.Raised.{Raised, raised-none, raised-more, raised-same, raised-is, raised-twice}
+
+-- ---- file sectors: no two files share one, so the used map has as many as the counts add up to
+
+pub used-sectors : (n : ℕ) (v : Directory) → survey n v ≡ none → (k : ℕ) → k ≤ slots → bitsOf (union v k) ≡ sectorsAmong v k
+unfolding union sectorsAmong sum
+used-sectors n v e zero h = bits-clear
+used-sectors n v e (suc k) h = by (v k) refl (used-sectors n v e k (omega arith))
+  where
+    by : (o : Option (List ℕ)) → v k ≡ o → bitsOf (union v k) ≡ sum k (λ i. held 0 countOf (v i))
+        → bitsOf (held (union v k) (λ s. join (union v k) (mapOf s)) o) ≡ sum k (λ i. held 0 countOf (v i)) + held 0 countOf o
+    by none p q = q ∙ omega arith
+    by (some s) p q =
+        let w = survey-passed n v e k s (omega arith) p in
+        bits-join (union v k) (mapOf s) (length-union v k) (share-union v k (mapOf s) ∙ w .unshared) ∙ ap₂ _+_ q (w .bits)
+
+-- what the check says where it accepts a look
+pub survey-accepts : (l : Look) → checkLook l ≡ none → survey (extra l) (slotsOf l) ≡ none
+unfolding checkBy
+survey-accepts l e =
+    let a = else-none (row 1 0 (not (eqb (l .long) imageSize))) (survey (extra l) (slotsOf l) else sweep slots (chainAt l)) e in
+    else-none (survey (extra l) (slotsOf l)) (sweep slots (chainAt l)) (a .1) .0
+
+pub report-accepted : (l : Look) → checkLook l ≡ none → reportOf l ≡ acceptedReport (extra l) (slotsOf l)
+unfolding reportOf
+report-accepted l e = ap (held (acceptedReport (extra l) (slotsOf l)) refusedReport) e
+
+pub report-refused : (l : Look) (r : Refusal) → checkLook l ≡ some r → reportOf l ≡ refusedReport r
+unfolding reportOf
+report-refused l r e = ap (held (acceptedReport (extra l) (slotsOf l)) refusedReport) e
+
+-- the numbers that are raised fit
+pub free-small : (u : UsedMap) {f : ℕ} → f ≡ freeOf 0 u → f < 2 ^ 32
+unfolding freeOf dataCount
+free-small u e = omega arith
+
+pub length-three : (l : List ℕ) (x y : ℕ) {l′ : List ℕ} → l′ ≡ raisedAt (raisedAt (raisedAt l 0 1) 97 x) 98 y → length l ≡ 111 → length l′ ≡ 111
+unfolding raisedAt
+length-three l x y e h = rw e (simp length-set h)
+
+-- ---- a refused disk is one number more
+
+number-of-refused : (r : Refusal) → r .number ≢ 0 → r .number ≤ 32 → (k : ℕ) → only (r .number) 1 k ≡ numberAt (refusedReport r) k
+unfolding refusedReport
+number-of-refused r p h k = by (placed k)
+  where
+    a : Numbers
+    a = refusedReport r
+
+    by : Place k → only (r .number) 1 k ≡ numberAt a k
+    by (at-accepted x) = only-elsewhere (r .number) 1 k (λ q. p (omega arith)) ∙ sym (number-accepted a k x)
+    by (at-refused x y) = sym (number-refused a k x y)
+    by (at-kind x y) = only-elsewhere (r .number) 1 k (λ q. omega arith) ∙ sym (number-kind a k x y)
+    by (at-sectors x) = only-elsewhere (r .number) 1 k (λ q. omega arith) ∙ sym (number-sectors a k x)
+    by (at-free x) = only-elsewhere (r .number) 1 k (λ q. omega arith) ∙ sym (number-free a k x)
+    by (at-class x) = only-elsewhere (r .number) 1 k (λ q. omega arith) ∙ sym (number-class a k x)
+
+-- ---- an accepted one: itself, its sectors, and its files
+
+number-of-accepted : (n : ℕ) (v : Directory) (k : ℕ)
+    → only 0 1 k + only 97 (sectorsAmong v slots) k + only 98 (free n v) k + numberAt (filesReport v slots) k ≡ numberAt (acceptedReport n v) k
+unfolding acceptedReport filesReport
+number-of-accepted n v k = by (placed k)
+  where
+    a : Numbers
+    a = acceptedReport n v
+
+    b : Numbers
+    b = filesReport v slots
+
+    sectors : ℕ
+    sectors = sectorsAmong v slots
+
+    no0 : (k ≡ 0 → ⊥) → only 0 1 k ≡ 0
+    no0 h = only-elsewhere 0 1 k h
+
+    no97 : (k ≡ 97 → ⊥) → only 97 sectors k ≡ 0
+    no97 h = only-elsewhere 97 sectors k h
+
+    no98 : (k ≡ 98 → ⊥) → only 98 (free n v) k ≡ 0
+    no98 h = only-elsewhere 98 (free n v) k h
+
+    by : Place k → only 0 1 k + only 97 sectors k + only 98 (free n v) k + numberAt b k ≡ numberAt a k
+    by (at-accepted x) = rw (only-there 0 1 k x, no97 (λ q. omega arith), no98 (λ q. omega arith), number-accepted b k x, number-accepted a k x)
+    by (at-refused x y) = rw (no0 (λ q. omega arith), no97 (λ q. omega arith), no98 (λ q. omega arith), number-refused b k x y, number-refused a k x y)
+    by (at-kind x y) = rw (no0 (λ q. omega arith), no97 (λ q. omega arith), no98 (λ q. omega arith), number-kind b k x y, number-kind a k x y) (omega arith)
+    by (at-sectors x) = rw (no0 (λ q. omega arith), only-there 97 sectors k x, no98 (λ q. omega arith), number-sectors b k x, number-sectors a k x) (omega arith)
+    by (at-free x) = rw (no0 (λ q. omega arith), no97 (λ q. omega arith), only-there 98 (free n v) k x, number-free b k x, number-free a k x) (omega arith)
+    by (at-class x) = rw (no0 (λ q. omega arith), no97 (λ q. omega arith), no98 (λ q. omega arith), number-class b k x, number-class a k x) (omega arith)
+
+-- ---- as the code meets them: x is what the check hands on
+
+module _ (d : List ℕ) (x : Survey) (w : Examined d x) where
+  -- what is known of an accepted one
+  pub record Taken : Type 0 where
+    pub fine : checkLook (look d) ≡ none
+    pub sectors : x .used .count ≡ sectorsAmong (directory d) slots
+    pub few : x .used .count ≤ 1560
+    pub files : x .files ≡ liveAmong (directory d) slots
+    pub used : x .used ≡ usedMap (directory d)
+
+  pub taken : x .verdict ≡ Sound → Taken
+  unfolding checkDisk usedMap counted extra
+  taken e =
+      let z : checkLook (look d) ≡ none = sym (w .reply) ∙ ap replyOf e in
+      let u : x .used ≡ usedMap (directory d) = w .used ∙ rw z in
+      let b : x .used .count ≡ bitsOf (union (directory d) slots) = ap (λ (m : UsedMap). m .count) u in
+      let s : survey 0 (directory d) ≡ none = ap (survey 0) (sym (look-slots d)) ∙ survey-accepts (look d) z in
+      record {
+        fine = z;
+        sectors = b ∙ used-sectors 0 (directory d) s slots (omega arith);
+        few = omega (arith, bits-le (union (directory d) slots));
+        files = w .files ∙ rw z;
+        used = u;
+      }
+
+  module _ (l : List ℕ) (long : length l ≡ 111) (bound : (k : ℕ) → getD l k 0 < 2 ^ 32) where
+    pub counts-refused : (r : Refused) → x .verdict ≡ Unsound r → {n : ℕ} → n ≡ numberOf (r .reason) → n ≤ lastNumber
+        → {l′ : List ℕ} → l′ ≡ raisedAt l n 1 → l′ ≡ raised l (numberAt (reportOf (look d)))
+    unfolding checkDisk
+    counts-refused r e {n} p h {l′} q =
+        let z : checkLook (look d) ≡ some (refusalOf r) = sym (w .reply) ∙ ap replyOf e in
+        let one = raised-more l (λ k. 0) l (raised-none l long bound) (numberOf (r .reason)) 1 (omega arith) (q ∙ ap (λ (j : ℕ). raisedAt l j 1) p) in
+        raised-is l (numberAt (reportOf (look d))) l′
+        (raised-same l (λ k. 0 + only (numberOf (r .reason)) 1 k) (numberAt (reportOf (look d))) l′ one
+        (λ k m. zero-plus _ ∙ number-of-refused (refusalOf r) (positive (r .reason)) (omega arith) k ∙ ap (λ (a : Numbers). numberAt a k) (sym (report-refused (look d) (refusalOf r) z))))
+      where
+        zero-plus : (a : ℕ) → 0 + a ≡ a
+        zero-plus a = omega arith
+
+    pub counts-accepted : Taken → {f : ℕ} → f ≡ freeOf 0 (x .used) → {l′ l″ : List ℕ}
+        → l′ ≡ raisedAt (raisedAt (raisedAt l 0 1) 97 (x .used .count)) 98 f → l″ ≡ raised l′ (numberAt (filesReport (directory d) slots)) → l″ ≡ raised l (numberAt (reportOf (look d)))
+    unfolding free extra
+    counts-accepted t {f} p {l′} {l″} q o =
+        raised-is l (numberAt (reportOf (look d))) l″ (raised-same l _ (numberAt (reportOf (look d))) l″ (raised-twice l _ _ l′ l″ third o) same)
+      where
+        v : Directory
+        v = directory d
+
+        sectors : ℕ
+        sectors = x .used .count
+
+        first : Raised l (λ k. 0 + only 0 1 k) (raisedAt l 0 1)
+        first = raised-more l (λ k. 0) l (raised-none l long bound) 0 1 (omega arith) refl
+
+        second : Raised l (λ k. 0 + only 0 1 k + only 97 sectors k) (raisedAt (raisedAt l 0 1) 97 sectors)
+        second = raised-more l (λ k. 0 + only 0 1 k) _ first 97 sectors (omega arith) refl
+
+        third : Raised l (λ k. 0 + only 0 1 k + only 97 sectors k + only 98 f k) l′
+        third = raised-more l (λ k. 0 + only 0 1 k + only 97 sectors k) _ second 98 f (omega arith) q
+
+        is-free : f ≡ free 0 v
+        is-free = p ∙ ap (freeOf 0) (t .used)
+
+        same : (k : ℕ) → k < 111 → 0 + only 0 1 k + only 97 sectors k + only 98 f k + numberAt (filesReport v slots) k ≡ numberAt (reportOf (look d)) k
+        same k m =
+            ap (λ (a : ℕ). a + only 97 sectors k + only 98 f k + numberAt (filesReport v slots) k) (zero-plus (only 0 1 k))
+            ∙ ap₂ (λ (a b : ℕ). only 0 1 k + only 97 a k + only 98 b k + numberAt (filesReport v slots) k) (t .sectors) is-free
+            ∙ number-of-accepted 0 v k
+            ∙ ap (λ (v : Directory). numberAt (acceptedReport 0 v) k) (sym (look-slots d))
+            ∙ ap (λ (a : Numbers). numberAt a k) (sym (report-accepted (look d) (t .fine)))
+          where
+            zero-plus : (a : ℕ) → 0 + a ≡ a
+            zero-plus a = omega arith

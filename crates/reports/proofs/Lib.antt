@@ -1,0 +1,9 @@
+pub mod Classes
+pub mod Places
+pub mod Raised
+pub mod Files
+pub mod Disk
+pub mod Called
+pub mod Sums
+pub mod AddsUp
+pub mod Shelf

@@ -1,0 +1,225 @@
+-- The calls over lists of disks: a disk added gives the report over one disk more, and a join the report over both lists.
+use Prim.Native.Nat.{ℕ, suc, _+_, _*_, _%_, _^_, _-_, _≤_, _<_}
+use mathlib.Core.Path.{_≡_, refl, sym, ap, ap₂, _∙_}
+use mathlib.Core.Bool.{Bool, true, false, cond}
+use mathlib.Core.List.{List, [], _∷_, _++_}
+use mathlib.Core.Logic.{⊎-elim}
+use mathlib.Core.Option.{none, some}
+use native.Mathlib.Omega.{arith}
+use borrow.Author.Tests.{ltb-true}
+use lib.Dec.{eqb, ltb}
+use lib.ListN.{length, getD, replicate}
+use Rattle.buffers.specs.Bytes.{tab}
+use Rattle.buffers.proofs.Lists.{below-or-not, past-end, length-tab, getD-tab, tab-cong}
+use Rattle.buffers.proofs.Counts.{count-le}
+use Rattle.refusals.specs.Order.{Refusal, Reply, refuse, row}
+use Rattle.refusals.specs.Answers.{Outcome, done, refused, out, filled}
+use Rattle.slots.specs.Slot.{kindOf, countOf}
+use Rattle.slots.specs.Rows.{dataCount}
+use Rattle.directory.specs.Places.{slots}
+use Rattle.directory.specs.Directory.{held}
+use Rattle.disk.specs.Look.{Look, look, slotsOf, extra}
+use Rattle.disk.specs.Check.{checkLook}
+use Rattle.reports.specs.Numbers.{Numbers, inClass, filesAmong, filesReport, acceptedReport, refusedReport, reportOf, empty, plus, over, numberAt, listed}
+use Rattle.reports.specs.Calls.{disksIn, raised, full, adding, joining}
+use Rattle.reports.specs.Shelf.{Disks, Made, dataOf}
+use Rattle.reports.proofs.Places.{Place, at-accepted, at-refused, at-kind, at-sectors, at-free, at-class, placed, number-accepted, number-refused, number-kind, number-sectors, number-free, number-class, number-plus}
+use Rattle.reports.proofs.Disk.{report-accepted, report-refused}
+use Rattle.reports.proofs.Called.{full-refused, full-done}
+use Rattle.reports.proofs.Sums.{over-both, over-one}
+use Rattle.reports.proofs.AddsUp.{adds-up, sum-cong, sum-first, sectors-data}
+
+number-empty : (k : ℕ) → numberAt empty k ≡ 0
+unfolding empty
+number-empty k = by (placed k)
+  where
+    by : Place k → numberAt empty k ≡ 0
+    by (at-accepted h) = number-accepted empty k h
+    by (at-refused h l) = number-refused empty k h l
+    by (at-kind h l) = number-kind empty k h l
+    by (at-sectors h) = number-sectors empty k h
+    by (at-free h) = number-free empty k h
+    by (at-class h) = number-class empty k h
+
+abbrev pick : Outcome → ℕ
+pick (done v f) = 0
+pick (refused x) = 1
+
+-- ---- no number of a report of 65,535 disks reaches 2^32
+
+one-or-none : (t : Bool) → cond {A = ℕ} t 1 0 ≤ 65535
+one-or-none true = omega arith
+one-or-none false = omega arith
+
+data-few : (l : Look) → dataOf l ≤ 65535
+unfolding dataCount
+data-few l = omega arith
+
+small-accepted : (l : Look) → checkLook l ≡ none → (k : ℕ) → numberAt (reportOf l) k ≤ 65535
+unfolding acceptedReport filesReport filesAmong
+small-accepted l e k = at (placed k)
+  where
+    r : Numbers
+    r = reportOf l
+
+    a : Numbers
+    a = acceptedReport (extra l) (slotsOf l)
+
+    is : numberAt r k ≡ numberAt a k
+    is = ap (λ (x : Numbers). numberAt x k) (report-accepted l e)
+
+    at : Place k → numberAt r k ≤ 65535
+    at (at-accepted h) = omega (arith, is, number-accepted a k h)
+    at (at-refused h m) = omega (arith, is, number-refused a k h m)
+    at (at-kind h m) = omega (arith, is, number-kind a k h m, count-le slots (λ i. held false (λ s. eqb (k - 33) (kindOf s)) (slotsOf l i)))
+    at (at-sectors h) = omega (arith, number-sectors r k h, sectors-data l e, data-few l)
+    at (at-free h) = omega (arith, number-free r k h, sectors-data l e, data-few l)
+    at (at-class h) = omega (arith, is, number-class a k h, count-le slots (λ i. held false (λ s. inClass (k - 99) (countOf s)) (slotsOf l i)))
+
+small-refused : (l : Look) (r : Refusal) → checkLook l ≡ some r → (k : ℕ) → numberAt (reportOf l) k ≤ 65535
+unfolding refusedReport
+small-refused l r e k = at (placed k)
+  where
+    a : Numbers
+    a = refusedReport r
+
+    is : numberAt (reportOf l) k ≡ numberAt a k
+    is = ap (λ (x : Numbers). numberAt x k) (report-refused l r e)
+
+    at : Place k → numberAt (reportOf l) k ≤ 65535
+    at (at-accepted h) = omega (arith, is, number-accepted a k h)
+    at (at-refused h m) = omega (arith, is, number-refused a k h m, one-or-none (eqb k (r .number)))
+    at (at-kind h m) = omega (arith, is, number-kind a k h m)
+    at (at-sectors h) = omega (arith, is, number-sectors a k h)
+    at (at-free h) = omega (arith, is, number-free a k h)
+    at (at-class h) = omega (arith, is, number-class a k h)
+
+small-disk : (l : Look) (k : ℕ) → numberAt (reportOf l) k ≤ 65535
+small-disk l k = by (checkLook l) refl
+  where
+    by : (q : Reply) → checkLook l ≡ q → numberAt (reportOf l) k ≤ 65535
+    by none e = small-accepted l e k
+    by (some r) e = small-refused l r e k
+
+small-over : (ds : Disks) (k : ℕ) → numberAt (over ds) k ≤ length ds * 65535
+unfolding over
+small-over [] k = omega (arith, number-empty k)
+small-over (d ∷ ds) k = omega (arith, number-plus (reportOf (look d)) (over ds) k, small-disk (look d) k, small-over ds k)
+
+-- ---- the numbers of two reports in one, without a remainder
+
+raised-listed : (a b : Numbers) → ((k : ℕ) → numberAt (plus a b) k < 2 ^ 32) → raised (listed a) (numberAt b) ≡ listed (plus a b)
+unfolding raised listed
+raised-listed a b h =
+    tab-cong 111 _ (numberAt (plus a b))
+    (λ k m. let z = h k in let e : getD (tab 111 (numberAt a)) k 0 ≡ numberAt a k = getD-tab 111 (numberAt a) k m in omega (arith, number-plus a b k))
+
+raised-cong : (r : List ℕ) (f g : ℕ → ℕ) → ((k : ℕ) → k < 111 → f k ≡ g k) → raised r f ≡ raised r g
+unfolding raised
+raised-cong r f g h = tab-cong 111 _ _ (λ k m. ap (λ (x : ℕ). (getD r k 0 + x) % 2 ^ 32) (h k m))
+
+pub length-listed : (a : Numbers) → length (listed a) ≡ 111
+unfolding listed
+length-listed a = length-tab 111 (numberAt a)
+
+listed-at : (a : Numbers) (k : ℕ) → k < 111 → getD (listed a) k 0 ≡ numberAt a k
+unfolding listed
+listed-at a k h = getD-tab 111 (numberAt a) k h
+
+-- accepted and refused are all the disks
+disks-listed : (ds : Disks) → disksIn (listed (over ds)) ≡ length ds
+unfolding disksIn
+disks-listed ds =
+    let r = over ds in
+    sum-cong 33 (λ k. getD (listed r) k 0) (numberAt r) (λ k h. listed-at r k (omega arith))
+    ∙ sum-first 32 (numberAt r)
+    ∙ ap₂ _+_ (number-accepted r 0 refl) (sum-cong 32 (λ k. numberAt r (suc k)) (λ k. r .refused (suc k)) (λ k h. number-refused r (suc k) (omega arith) (omega arith)))
+    ∙ adds-up ds .disks
+
+-- ---- the empty report, and all zero
+
+pub made-none : Made [] (replicate 111 0)
+unfolding listed over tab numberAt empty
+made-none = record { few = omega arith; is = refl }
+
+refused-by : (r : List ℕ) (n : ℕ) (y : List ℕ) (x : Refusal) → filled (full n) (done n 0) y r .outcome ≡ refused x
+    → (x ≡ refuse 31 0) × (65535 < n) × (filled (full n) (done n 0) y r .buffer ≡ r)
+refused-by r n y x e = by (ltb 65535 n) refl e
+  where
+    by : (t : Bool) → ltb 65535 n ≡ t → filled (row 31 0 t) (done n 0) y r .outcome ≡ refused x
+        → (x ≡ refuse 31 0) × (65535 < n) × (filled (full n) (done n 0) y r .buffer ≡ r)
+    by true q w = (cc, ltb-true 65535 n q, rw q)
+    by false q w = absurd (never w)
+      where
+        never : done n 0 ≡ refused x → ⊥
+        never z = let y : _≡_ {A = ℕ} 0 1 = ap pick z in omega arith
+
+-- ---- "Add disks one at a time to a report"
+
+module _ (ds : Disks) (d r : List ℕ) (w : Made ds r) where
+  disks-are : disksIn r ≡ length ds
+  disks-are = ap disksIn (w .is) ∙ disks-listed ds
+
+  pub add-over : length ds < 65535 → adding r d ≡ out (done (length ds + 1) 0) (listed (over (ds ++ (d ∷ []))))
+  unfolding adding
+  add-over h =
+      let e = disks-are in
+      sym (full-done r (disksIn r + 1) (numberAt (reportOf (look d))) (omega arith) (ap length (w .is) ∙ length-listed (over ds)) refl)
+      ∙ ap₂ (λ (n : ℕ) (l : List ℕ). out (done (n + 1) 0) l) e
+      (ap (λ (r : List ℕ). raised r (numberAt (reportOf (look d)))) (w .is) ∙ raised-listed (over ds) (reportOf (look d)) small ∙ ap listed (sym (over-one ds d)))
+    where
+      small : (k : ℕ) → numberAt (plus (over ds) (reportOf (look d))) k < 2 ^ 32
+      small k = omega (arith, number-plus (over ds) (reportOf (look d)) k, small-over ds k, small-disk (look d) k)
+
+  -- "31, a disk .. that would pass 65,535 disks, the report unchanged."
+  pub add-full : length ds ≡ 65535 → adding r d ≡ out (refused (refuse 31 0)) r
+  unfolding adding
+  add-full h = let e = disks-are in sym (full-refused r (disksIn r + 1) (numberAt (reportOf (look d))) (omega arith) refl)
+
+-- "Two reports join, and the join is the report over both lists"
+module _ (ds es : Disks) (r s : List ℕ) (v : Made ds r) (w : Made es s) where
+  pub join-over : length ds + length es ≤ 65535 → joining r s ≡ out (done (length ds + length es) 0) (listed (over (ds ++ es)))
+  unfolding joining
+  join-over h =
+      let e = disks-are ds [] r v in
+      let f = disks-are es [] s w in
+      sym (full-done r (disksIn r + disksIn s) (λ k. getD s k 0) (omega arith) (ap length (v .is) ∙ length-listed (over ds)) refl)
+      ∙ ap₂ out (ap₂ (λ (a b : ℕ). done (a + b) 0) e f) numbers
+    where
+      small : (k : ℕ) → numberAt (plus (over ds) (over es)) k < 2 ^ 32
+      small k = omega (arith, number-plus (over ds) (over es) k, small-over ds k, small-over es k)
+
+      same : raised r (λ k. getD s k 0) ≡ raised r (numberAt (over es))
+      same = raised-cong r _ _ (λ k m. ap (λ (s : List ℕ). getD s k 0) (w .is) ∙ listed-at (over es) k m)
+
+      numbers : raised r (λ k. getD s k 0) ≡ listed (over (ds ++ es))
+      numbers = same ∙ ap (λ (r : List ℕ). raised r (numberAt (over es))) (v .is) ∙ raised-listed (over ds) (over es) small ∙ ap listed (sym (over-both ds es))
+
+  -- "31, a .. join that would pass 65,535 disks, the report unchanged."
+  pub join-full : 65535 < length ds + length es → joining r s ≡ out (refused (refuse 31 0)) r
+  unfolding joining
+  join-full h =
+      let e = disks-are ds [] r v in
+      let f = disks-are es [] s w in
+      sym (full-refused r (disksIn r + disksIn s) (λ k. getD s k 0) (omega arith) refl)
+
+-- ---- a refused call gives 31 and leaves the report, and nothing else is refused
+
+pub add-refused : (r d : List ℕ) (x : Refusal) → adding r d .outcome ≡ refused x → (x ≡ refuse 31 0) × (65535 < disksIn r + 1) × (adding r d .buffer ≡ r)
+unfolding adding
+add-refused r d x e = refused-by r (disksIn r + 1) _ x e
+
+pub join-refused : (r s : List ℕ) (x : Refusal) → joining r s .outcome ≡ refused x → (x ≡ refuse 31 0) × (65535 < disksIn r + disksIn s) × (joining r s .buffer ≡ r)
+unfolding joining
+join-refused r s x e = refused-by r (disksIn r + disksIn s) _ x e
+
+-- two disks with one look get one answer
+pub same-look : (r d e : List ℕ) → look d ≡ look e → adding r d ≡ adding r e
+unfolding adding
+same-look r d e q = ap (λ (l : Look). filled (full (disksIn r + 1)) (done (disksIn r + 1) 0) (raised r (numberAt (reportOf l))) r) q
+
+-- its numbers, as they are kept
+pub listed-small : (ds : Disks) → length ds ≤ 65535 → (k : ℕ) → getD (listed (over ds)) k 0 < 2 ^ 32
+listed-small ds h k =
+    ⊎-elim (λ (m : k < 111). omega (arith, listed-at (over ds) k m, small-over ds k))
+    (λ (m : 111 ≤ k). omega (arith, past-end (listed (over ds)) k (omega (arith, length-listed (over ds))))) (below-or-not k 111)
