@@ -15,7 +15,7 @@ use Rattle.buffers.proofs.Lists.{below-or-not, length-put, put-none, part-put}
 use Rattle.refusals.specs.Order.{refuse, Reply, _else_, row}
 use Rattle.refusals.specs.Answers.{Outcome, done, refused}
 use Rattle.slots.specs.Slot.{carried, protected, sectorsFor}
-use Rattle.slots.specs.Name.{askable, padded}
+use Rattle.names.specs.Name.{askable, padded}
 use Rattle.chains.specs.File.{File}
 use Rattle.directory.specs.Directory.{held, Directory}
 use Rattle.directory.specs.Survey.{free, usedMap}

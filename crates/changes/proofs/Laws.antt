@@ -12,7 +12,7 @@ use Rattle.buffers.specs.Bytes.{put}
 use Rattle.refusals.specs.Order.{Refusal, refuse, Reply, _else_, row}
 use Rattle.refusals.specs.Answers.{Outcome, done, refused}
 use Rattle.slots.specs.Slot.{protected, nameOf}
-use Rattle.slots.specs.Name.{sameBytes, askable, padded}
+use Rattle.names.specs.Name.{sameBytes, askable, padded}
 use Rattle.chains.specs.File.{File, fileOf}
 use Rattle.directory.specs.Places.{slots, slotAt, slotPlace, dirSector}
 use Rattle.directory.specs.Directory.{held, Directory, directory, slotOr}

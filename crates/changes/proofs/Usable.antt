@@ -9,8 +9,8 @@ use lib.Dec.{eqb, leb}
 use lib.ListN.{length, getD, drop, drop-of-length-le}
 use lib.Seq.{drop-cons}
 use Rattle.buffers.specs.Bytes.{part}
-use Rattle.slots.specs.Name.{askable, padded}
-use Rattle.slots.proofs.Names.{padded-whole}
+use Rattle.names.specs.Name.{askable, padded}
+use Rattle.names.proofs.Names.{padded-whole}
 use Rattle.plans.specs.Change.{allBetween, usable}
 
 module _ (n : List ℕ) (i : ℕ) (h : i < length n) where

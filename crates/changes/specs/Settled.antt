@@ -12,7 +12,7 @@ use Rattle.files.specs.Calls.{fileAt}
 use Rattle.refusals.specs.Order.{_else_}
 use Rattle.refusals.specs.Answers.{outcomeOf}
 use Rattle.refusals.specs.declared.Answer.{Answer}
-use Rattle.slots.specs.Name.{padded}
+use Rattle.names.specs.Name.{padded}
 use Rattle.steps.specs.Steps.{Step, enact, numbers}
 use Rattle.plans.specs.Change.{Change, usable}
 use Rattle.plans.specs.Plan.{Plan, go, orNo, renameTaken, isProtected, touch, settle, Changed, changed, changedBy, change}

@@ -41,7 +41,7 @@ fn is_printable(name: &[u8]) -> bool
 pub fn is_usable(name: &[u8]) -> bool
     ensures { λ r. ⌜ r ≡ usable (now (name .entry)) ⌝ }
 {
-    if !slots::is_askable(name) {
+    if !names::is_askable(name) {
         return false;
     }
     if !is_printable(name) {
@@ -111,9 +111,9 @@ fn taken_by(image: &[u8], i: usize, new: &[u8]) -> Found
             if j != i {
                 return Found::At(j);
             }
-            if slots::same_bytes(
+            if names::same_bytes(
                 slots::name_of(directory::slot_at(image, i)),
-                &slots::padded_name(new),
+                &names::padded_name(new),
             ) {
                 return Found::At(j);
             }
@@ -129,7 +129,7 @@ fn rename_at(image: &mut [u8], i: usize, new: &[u8], list: &mut [u16]) -> Answer
 {
     match taken_by(image, i, new) {
         Found::At(j) => refusals::no(Reason::NameTaken, j + 1),
-        Found::Nothing => touch_unprotected(image, i, 1, &slots::padded_name(new), list),
+        Found::Nothing => touch_unprotected(image, i, 1, &names::padded_name(new), list),
     }
 }
 
@@ -140,7 +140,7 @@ pub fn rename(image: &mut [u8], name: &[u8], new: &[u8], list: &mut [u16]) -> An
     match disk::check(image) {
         Verdict::Unsound(r) => Answer::No(r),
         Verdict::Sound => {
-            if !slots::is_askable(name) {
+            if !names::is_askable(name) {
                 return refusals::no(Reason::NameNotUsable, 0);
             }
             if !is_usable(new) {

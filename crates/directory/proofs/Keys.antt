@@ -11,8 +11,8 @@ use lib.Seq.{getD-set-same, getD-set-other}
 use Rattle.buffers.proofs.Counts.{any-more, any-some}
 use Rattle.buffers.proofs.Lists.{below-or-not}
 use Rattle.slots.specs.Slot.{nameOf}
-use Rattle.slots.specs.Name.{sameName, padded, keyOf}
-use Rattle.slots.proofs.Keys.{keys-differ}
+use Rattle.names.specs.Name.{sameName, padded, keyOf}
+use Rattle.names.proofs.Keys.{keys-differ}
 use Rattle.directory.specs.Places.{slots}
 use Rattle.directory.specs.Directory.{held, directory, liveAmong}
 use Rattle.directory.specs.Survey.{earlier}

@@ -12,7 +12,7 @@ use Rattle.buffers.specs.Bytes.{part, count}
 use Rattle.buffers.proofs.Lists.{below-or-not, part-part}
 use Rattle.buffers.proofs.Counts.{count-more, count-le, count-add, none-count}
 use Rattle.slots.specs.Slot.{isLive, nameOf}
-use Rattle.slots.specs.Name.{sameName}
+use Rattle.names.specs.Name.{sameName}
 use Rattle.directory.specs.Places.{slots, slotAt, slotPlace, slotBytes}
 use Rattle.directory.specs.Directory.{held, Directory, slotsRead, seen, directory, slotOr, liveAmong}
 use Rattle.directory.proofs.Places.{slot-front, slot-placed}

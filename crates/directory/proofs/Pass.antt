@@ -20,7 +20,7 @@ use Rattle.refusals.specs.declared.Verdict.{Verdict}
 use Rattle.refusals.specs.declared.Verdict.the-variants.{Sound, Unsound}
 use Rattle.refusals.proofs.First.{else-none, rows-clear, clear-rows, sweep-start, sweep-stop, sweep-none, none-sweep, none-sweepFrom}
 use Rattle.slots.specs.Slot.{Facts, kindOf, countOf, firstOf, nameOf, mapOf, facts, known, carried, lengthOf}
-use Rattle.slots.specs.Name.{sameName}
+use Rattle.names.specs.Name.{sameName}
 use Rattle.slots.specs.Rows.{own, ownReply, wasteful, strict, dataCount}
 use Rattle.directory.specs.Places.{slots}
 use Rattle.directory.specs.Directory.{held, Directory, slotsRead, directory, liveAmong}

@@ -10,8 +10,8 @@ use Rattle.buffers.proofs.Lists.{length-part}
 use Rattle.refusals.specs.Order.{sweepFrom}
 use Rattle.refusals.proofs.First.{sweep-start, sweep-none, none-sweep, none-sweepFrom, sweep-cong, sweep-first, first-sweep}
 use Rattle.slots.specs.Slot.{nameOf}
-use Rattle.slots.specs.Name.{sameName, Same, padded}
-use Rattle.slots.proofs.Names.{same-long, same-right}
+use Rattle.names.specs.Name.{sameName, Same, padded}
+use Rattle.names.proofs.Names.{same-long, same-right}
 use Rattle.directory.specs.Places.{slots}
 use Rattle.directory.specs.Directory.{held, Directory, slotsRead, directory}
 use Rattle.directory.specs.Find.{hit, find}

@@ -5,7 +5,7 @@ use mathlib.Core.List.{List}
 use mathlib.Core.Option.{Option, none, some}
 use Rattle.refusals.specs.Order.{sweep}
 use Rattle.slots.specs.Slot.{nameOf}
-use Rattle.slots.specs.Name.{sameName, padded}
+use Rattle.names.specs.Name.{sameName, padded}
 use Rattle.directory.specs.Places.{slots}
 use Rattle.directory.specs.Directory.{held, Directory}
 use Rattle.directory.specs.declared.Found.{Found}

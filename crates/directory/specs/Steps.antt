@@ -9,7 +9,7 @@ use Rattle.maps.specs.Bits.{bitsOf, share}
 use Rattle.refusals.specs.Order.{Reply}
 use Rattle.refusals.specs.Answers.{replyOf}
 use Rattle.slots.specs.Slot.{nameOf}
-use Rattle.slots.specs.Name.{keyOf}
+use Rattle.names.specs.Name.{keyOf}
 use Rattle.directory.specs.Directory.{slotsRead, directory}
 use Rattle.directory.specs.Survey.{union, usedOr, filesOr}
 use Rattle.directory.specs.declared.Survey.{Survey}

@@ -8,7 +8,7 @@ use Rattle.buffers.specs.Bytes.{any}
 use Rattle.maps.specs.Bits.{bitsOf, share, clear, join}
 use Rattle.refusals.specs.Order.{Row, _when_, Reply, rows, sweep}
 use Rattle.slots.specs.Slot.{nameOf, mapOf, facts}
-use Rattle.slots.specs.Name.{sameName}
+use Rattle.names.specs.Name.{sameName}
 use Rattle.slots.specs.Rows.{own, strict, dataCount}
 use Rattle.directory.specs.Places.{slots}
 use Rattle.directory.specs.Directory.{held, Directory, liveAmong}

@@ -6,7 +6,7 @@ ghost use Prim.Native.Nat.{_≤_, _<_};
 ghost use Rattle.maps.specs.Bits.{clear, join};
 ghost use Rattle.refusals.specs.Answers.{replyOf};
 ghost use Rattle.slots.specs.Slot.{nameOf};
-ghost use Rattle.slots.specs.Name.{sameName};
+ghost use Rattle.names.specs.Name.{sameName};
 ghost use Rattle.directory.specs.Places.{slotPlace, dirSector};
 ghost use Rattle.directory.specs.Directory.{held, slotsRead, directory, slotOr};
 ghost use Rattle.directory.specs.Survey.{earlier, surveyAt, surveyBy, counted, freeOf, refusedWith};
@@ -86,7 +86,7 @@ fn is_named(dir: &[u8], j: usize, name: &[u8]) -> bool
 {
     let t = slot_at(dir, j);
     if slots::is_live(t) {
-        return slots::same_name(slots::name_of(t), name);
+        return names::same_name(slots::name_of(t), name);
     }
     false
 }
@@ -97,7 +97,7 @@ fn named_before(dir: &[u8], i: usize, name: &[u8], keys: &[u64]) -> bool
     requires { ⌜ (i ≤ slotsRead (now dir)) × Keyed (now dir) i (now keys) ⌝ }
     ensures { λ r. ⌜ r ≡ earlier (directory (now (dir .entry))) i (λ t. sameName (nameOf t) (now (name .entry))) ⌝ }
 {
-    let key = slots::key_of(name);
+    let key = names::key_of(name);
     let mut j: usize = 0;
     while j < i {
         let k = j;
@@ -187,7 +187,7 @@ pub fn survey_slots(dir: &[u8], release: bool) -> Survey
                     return refused(Verdict::Unsound(f));
                 }
                 Verdict::Sound => {
-                    keys[k] = slots::key_of(slots::name_of(s));
+                    keys[k] = names::key_of(slots::name_of(s));
                     files += 1;
                     let next = joined(used, slots::map_of(s), slots::count_of(s));
                     used = next;
@@ -209,7 +209,7 @@ pub fn find(dir: &[u8], name: &[u8]) -> Found
     if 10 < name.len() {
         return Found::Nothing;
     }
-    let filled = slots::padded_name(name);
+    let filled = names::padded_name(name);
     let end = slots_read(dir);
     let mut i: usize = 0;
     while i < end {

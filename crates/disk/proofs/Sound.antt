@@ -14,10 +14,10 @@ use Rattle.maps.specs.Bits.{share}
 use Rattle.maps.proofs.Laws.{share-none, none-share}
 use Rattle.refusals.specs.Order.{Clear}
 use Rattle.slots.specs.Slot.{kindOf, readable, facts, mapOf, nameOf, countOf, firstOf}
-use Rattle.slots.specs.Name.{sameName, Same}
+use Rattle.names.specs.Name.{sameName, Same}
 use Rattle.slots.specs.Rows.{own}
 use Rattle.slots.proofs.KindLaws.{carried-not, read-either}
-use Rattle.slots.proofs.Names.{not-same}
+use Rattle.names.proofs.Names.{not-same}
 use Rattle.chains.specs.File.{File}
 use Rattle.chains.specs.Chain.{later, fileLength}
 use Rattle.chains.proofs.Laws.{map-small, length-header, length-slot}

@@ -16,8 +16,8 @@ use Rattle.refusals.specs.Answers.{Outcome, done, refused, unless, filled}
 use Rattle.refusals.proofs.First.{else-some, firstRow, row-else, row-first, first-row}
 use Rattle.refusals.proofs.Lowest.{slot-lowest, slot-positive}
 use Rattle.slots.specs.Slot.{kindOf, spectrum, readable, nameOf, pageOf, offsetOf}
-use Rattle.slots.specs.Name.{sameName, askable, padded}
-use Rattle.slots.proofs.Names.{not-same}
+use Rattle.names.specs.Name.{sameName, askable, padded}
+use Rattle.names.proofs.Names.{not-same}
 use Rattle.chains.specs.File.{File}
 use Rattle.chains.specs.Chain.{fileLength}
 use Rattle.directory.specs.Places.{slots}

@@ -6,7 +6,7 @@ use mathlib.Core.Bool.{Bool, true, false, not}
 use mathlib.Core.List.{List}
 use mathlib.Core.Option.{Option, none, some}
 use Rattle.refusals.specs.Order.{Refusal, refuse, Reply, _else_, row}
-use Rattle.slots.specs.Name.{askable}
+use Rattle.names.specs.Name.{askable}
 use Rattle.chains.specs.File.{File, fileOf}
 use Rattle.directory.specs.Directory.{held, Directory, directory, slotOr}
 use Rattle.directory.specs.Find.{find}

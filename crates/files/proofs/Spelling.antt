@@ -2,8 +2,8 @@
 use Prim.Native.Nat.{ℕ}
 use mathlib.Core.Path.{_≡_}
 use mathlib.Core.List.{List}
-use Rattle.slots.specs.Name.{Same, askable}
-use Rattle.slots.proofs.Names.{same-padded, same-askable}
+use Rattle.names.specs.Name.{Same, askable}
+use Rattle.names.proofs.Names.{same-padded, same-askable}
 use Rattle.directory.specs.Find.{find}
 use Rattle.directory.proofs.Search.{find-same}
 use Rattle.disk.specs.Look.{look, slotsOf}

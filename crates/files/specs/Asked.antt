@@ -8,7 +8,7 @@ use lib.Dec.{ltb}
 use Rattle.buffers.specs.Bytes.{any}
 use Rattle.refusals.specs.Order.{Refusal, SlotRow, rowAt, FirstOf}
 use Rattle.slots.specs.Slot.{kindOf, spectrum, readable, nameOf, pageOf, offsetOf}
-use Rattle.slots.specs.Name.{sameName, askable, padded}
+use Rattle.names.specs.Name.{sameName, askable, padded}
 use Rattle.chains.specs.Chain.{fileLength}
 use Rattle.directory.specs.Places.{slots}
 use Rattle.directory.specs.Directory.{held, liveAmong}

@@ -8,7 +8,7 @@ use lib.ListN.{length}
 use Rattle.refusals.specs.Order.{Refusal, refuse, Reply, _else_, row}
 use Rattle.refusals.specs.Answers.{Outcome, done, unless, Out, filled, refusalOf}
 use Rattle.slots.specs.Slot.{kindOf, spectrum, readable, pageOf, offsetOf}
-use Rattle.slots.specs.Name.{askable}
+use Rattle.names.specs.Name.{askable}
 use Rattle.chains.specs.File.{File}
 use Rattle.chains.specs.Chain.{headerStart, firstSector, fileLength, body}
 use Rattle.directory.specs.Places.{slots}

@@ -98,7 +98,7 @@ pub fn look_up(image: &[u8], name: &[u8]) -> Lookup
     match disk::check(image) {
         Verdict::Unsound(r) => Lookup::Barred(r),
         Verdict::Sound => {
-            if !slots::is_askable(name) {
+            if !names::is_askable(name) {
                 return barred(Reason::NameNotUsable, 0);
             }
             match directory::find(image, name) {

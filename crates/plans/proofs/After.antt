@@ -20,8 +20,8 @@ use Rattle.refusals.specs.Order.{refuse}
 use Rattle.maps.specs.Bits.{has, bitsOf, join}
 use Rattle.maps.proofs.Laws.{bits-le, bits-join, has-join, none-share}
 use Rattle.slots.specs.Slot.{isLive, hidden, protected, kindOf, spectrum, nameOf, countOf, firstOf, mapOf, pageOf, offsetOf, facts, lengthOf}
-use Rattle.slots.specs.Name.{sameName, Same, askable, padded}
-use Rattle.slots.proofs.Names.{same-sym, same-eq, same-of}
+use Rattle.names.specs.Name.{sameName, Same, askable, padded}
+use Rattle.names.proofs.Names.{same-sym, same-eq, same-of}
 use Rattle.slots.specs.Rows.{dataCount}
 use Rattle.chains.specs.File.{File}
 use Rattle.chains.specs.Chain.{headerLength, headerStart, fileLength, linked, bodyByte, body}

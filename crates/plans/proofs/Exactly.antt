@@ -13,8 +13,8 @@ use Rattle.buffers.proofs.Lists.{below-or-not}
 use Rattle.buffers.proofs.Tests.{or-neither}
 use Rattle.refusals.specs.Order.{Refusal, refuse, _else_, SlotRow, FirstOf}
 use Rattle.slots.specs.Slot.{protected, carried, nameOf}
-use Rattle.slots.specs.Name.{padded}
-use Rattle.slots.proofs.Names.{not-bytes}
+use Rattle.names.specs.Name.{padded}
+use Rattle.names.proofs.Names.{not-bytes}
 use Rattle.slots.specs.Rows.{dataCount}
 use Rattle.chains.specs.File.{File, sectorsOf}
 use Rattle.directory.specs.Places.{slots, slotBytes}

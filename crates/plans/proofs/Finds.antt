@@ -8,8 +8,8 @@ use mathlib.Core.Option.{none, some}
 use borrow.Author.Tests.{eqb-true, eqb-false}
 use lib.Dec.{eqb}
 use Rattle.slots.specs.Slot.{nameOf}
-use Rattle.slots.specs.Name.{Same, padded}
-use Rattle.slots.proofs.Names.{same-both}
+use Rattle.names.specs.Name.{Same, padded}
+use Rattle.names.proofs.Names.{same-both}
 use Rattle.chains.specs.File.{File}
 use Rattle.disk.specs.Look.{look}
 use Rattle.disk.specs.Check.{checkDisk}

@@ -14,8 +14,8 @@ use Rattle.buffers.proofs.Lists.{below-or-not, part-put, part-put-after, put-in
 use Rattle.geometry.specs.Disk.{imageSize, bitOf}
 use Rattle.maps.specs.Bits.{has}
 use Rattle.slots.specs.Slot.{isLive, isNameless, kindOf, nameOf, countOf, mapOf, facts}
-use Rattle.slots.specs.Name.{Same, askable, padded}
-use Rattle.slots.proofs.Names.{same-sym, same-to, length-padded}
+use Rattle.names.specs.Name.{Same, askable, padded}
+use Rattle.names.proofs.Names.{same-sym, same-to, length-padded}
 use Rattle.chains.specs.File.{File, sectorAt, sectorsOf}
 use Rattle.directory.specs.Places.{slots, slotBytes}
 use Rattle.disk.specs.Look.{Look, look, extra}

@@ -5,8 +5,8 @@ use mathlib.Core.List.{List}
 use mathlib.Core.Option.{none, some}
 use native.Mathlib.Omega.{arith}
 use Rattle.slots.specs.Slot.{nameOf}
-use Rattle.slots.specs.Name.{Same, padded}
-use Rattle.slots.proofs.Names.{same-of, same-both}
+use Rattle.names.specs.Name.{Same, padded}
+use Rattle.names.proofs.Names.{same-of, same-both}
 use Rattle.chains.specs.File.{File}
 use Rattle.directory.specs.Places.{slots}
 use Rattle.directory.specs.Directory.{held}

@@ -14,8 +14,8 @@ use Rattle.refusals.specs.Order.{refuse, _else_, row}
 use Rattle.refusals.specs.Answers.{Outcome, done, refused, unless, Out, out, filled}
 use Rattle.refusals.proofs.First.{sweep-cong}
 use Rattle.slots.specs.Slot.{kindOf, nameOf, offsetOf}
-use Rattle.slots.specs.Name.{sameName, Same, askable, padded}
-use Rattle.slots.proofs.Names.{same-sym, same-via, same-of}
+use Rattle.names.specs.Name.{sameName, Same, askable, padded}
+use Rattle.names.proofs.Names.{same-sym, same-via, same-of}
 use Rattle.chains.specs.File.{File}
 use Rattle.chains.specs.Chain.{fileLength, body}
 use Rattle.directory.specs.Places.{slots}

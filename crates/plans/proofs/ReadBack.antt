@@ -15,8 +15,8 @@ use Rattle.refusals.specs.Order.{Reply, _else_, row}
 use Rattle.refusals.specs.Answers.{out, done}
 use Rattle.slots.specs.Slot.{kindOf, nameOf, carried, readable, pageOf, offsetOf}
 use Rattle.slots.proofs.KindLaws.{carried-not, carried-read}
-use Rattle.slots.specs.Name.{askable, padded}
-use Rattle.slots.proofs.Names.{same-eq}
+use Rattle.names.specs.Name.{askable, padded}
+use Rattle.names.proofs.Names.{same-eq}
 use Rattle.chains.specs.File.{File}
 use Rattle.chains.specs.Chain.{fileLength, body}
 use Rattle.directory.specs.Directory.{held}

@@ -15,7 +15,7 @@ use Rattle.refusals.specs.Order.{Refusal, refuse, Reply, _else_, row, SlotRow, 
 use Rattle.refusals.specs.Answers.{done, refused, filled}
 use Rattle.refusals.proofs.First.{first-same, first-none}
 use Rattle.slots.specs.Slot.{protected, carried, nameOf, sectorsFor}
-use Rattle.slots.specs.Name.{sameName, askable, padded}
+use Rattle.names.specs.Name.{sameName, askable, padded}
 use Rattle.chains.specs.File.{File}
 use Rattle.directory.specs.Places.{slotCount, slots}
 use Rattle.directory.specs.Directory.{held}

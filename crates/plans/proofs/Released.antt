@@ -13,7 +13,7 @@ use lib.ListN.{length, getD}
 use Rattle.buffers.specs.Bytes.{put}
 use Rattle.buffers.proofs.Lists.{put-before, put-after}
 use Rattle.slots.specs.Slot.{isLive, kindOf, facts, lengthOf}
-use Rattle.slots.specs.Name.{padded}
+use Rattle.names.specs.Name.{padded}
 use Rattle.slots.proofs.Least.{sectors-few}
 use Rattle.chains.specs.File.{File}
 use Rattle.disk.specs.Look.{Look, look, slotsOf}

@@ -10,8 +10,8 @@ use borrow.Author.Tests.{eqb-true, eqb-false, eq-eqb, ne-eqb}
 use lib.Dec.{eqb}
 use Rattle.refusals.specs.Order.{Refusal, refuse}
 use Rattle.slots.specs.Slot.{nameOf}
-use Rattle.slots.specs.Name.{sameBytes, askable, padded}
-use Rattle.slots.proofs.Names.{same-eq, are-bytes, bytes-are}
+use Rattle.names.specs.Name.{sameBytes, askable, padded}
+use Rattle.names.proofs.Names.{same-eq, are-bytes, bytes-are}
 use Rattle.chains.specs.File.{File}
 use Rattle.directory.specs.Find.{find}
 use Rattle.disk.specs.Look.{look, slotsOf}

@@ -10,8 +10,8 @@ use borrow.Author.Tests.{eqb-true}
 use lib.Dec.{eqb}
 use Rattle.refusals.specs.Order.{refuse}
 use Rattle.slots.specs.Slot.{nameOf}
-use Rattle.slots.specs.Name.{sameBytes, Same, padded}
-use Rattle.slots.proofs.Names.{are-bytes, same-eq}
+use Rattle.names.specs.Name.{sameBytes, Same, padded}
+use Rattle.names.proofs.Names.{are-bytes, same-eq}
 use Rattle.chains.specs.File.{File}
 use Rattle.directory.specs.Directory.{held, Directory}
 use Rattle.directory.specs.Find.{find}

@@ -11,7 +11,7 @@ use Rattle.buffers.specs.Bytes.{tab, put}
 use Rattle.refusals.specs.Order.{refuse, Reply, _else_, row}
 use Rattle.refusals.specs.Answers.{done, refused, out}
 use Rattle.slots.specs.Slot.{kindOf, spectrum, readable}
-use Rattle.slots.specs.Name.{askable}
+use Rattle.names.specs.Name.{askable}
 use Rattle.slots.proofs.KindLaws.{spectrum-read}
 use Rattle.chains.specs.File.{File}
 use Rattle.chains.specs.Chain.{firstSector, headerLength, headerStart, fileLength, bodyByte, body}

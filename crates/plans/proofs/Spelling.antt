@@ -2,7 +2,7 @@
 use Prim.Native.Nat.{ℕ}
 use mathlib.Core.Path.{_≡_, ap}
 use mathlib.Core.List.{List}
-use Rattle.slots.specs.Name.{Same}
+use Rattle.names.specs.Name.{Same}
 use Rattle.disk.specs.Look.{look, slotsOf}
 use Rattle.disk.specs.Check.{checkDisk}
 use Rattle.files.proofs.Spelling.{spelt-asked, spelt-found}

@@ -5,8 +5,8 @@ use mathlib.Core.Bool.{Bool, true, false, false≢true}
 use mathlib.Core.List.{List}
 use mathlib.Core.Option.{none, some, Option·some-ne-none, Option·some-injective}
 use Rattle.slots.specs.Slot.{nameOf}
-use Rattle.slots.specs.Name.{Same, askable, padded}
-use Rattle.slots.proofs.Names.{same-eq, same-of, same-via}
+use Rattle.names.specs.Name.{Same, askable, padded}
+use Rattle.names.proofs.Names.{same-eq, same-of, same-via}
 use Rattle.chains.specs.File.{File}
 use Rattle.directory.specs.Directory.{directory}
 use Rattle.disk.specs.Look.{look, slotsOf}

@@ -14,8 +14,8 @@ use Rattle.buffers.proofs.Counts.{none-any}
 use Rattle.geometry.specs.Disk.{bitNumber, bitPlace}
 use Rattle.maps.specs.Bits.{has}
 use Rattle.slots.specs.Slot.{nameOf, mapOf}
-use Rattle.slots.specs.Name.{padded}
-use Rattle.slots.proofs.Names.{same-eq}
+use Rattle.names.specs.Name.{padded}
+use Rattle.names.proofs.Names.{same-eq}
 use Rattle.slots.proofs.Least.{sectors-least}
 use Rattle.chains.specs.File.{File}
 use Rattle.directory.specs.Places.{slots, slotAt}

@@ -15,7 +15,7 @@ use Rattle.buffers.specs.Bytes.{part}
 use Rattle.buffers.proofs.Lists.{below-or-not}
 use Rattle.buffers.proofs.Tests.{and-both}
 use Rattle.geometry.specs.Disk.{bitNumber}
-use Rattle.slots.specs.Name.{padded}
+use Rattle.names.specs.Name.{padded}
 use Rattle.chains.specs.File.{File}
 use Rattle.directory.specs.Places.{slots, slotBytes, dirSector}
 use Rattle.directory.specs.Directory.{isSlot, nameless, endOf, slotsRead, seen}

@@ -9,7 +9,7 @@ use lib.ListN.{length, getD}
 use Rattle.geometry.specs.Disk.{bitNumber}
 use Rattle.maps.specs.Bits.{has}
 use Rattle.slots.specs.Slot.{protected, nameOf, mapOf, sectorsFor}
-use Rattle.slots.specs.Name.{Same, askable, padded}
+use Rattle.names.specs.Name.{Same, askable, padded}
 use Rattle.chains.specs.File.{File}
 use Rattle.directory.specs.Places.{slots, slotBytes}
 use Rattle.directory.specs.Directory.{directory}

@@ -12,7 +12,7 @@ use Rattle.refusals.specs.Order.{refuse}
 use Rattle.refusals.specs.Answers.{refused, out}
 use Rattle.maps.specs.Bits.{has}
 use Rattle.slots.specs.Slot.{hidden, protected, kindOf, countOf, mapOf}
-use Rattle.slots.specs.Name.{Same, askable, padded}
+use Rattle.names.specs.Name.{Same, askable, padded}
 use Rattle.chains.specs.File.{File}
 use Rattle.directory.specs.Places.{slotAt, dirSector}
 use Rattle.directory.specs.Directory.{directory}

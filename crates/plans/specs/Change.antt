@@ -4,7 +4,7 @@ use mathlib.Core.Bool.{Bool, true, not, _&&_}
 use mathlib.Core.List.{List, [], _∷_}
 use lib.Dec.{eqb, leb}
 use lib.ListN.{getD}
-use Rattle.slots.specs.Name.{askable}
+use Rattle.names.specs.Name.{askable}
 
 -- "Save takes kind, new name, start page, offset, execution bytes, kind information and body."
 pub record Wish : Type 0 where

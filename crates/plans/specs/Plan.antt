@@ -10,7 +10,7 @@ use Rattle.geometry.specs.Disk.{bitNumber, bitPlace}
 use Rattle.refusals.specs.Order.{Refusal, refuse, Reply, _else_, row}
 use Rattle.refusals.specs.Answers.{Outcome, done, refused}
 use Rattle.slots.specs.Slot.{isLive, protected, carried, nameOf, sectorsFor}
-use Rattle.slots.specs.Name.{sameBytes, sameName, askable, padded}
+use Rattle.names.specs.Name.{sameBytes, sameName, askable, padded}
 use Rattle.chains.specs.File.{File}
 use Rattle.directory.specs.Places.{slotAt, dirSector}
 use Rattle.directory.specs.Directory.{held, Directory, isSlot, nameless}

@@ -9,7 +9,7 @@ use lib.ListN.{length}
 use Rattle.buffers.specs.Bytes.{any}
 use Rattle.refusals.specs.Order.{Refusal, SlotRow, rowAt, NoRow}
 use Rattle.slots.specs.Slot.{protected, carried, sectorsFor}
-use Rattle.slots.specs.Name.{askable}
+use Rattle.names.specs.Name.{askable}
 use Rattle.directory.specs.Places.{slotCount}
 use Rattle.directory.specs.Directory.{held}
 use Rattle.directory.specs.Survey.{free}

@@ -10,7 +10,7 @@ use Rattle.geometry.specs.Disk.{trackOf, sectorOf}
 use Rattle.refusals.specs.Order.{sweep}
 use Rattle.maps.specs.Bits.{has, clear, marked}
 use Rattle.slots.specs.Slot.{sectorsFor}
-use Rattle.slots.specs.Name.{padded}
+use Rattle.names.specs.Name.{padded}
 use Rattle.directory.specs.Places.{slotCount, slots, dataBit}
 use Rattle.directory.specs.Directory.{held, Directory}
 use Rattle.directory.specs.Survey.{union}

@@ -9,7 +9,7 @@ use lib.Dec.{ltb}
 use Rattle.geometry.specs.Disk.{placeOrEnd}
 use Rattle.refusals.specs.Order.{Refusal, refuse, Reply, _else_, row}
 use Rattle.slots.specs.Slot.{kindOf, readable, firstOf, facts}
-use Rattle.slots.specs.Name.{Same, askable}
+use Rattle.names.specs.Name.{Same, askable}
 use Rattle.chains.specs.File.{File, fileOf}
 use Rattle.chains.specs.Chain.{fileLength}
 use Rattle.directory.specs.Directory.{held, slotOr}

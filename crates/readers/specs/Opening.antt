@@ -5,7 +5,7 @@ use mathlib.Core.Option.{none, some}
 use Rattle.refusals.specs.Order.{Refusal, Reply, SlotRow}
 use Rattle.refusals.specs.Answers.{refusalOf}
 use Rattle.slots.specs.Slot.{facts}
-use Rattle.slots.specs.Name.{askable}
+use Rattle.names.specs.Name.{askable}
 use Rattle.chains.specs.File.{File}
 use Rattle.chains.specs.Chain.{fileLength}
 use Rattle.disk.specs.Look.{Look, look}

@@ -8,7 +8,7 @@ use lib.ListN.{length, getD, drop, replicate, length-replicate, getD-replicate, 
 use Rattle.buffers.specs.Bytes.{tab, part, put}
 use Rattle.buffers.proofs.Lists.{below-or-not, past-end, length-part, part-at, length-put, put-in, put-before, put-after, tab-of}
 use Rattle.maps.specs.Bits.{clear, marked}
-use Rattle.slots.specs.Name.{padded}
+use Rattle.names.specs.Name.{padded}
 use Rattle.plans.specs.Change.{Wish}
 use Rattle.plans.specs.Saving.{mapWith, slotByte}
 use Rattle.plans.proofs.NewFile.{length-mapWith, name-byte, map-byte, info-byte, exec-byte, before-info, after-info, after-date}

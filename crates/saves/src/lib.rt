@@ -177,7 +177,7 @@ fn slot_of(
 {
     let mut slot = [0u8; 256];
     slot[0] = start.kind as u8;
-    let filled = slots::padded_name(name);
+    let filled = names::padded_name(name);
     buffers::copy_into(&mut slot, 1, &filled);
     let chain = chain_bytes(bits);
     buffers::copy_into(&mut slot, 11, &chain);

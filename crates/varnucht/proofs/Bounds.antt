@@ -19,7 +19,7 @@ use Rattle.refusals.specs.Answers.{lastNumber, Outcome, done, refused, unless, 
 use Rattle.refusals.proofs.First.{else-none}
 use Rattle.slots.specs.Slot.{kindOf, carried, spectrum, readable, mapOf, facts, pageOf, offsetOf}
 use Rattle.slots.proofs.KindLaws.{carried-not, read-either}
-use Rattle.slots.specs.Name.{askable}
+use Rattle.names.specs.Name.{askable}
 use Rattle.slots.specs.Rows.{dataCount}
 use Rattle.chains.specs.File.{sectorAt, sectorsOf, fileOf}
 use Rattle.chains.specs.Chain.{fileLength, body}

@@ -3,7 +3,7 @@ use mathlib.Core.Path.{_≡_, sym, _∙_}
 use mathlib.Core.Bool.{true}
 use borrow.Author.Tests.{not-true, not-false}
 use denote.Ref.{now}
-use Rattle.slots.specs.Name.{askable}
+use Rattle.names.specs.Name.{askable}
 use Rattle.changes.proofs.Usable.{not-askable, not-printable, usable-by}
 use borrow.Author.Needs.{needs}
 use Rattle.changes.proofs.is_usable.Statement.{statement}

@@ -5,7 +5,7 @@ use mathlib.Core.Option.{none, some}
 use borrow.Author.Tests.{not-true, not-false}
 use denote.Ref.{now}
 use Rattle.refusals.specs.Answers.{replyOf}
-use Rattle.slots.specs.Name.{askable}
+use Rattle.names.specs.Name.{askable}
 use Rattle.directory.specs.Directory.{directory}
 use Rattle.directory.specs.Find.{find, foundAt}
 use Rattle.disk.specs.Check.{checkDisk}

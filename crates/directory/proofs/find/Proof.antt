@@ -4,8 +4,8 @@ use mathlib.Core.Path.{_≡_, sym, _∙_}
 use native.Mathlib.Omega.{arith}
 use Rattle.refusals.specs.Order.{sweepFrom}
 use Rattle.refusals.proofs.First.{sweep-skip, sweep-stop}
-use Rattle.slots.specs.Name.{padded}
-use Rattle.slots.proofs.Names.{padded-whole}
+use Rattle.names.specs.Name.{padded}
+use Rattle.names.proofs.Names.{padded-whole}
 use Rattle.directory.specs.Places.{slots}
 use Rattle.directory.specs.Directory.{slotsRead, directory}
 use Rattle.directory.specs.Find.{hit, find}

@@ -4,7 +4,7 @@ use mathlib.Core.Path.{_≡_, sym, _∙_}
 use mathlib.Core.Bool.{false}
 use native.Mathlib.Omega.{arith}
 use Rattle.slots.specs.Slot.{nameOf}
-use Rattle.slots.specs.Name.{sameName}
+use Rattle.names.specs.Name.{sameName}
 use Rattle.directory.specs.Directory.{directory}
 use Rattle.directory.specs.Survey.{earlier}
 use Rattle.directory.proofs.Pass.{earlier-start}

@@ -1,13 +1,13 @@
--- `slots::same_name` meets its contract. What is left to compare is what is left of both names.
+-- `names::same_name` meets its contract. What is left to compare is what is left of both names.
 use mathlib.Core.Path.{_≡_, sym, ap, _∙_}
 use Prim.Native.Nat.{_-_, _≤_}
 use native.Mathlib.Omega.{arith}
 use lib.ListN.{length}
-use Rattle.slots.specs.Name.{lower, sameName}
-use Rattle.slots.proofs.Names.{sameFrom, same-start, same-lengths, same-more, same-differ, same-end}
+use Rattle.names.specs.Name.{lower, sameName}
+use Rattle.names.proofs.Names.{sameFrom, same-start, same-lengths, same-more, same-differ, same-end}
 use borrow.Author.Needs.{needs}
-use Rattle.slots.proofs.same_name.Statement.{statement}
-use Rattle.slots.proofs.same_name.Tie as tie
+use Rattle.names.proofs.same_name.Statement.{statement}
+use Rattle.names.proofs.same_name.Tie as tie
 
 abbrev Inv-loop : tie.InvT-loop
 Inv-loop a b i₀ i = (i ≤ length a) × (length a ≡ length b) × (sameName a b ≡ sameFrom i a b)

@@ -1,9 +1,9 @@
--- `slots::padded_name` meets its contract.
+-- `names::padded_name` meets its contract.
 use mathlib.Core.Path.{_∙_}
-use Rattle.slots.proofs.Names.{padded-put}
+use Rattle.names.proofs.Names.{padded-put}
 use borrow.Author.Needs.{needs}
-use Rattle.slots.proofs.padded_name.Statement.{statement}
-use Rattle.slots.proofs.padded_name.Tie as tie
+use Rattle.names.proofs.padded_name.Statement.{statement}
+use Rattle.names.proofs.padded_name.Tie as tie
 
 slice-aggregate-copy-into : tie.Need-slice-aggregate-copy-into
 slice-aggregate-copy-into c = search needs

@@ -9,7 +9,7 @@ use borrow.Author.Tests.{le-leb, lt-leb, leb-true, ne-eqb}
 use lib.Bits.{bitOr, or-block}
 use lib.Dec.{eqb, leb}
 use lib.ListN.{length, getD}
-use Rattle.slots.specs.Name.{lower, lowered, Cases, OneLetter}
+use Rattle.names.specs.Name.{lower, lowered, Cases, OneLetter}
 
 -- what holds of a byte that is a capital, and of one that is none
 by-letter : (P : ℕ → Type 0) (x : ℕ) → (65 ≤ x → x ≤ 90 → P (x + 32)) → P x → P (lower x)

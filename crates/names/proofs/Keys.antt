@@ -8,9 +8,9 @@ use lib.Bits.{bitOr, bitXor, or-block}
 use lib.Dec.{leb}
 use lib.ListN.{length, getD}
 use Rattle.buffers.specs.Bytes.{word, wordOr}
-use Rattle.slots.specs.Name.{lowered, sameName, Same, caseBits, keyWord, keyOf}
-use Rattle.slots.proofs.Letters.{lower-small, lower-bit, length-lowered, lowered-at}
-use Rattle.slots.proofs.Names.{same-is, not-same}
+use Rattle.names.specs.Name.{lowered, sameName, Same, caseBits, keyWord, keyOf}
+use Rattle.names.proofs.Letters.{lower-small, lower-bit, length-lowered, lowered-at}
+use Rattle.names.proofs.Names.{same-is, not-same}
 
 -- bit 5 of each of k bytes
 maskOf : ℕ → ℕ

@@ -1,11 +1,11 @@
--- `slots::key_of` meets its contract: two words of the name, each byte with bit 5 set, joined.
+-- `names::key_of` meets its contract: two words of the name, each byte with bit 5 set, joined.
 use Prim.Native.Nat.{ℕ, _<_}
 use native.Mathlib.Omega.{arith}
 use lib.ListN.{getD}
-use Rattle.slots.proofs.Keys.{key-is}
+use Rattle.names.proofs.Keys.{key-is}
 use borrow.Author.Needs.{needs}
-use Rattle.slots.proofs.key_of.Statement.{statement}
-use Rattle.slots.proofs.key_of.Tie as tie
+use Rattle.names.proofs.key_of.Statement.{statement}
+use Rattle.names.proofs.key_of.Tie as tie
 
 word-at-requires : tie.Need-word-at-requires
 word-at-requires c κs = search needs

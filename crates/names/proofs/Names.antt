@@ -13,8 +13,8 @@ use lib.Seq.{drop-cons, getD-append-add, ext-getD, take-all}
 use Rattle.buffers.specs.Bytes.{part, put}
 use Rattle.buffers.proofs.Lists.{length-put, length-part, part-at, put-in, put-after, below-or-not}
 use Rattle.buffers.proofs.Tests.{and-both}
-use Rattle.slots.specs.Name.{lower, lowered, sameBytes, sameName, Same, OneName, askable, padded}
-use Rattle.slots.proofs.Letters.{lower-is, is-lower, lower-zero, length-lowered, lowered-at}
+use Rattle.names.specs.Name.{lower, lowered, sameBytes, sameName, Same, OneName, askable, padded}
+use Rattle.names.proofs.Letters.{lower-is, is-lower, lower-zero, length-lowered, lowered-at}
 
 -- ---- byte for byte: the same exactly where they are equal
 

@@ -1,13 +1,13 @@
--- `slots::is_askable` meets its contract.
+-- `names::is_askable` meets its contract.
 use borrow.Author.Tests.{le-leb, lt-leb}
 use mathlib.Core.Path.{ap}
 use Prim.Native.Nat.{ℕ}
 use mathlib.Core.Bool.{not}
 use lib.Dec.{eqb}
-use Rattle.slots.specs.Name.{askable}
+use Rattle.names.specs.Name.{askable}
 use borrow.Author.Needs.{needs}
-use Rattle.slots.proofs.is_askable.Statement.{statement}
-use Rattle.slots.proofs.is_askable.Tie as tie
+use Rattle.names.proofs.is_askable.Statement.{statement}
+use Rattle.names.proofs.is_askable.Tie as tie
 
 returns : tie.Need-returns
 unfolding askable
