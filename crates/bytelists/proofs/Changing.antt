@@ -18,7 +18,7 @@ use Rattle.slots.specs.Slot.{carried, protected, sectorsFor}
 use Rattle.names.specs.Name.{askable, padded}
 use Rattle.chains.specs.File.{File}
 use Rattle.directory.specs.Directory.{held, Directory}
-use Rattle.directory.specs.Survey.{free, usedMap}
+use Rattle.surveys.specs.Survey.{free, usedMap}
 use Rattle.directory.specs.Find.{find}
 use Rattle.directory.proofs.Search.{find-some}
 use Rattle.disk.specs.Look.{Look, look, slotsOf, extra}

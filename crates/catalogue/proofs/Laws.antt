@@ -24,11 +24,11 @@ use Rattle.lines.specs.Written.{Wrote}
 use Rattle.lines.proofs.Laws.{wrote-then, line-most, length-free, decimal-most, refusal-most}
 use Rattle.directory.specs.Places.{slots}
 use Rattle.directory.specs.Directory.{held, Directory, slotsRead, directory, slotOr}
-use Rattle.directory.specs.Survey.{survey, usedMap, usedOr, freeOf, free}
-use Rattle.directory.specs.declared.UsedMap.{UsedMap}
+use Rattle.surveys.specs.Survey.{survey, usedMap, usedOr, freeOf, free}
+use Rattle.surveys.specs.declared.UsedMap.{UsedMap}
 use Rattle.directory.proofs.Ends.{read-most}
 use Rattle.directory.proofs.Live.{directory-front, directory-read, directory-unread}
-use Rattle.directory.proofs.Pass.{survey-passed}
+use Rattle.surveys.proofs.Pass.{survey-passed}
 use Rattle.catalogue.specs.Text.{lines, replyTo, textBy, text, catalogueOf}
 
 -- of the lines of the first k slots, the last is that of the bytes read there

@@ -11,7 +11,7 @@ use Rattle.slots.specs.Slot.{hidden}
 use Rattle.lines.specs.Lines.{line, freeLine, refusalLine}
 use Rattle.directory.specs.Places.{slots}
 use Rattle.directory.specs.Directory.{held, Directory, directory}
-use Rattle.directory.specs.Survey.{survey, free}
+use Rattle.surveys.specs.Survey.{survey, free}
 
 -- "One line for each live, unhidden slot": those among the first k
 unfoldable pub lines : Directory → ℕ → List ℕ

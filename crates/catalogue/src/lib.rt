@@ -39,14 +39,14 @@ fn put_text(page: &mut [u8], input: &[u8]) -> usize
             },
         );
     }
-    let seen = directory::survey_slots(input, false);
+    let seen = surveys::survey_slots(input, false);
     let verdict = seen.verdict;
     match verdict {
         Verdict::Unsound(refused) => lines::put_refusal(page, refused),
         Verdict::Sound => {
             let used = seen.used;
             let at = put_lines(page, input);
-            lines::put_free(page, at, directory::free_of(used))
+            lines::put_free(page, at, surveys::free_of(used))
         }
     }
 }

@@ -1,7 +1,5 @@
 pub mod Places
 pub mod Ends
 pub mod Live
-pub mod Keys
-pub mod Union
-pub mod Pass
+pub mod Named
 pub mod Search

@@ -1,6 +1,6 @@
 -- What the directory says of a slot: its bytes where it is live, and nothing of another; and the directory lies in front.
 use Prim.Native.Nat.{ℕ, zero, suc, _+_, _-_, _≤_, _<_}
-use mathlib.Core.Path.{_≡_, refl, sym, ap, ap₂, _∙_, fun-ext}
+use mathlib.Core.Path.{_≡_, refl, sym, ap, _∙_, fun-ext}
 use mathlib.Core.Bool.{Bool, true, false, cond, _&&_, true≢false}
 use mathlib.Core.List.{List, []}
 use mathlib.Core.Logic.{⊎-elim}
@@ -11,8 +11,7 @@ use borrow.Author.Tests.{le-ltb}
 use Rattle.buffers.specs.Bytes.{part, count}
 use Rattle.buffers.proofs.Lists.{below-or-not, part-part}
 use Rattle.buffers.proofs.Counts.{count-more, count-le, count-add, none-count}
-use Rattle.slots.specs.Slot.{isLive, nameOf}
-use Rattle.names.specs.Name.{sameName}
+use Rattle.slots.specs.Slot.{isLive}
 use Rattle.directory.specs.Places.{slots, slotAt, slotPlace, slotBytes}
 use Rattle.directory.specs.Directory.{held, Directory, slotsRead, seen, directory, slotOr, liveAmong}
 use Rattle.directory.proofs.Places.{slot-front, slot-placed}
@@ -78,10 +77,6 @@ module _ (d : List ℕ) (i : ℕ) {s : List ℕ} (e : s ≡ slotOr d i) {r : Boo
   -- read or not
   pub met-dead : r ≡ false → directory d i ≡ none
   met-dead t = ⊎-elim (λ h. directory-read d i h ∙ rw (← e, ← l, t)) (directory-unread d i) (below-or-not i (slotsRead d))
-
--- what a comparison of its name m with n says of the name k that n is
-pub met-name : (s : List ℕ) {m n k : List ℕ} {r t : Bool} → m ≡ nameOf s → n ≡ k → r ≡ sameName m n → r ≡ t → sameName (nameOf s) k ≡ t
-met-name s p q e w = ap₂ sameName (sym p) (sym q) ∙ sym e ∙ w
 
 -- ---- the directory is its first 40,960 bytes
 

@@ -1,5 +1,3 @@
 pub mod Places
 pub mod Directory
-pub mod Survey
 pub mod Find
-pub mod Steps

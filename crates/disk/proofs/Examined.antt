@@ -14,9 +14,9 @@ use Rattle.refusals.specs.declared.Verdict.{Verdict}
 use Rattle.refusals.specs.declared.Verdict.the-variants.{Sound, Unsound}
 use Rattle.directory.specs.Places.{slots}
 use Rattle.directory.specs.Directory.{Directory, directory}
-use Rattle.directory.specs.Survey.{surveyBy, usedOr, filesOr, refusedWith}
-use Rattle.directory.specs.Steps.{Surveyed}
-use Rattle.directory.specs.declared.Survey.{Survey}
+use Rattle.surveys.specs.Survey.{surveyBy, usedOr, filesOr, refusedWith}
+use Rattle.surveys.specs.Steps.{Surveyed}
+use Rattle.surveys.specs.declared.Survey.{Survey}
 use Rattle.disk.specs.Look.{look, slotsOf, extra}
 use Rattle.disk.specs.Check.{chainAt, checkBy, checkDisk}
 use Rattle.disk.proofs.Look.{look-slots, look-long}

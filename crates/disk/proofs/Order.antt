@@ -18,8 +18,8 @@ use Rattle.chains.specs.Chain.{laterReply}
 use Rattle.chains.proofs.Turns.{later-rises}
 use Rattle.directory.specs.Places.{slots}
 use Rattle.directory.specs.Directory.{held}
-use Rattle.directory.specs.Survey.{rowsAt, surveyAt, surveyBy}
-use Rattle.directory.proofs.Pass.{survey-rises}
+use Rattle.surveys.specs.Survey.{rowsAt, surveyAt, surveyBy}
+use Rattle.surveys.proofs.Pass.{survey-rises}
 use Rattle.disk.specs.Look.{Look, look, slotsOf, extra}
 use Rattle.disk.specs.Check.{chainAt, checkBy, checkLook, checkDisk}
 use Rattle.disk.specs.Given.{rowsBy, rows9, rows11, AllClear, RowAt, GivenBy, Given, by-length, by-slot, by-chain}

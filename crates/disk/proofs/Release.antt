@@ -17,7 +17,7 @@ use Rattle.slots.proofs.Least.{sectors-least, sectors-few}
 use Rattle.chains.specs.File.{File}
 use Rattle.directory.specs.Places.{slots}
 use Rattle.directory.specs.Directory.{held}
-use Rattle.directory.specs.Survey.{cross, surveyAt, surveyBy}
+use Rattle.surveys.specs.Survey.{cross, surveyAt, surveyBy}
 use Rattle.disk.specs.Look.{Look, look, slotsOf, extra}
 use Rattle.disk.specs.Check.{chainAt, checkBy, checkLook, checkDisk, checkRelease}
 use Rattle.disk.specs.Given.{GivenBy, Given, by-length, by-slot, by-chain, rows9, rows11}

@@ -24,7 +24,7 @@ use Rattle.chains.proofs.Laws.{map-small, length-header, length-slot}
 use Rattle.chains.proofs.Whole.{whole, of-whole}
 use Rattle.directory.specs.Places.{slots}
 use Rattle.directory.specs.Directory.{held}
-use Rattle.directory.specs.Survey.{earlier, cross}
+use Rattle.surveys.specs.Survey.{earlier, cross}
 use Rattle.disk.specs.Look.{Look, slotsOf, extra}
 use Rattle.disk.specs.Check.{checkLook}
 use Rattle.disk.specs.Sound.{GoodFile, Sound}

@@ -10,9 +10,9 @@ use Rattle.geometry.specs.Disk.{imageSize}
 use Rattle.chains.specs.Chain.{laterReply}
 use Rattle.directory.specs.Places.{slots}
 use Rattle.directory.specs.Directory.{held}
-use Rattle.directory.specs.Survey.{surveyBy}
-use Rattle.directory.specs.Steps.{Surveyed}
-use Rattle.directory.specs.declared.Survey.{Survey}
+use Rattle.surveys.specs.Survey.{surveyBy}
+use Rattle.surveys.specs.Steps.{Surveyed}
+use Rattle.surveys.specs.declared.Survey.{Survey}
 use Rattle.disk.specs.Look.{Look, look, slotsOf, extra}
 
 -- rows 10, 11 and 25 at slot i

@@ -6,11 +6,11 @@ ghost use Rattle.refusals.specs.Answers.{replyOf};
 ghost use Rattle.directory.specs.Places.{slots};
 ghost use Rattle.directory.specs.Directory.{directory, liveAmong};
 ghost use Rattle.disk.specs.Look.{look};
-ghost use Rattle.directory.specs.Steps.{Surveyed};
+ghost use Rattle.surveys.specs.Steps.{Surveyed};
 ghost use Rattle.disk.specs.Check.{chainAt, checkBy, checkDisk, checkRelease, Examined};
-use directory::Survey;
 use refusals::Reason;
 use refusals::Verdict;
+use surveys::Survey;
 
 // Rows 10, 11 and 25 at all slots, of which `files` are live: past the last of these there is none to look at.
 fn all_chains(image: &[u8], files: usize) -> Verdict
@@ -41,16 +41,16 @@ fn examine_by(image: &[u8], release: bool) -> Survey
     ensures { λ r. ⌜ Surveyed (checkBy release (look (now (image .entry)))) (now (image .entry)) r ⌝ }
 {
     if image.len() != geometry::IMAGE_SIZE {
-        return directory::refused(refusals::unsound(Reason::NotAnImage, 0));
+        return surveys::refused(refusals::unsound(Reason::NotAnImage, 0));
     }
-    let found = directory::survey_slots(image, release);
+    let found = surveys::survey_slots(image, release);
     let verdict = found.verdict;
     match verdict {
         Verdict::Unsound(_) => found,
         Verdict::Sound => {
             let chained = all_chains(image, found.files);
             match chained {
-                Verdict::Unsound(_) => directory::refused(chained),
+                Verdict::Unsound(_) => surveys::refused(chained),
                 Verdict::Sound => found,
             }
         }

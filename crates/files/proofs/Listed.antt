@@ -15,9 +15,9 @@ use Rattle.directory.specs.Places.{slots, slotAt}
 use Rattle.directory.specs.Directory.{held, Directory, slotsRead, directory, liveAmong}
 use Rattle.directory.proofs.Live.{directory-some, among-rest, among-read}
 use Rattle.directory.proofs.Places.{slot-front}
-use Rattle.directory.specs.Survey.{free, freeOf, usedMap, usedOr, filesOr}
-use Rattle.directory.specs.declared.UsedMap.{UsedMap}
-use Rattle.directory.specs.declared.Survey.{Survey}
+use Rattle.surveys.specs.Survey.{free, freeOf, usedMap, usedOr, filesOr}
+use Rattle.surveys.specs.declared.UsedMap.{UsedMap}
+use Rattle.surveys.specs.declared.Survey.{Survey}
 use Rattle.refusals.specs.Order.{Refusal, refuse, Reply, _else_, row}
 use Rattle.refusals.specs.Answers.{Outcome, out, filled, done, refused, refusalOf, replyOf}
 use Rattle.refusals.specs.declared.Refused.{Refused}

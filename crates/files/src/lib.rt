@@ -15,11 +15,11 @@ ghost use Rattle.disk.specs.Look.{look};
 ghost use Rattle.files.specs.Calls.{entry, entries, listing, barred, lookup, soughtOf, startAt, starting, readAt, reading};
 ghost use Rattle.files.specs.Steps.{Accepted, Readable};
 use directory::Found;
-use directory::UsedMap;
 use refusals::Answer;
 use refusals::Reason;
 use refusals::Refused;
 use refusals::Verdict;
+use surveys::UsedMap;
 
 // The bytes of an entry of a listing.
 pub const ENTRY_BYTES: usize = 258;
@@ -61,7 +61,7 @@ fn list_accepted(image: &[u8], used: UsedMap, files: usize, buf: &mut [u8]) -> A
         return refusals::no(Reason::BufferTooShort, 0);
     }
     list_into(image, end, buf);
-    Answer::Done(files, directory::free_of(used))
+    Answer::Done(files, surveys::free_of(used))
 }
 
 // The listing: 258 bytes for each live slot to the front of `buf`; how many, and the free sectors.

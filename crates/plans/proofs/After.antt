@@ -28,10 +28,10 @@ use Rattle.chains.specs.Chain.{headerLength, headerStart, fileLength, linked, b
 use Rattle.chains.proofs.Laws.{map-small}
 use Rattle.directory.specs.Places.{slots, slotAt}
 use Rattle.directory.specs.Directory.{held, Directory}
-use Rattle.directory.specs.Survey.{union, counted, usedMap, freeOf, free}
+use Rattle.surveys.specs.Survey.{union, counted, usedMap, freeOf, free}
 use Rattle.directory.specs.Find.{find}
 use Rattle.directory.proofs.Places.{slot-front, data-all}
-use Rattle.directory.proofs.Union.{length-union, has-union}
+use Rattle.surveys.proofs.Union.{length-union, has-union}
 use Rattle.directory.proofs.Search.{none-find, find-same}
 use Rattle.disk.specs.Look.{Look, look, slotsOf, extra}
 use Rattle.disk.specs.Check.{checkDisk}

@@ -17,8 +17,8 @@ use Rattle.slots.specs.Slot.{mapOf, sectorsFor}
 use Rattle.chains.specs.File.{File}
 use Rattle.directory.specs.Places.{slots, dataBit}
 use Rattle.directory.specs.Directory.{held, liveAmong}
-use Rattle.directory.specs.Survey.{union, free}
-use Rattle.directory.proofs.Union.{has-union}
+use Rattle.surveys.specs.Survey.{union, free}
+use Rattle.surveys.proofs.Union.{has-union}
 use Rattle.disk.specs.Look.{Look, look, slotsOf, extra}
 use Rattle.disk.specs.Check.{checkDisk}
 use Rattle.steps.specs.Sectors.{listed}

@@ -19,7 +19,7 @@ use Rattle.slots.specs.Rows.{dataCount}
 use Rattle.chains.specs.File.{File, sectorsOf}
 use Rattle.directory.specs.Places.{slots, slotBytes}
 use Rattle.directory.specs.Directory.{held, Directory, nameless, seen}
-use Rattle.directory.specs.Survey.{usedMap, freeOf, free}
+use Rattle.surveys.specs.Survey.{usedMap, freeOf, free}
 use Rattle.directory.specs.Find.{find}
 use Rattle.directory.proofs.Ends.{seen-next, unseen-nameless}
 use Rattle.directory.proofs.Live.{directory-dead, directory-unseen}

@@ -20,9 +20,9 @@ use Rattle.slots.specs.Rows.{dataCount}
 use Rattle.chains.specs.File.{File}
 use Rattle.directory.specs.Places.{slotCount, slots, dataBit}
 use Rattle.directory.specs.Directory.{held, Directory}
-use Rattle.directory.specs.Survey.{union, counted, usedMap, freeOf, free}
+use Rattle.surveys.specs.Survey.{union, counted, usedMap, freeOf, free}
 use Rattle.directory.proofs.Places.{slots-count, data-all}
-use Rattle.directory.proofs.Union.{has-union}
+use Rattle.surveys.proofs.Union.{has-union}
 use Rattle.disk.specs.Look.{Look, slotsOf, extra}
 use Rattle.steps.specs.Sectors.{listed}
 use Rattle.steps.proofs.Sectors.{listed-tail}

@@ -19,7 +19,7 @@ use Rattle.names.specs.Name.{sameName, askable, padded}
 use Rattle.chains.specs.File.{File}
 use Rattle.directory.specs.Places.{slotCount, slots}
 use Rattle.directory.specs.Directory.{held}
-use Rattle.directory.specs.Survey.{free}
+use Rattle.surveys.specs.Survey.{free}
 use Rattle.directory.specs.Find.{find}
 use Rattle.directory.proofs.Search.{find-some, find-none}
 use Rattle.disk.specs.Look.{Look, look, slotsOf, extra}

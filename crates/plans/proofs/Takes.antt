@@ -21,7 +21,7 @@ use Rattle.chains.specs.File.{File}
 use Rattle.directory.specs.Places.{slots, slotAt}
 use Rattle.directory.specs.Directory.{held}
 use Rattle.directory.proofs.Places.{slot-front, slots-apart, data-all}
-use Rattle.directory.proofs.Union.{has-union}
+use Rattle.surveys.proofs.Union.{has-union}
 use Rattle.disk.specs.Look.{look, slotsOf, extra}
 use Rattle.disk.specs.Check.{checkDisk}
 use Rattle.disk.specs.Sound.{Sound}

@@ -13,7 +13,7 @@ use Rattle.names.specs.Name.{Same, askable, padded}
 use Rattle.chains.specs.File.{File}
 use Rattle.directory.specs.Places.{slots, slotBytes}
 use Rattle.directory.specs.Directory.{directory}
-use Rattle.directory.specs.Survey.{usedMap}
+use Rattle.surveys.specs.Survey.{usedMap}
 use Rattle.disk.specs.Look.{look}
 use Rattle.disk.specs.Check.{checkDisk}
 use Rattle.disk.specs.Sound.{Carried}

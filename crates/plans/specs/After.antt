@@ -16,7 +16,7 @@ use Rattle.names.specs.Name.{Same, askable, padded}
 use Rattle.chains.specs.File.{File}
 use Rattle.directory.specs.Places.{slotAt, dirSector}
 use Rattle.directory.specs.Directory.{directory}
-use Rattle.directory.specs.Survey.{free}
+use Rattle.surveys.specs.Survey.{free}
 use Rattle.disk.specs.Look.{look}
 use Rattle.files.specs.Calls.{reading, starting}
 use Rattle.plans.specs.Change.{Wish, Mark, hide, show, protect, release, Change, save, erase, rename, mark, marked}

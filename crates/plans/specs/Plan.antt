@@ -14,7 +14,7 @@ use Rattle.names.specs.Name.{sameBytes, sameName, askable, padded}
 use Rattle.chains.specs.File.{File}
 use Rattle.directory.specs.Places.{slotAt, dirSector}
 use Rattle.directory.specs.Directory.{held, Directory, isSlot, nameless}
-use Rattle.directory.specs.Survey.{free}
+use Rattle.surveys.specs.Survey.{free}
 use Rattle.directory.specs.Find.{find}
 use Rattle.disk.specs.Look.{Look, look, slotsOf, extra}
 use Rattle.disk.specs.Check.{checkDisk}

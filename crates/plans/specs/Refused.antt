@@ -12,7 +12,7 @@ use Rattle.slots.specs.Slot.{protected, carried, sectorsFor}
 use Rattle.names.specs.Name.{askable}
 use Rattle.directory.specs.Places.{slotCount}
 use Rattle.directory.specs.Directory.{held}
-use Rattle.directory.specs.Survey.{free}
+use Rattle.surveys.specs.Survey.{free}
 use Rattle.disk.specs.Look.{Look, look, slotsOf, extra}
 use Rattle.disk.specs.Check.{checkDisk}
 use Rattle.files.specs.Calls.{fileNamed}

@@ -13,7 +13,7 @@ use Rattle.slots.specs.Slot.{sectorsFor}
 use Rattle.names.specs.Name.{padded}
 use Rattle.directory.specs.Places.{slotCount, slots, dataBit}
 use Rattle.directory.specs.Directory.{held, Directory}
-use Rattle.directory.specs.Survey.{union}
+use Rattle.surveys.specs.Survey.{union}
 use Rattle.plans.specs.Change.{Wish}
 
 -- ---- how much, and where

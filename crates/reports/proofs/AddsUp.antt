@@ -17,7 +17,7 @@ use Rattle.slots.specs.Slot.{kindOf, countOf}
 use Rattle.slots.specs.Rows.{dataCount}
 use Rattle.directory.specs.Places.{slots}
 use Rattle.directory.specs.Directory.{held, Directory, liveAmong}
-use Rattle.directory.specs.Survey.{union, usedMap, counted, free, freeOf}
+use Rattle.surveys.specs.Survey.{union, usedMap, counted, free, freeOf}
 use Rattle.disk.specs.Look.{Look, look, slotsOf, extra}
 use Rattle.disk.specs.Check.{checkLook, checkDisk}
 use Rattle.disk.specs.Given.{rows9, rows11, Given, by-length, by-slot, by-chain}

@@ -21,11 +21,11 @@ use Rattle.slots.specs.Rows.{dataCount}
 use Rattle.slots.specs.Slot.{countOf, mapOf}
 use Rattle.directory.specs.Places.{slots}
 use Rattle.directory.specs.Directory.{held, Directory, directory, liveAmong}
-use Rattle.directory.specs.Survey.{survey, union, counted, usedMap, freeOf, free}
-use Rattle.directory.specs.declared.Survey.{Survey}
-use Rattle.directory.specs.declared.UsedMap.{UsedMap}
-use Rattle.directory.proofs.Union.{length-union, share-union}
-use Rattle.directory.proofs.Pass.{survey-passed}
+use Rattle.surveys.specs.Survey.{survey, union, counted, usedMap, freeOf, free}
+use Rattle.surveys.specs.declared.Survey.{Survey}
+use Rattle.surveys.specs.declared.UsedMap.{UsedMap}
+use Rattle.surveys.proofs.Union.{length-union, share-union}
+use Rattle.surveys.proofs.Pass.{survey-passed}
 use Rattle.disk.specs.Look.{Look, look, slotsOf, extra}
 use Rattle.disk.specs.Check.{chainAt, checkBy, checkLook, checkDisk, Examined}
 use Rattle.disk.proofs.Look.{look-slots}

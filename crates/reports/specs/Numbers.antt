@@ -8,7 +8,7 @@ use Rattle.refusals.specs.Order.{Refusal}
 use Rattle.slots.specs.Slot.{kindOf, countOf}
 use Rattle.directory.specs.Places.{slots}
 use Rattle.directory.specs.Directory.{held, Directory}
-use Rattle.directory.specs.Survey.{free}
+use Rattle.surveys.specs.Survey.{free}
 use Rattle.disk.specs.Look.{Look, look, slotsOf, extra}
 use Rattle.disk.specs.Check.{checkLook}
 

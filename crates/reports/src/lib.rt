@@ -121,7 +121,7 @@ fn count_disk(numbers: &mut [u32], image: &[u8])
         }
         Verdict::Sound => {
             let used = found.used;
-            count_accepted(numbers, used.count, directory::free_of(used));
+            count_accepted(numbers, used.count, surveys::free_of(used));
             count_files(numbers, image, found.files);
         }
     }

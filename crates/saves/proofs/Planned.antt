@@ -15,10 +15,10 @@ use Rattle.slots.specs.Slot.{carried, sectorsFor}
 use Rattle.slots.specs.Rows.{dataCount}
 use Rattle.directory.specs.Places.{slotCount, slots}
 use Rattle.directory.specs.Directory.{held, Directory, directory}
-use Rattle.directory.specs.Survey.{union, usedMap, freeOf, free}
-use Rattle.directory.specs.declared.UsedMap.{UsedMap}
+use Rattle.surveys.specs.Survey.{union, usedMap, freeOf, free}
+use Rattle.surveys.specs.declared.UsedMap.{UsedMap}
 use Rattle.directory.proofs.Places.{data-all}
-use Rattle.directory.proofs.Union.{counted-bytes}
+use Rattle.surveys.proofs.Union.{counted-bytes}
 use Rattle.disk.specs.Look.{Look, look, extra}
 use Rattle.disk.proofs.Look.{look-slots}
 use Rattle.disk.proofs.Rows.{carried-is}

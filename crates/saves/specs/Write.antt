@@ -7,7 +7,7 @@ use lib.ListN.{length, getD}
 use Rattle.buffers.specs.Bytes.{tab}
 use Rattle.slots.specs.Slot.{sectorsFor}
 use Rattle.directory.specs.Places.{slots}
-use Rattle.directory.specs.declared.UsedMap.{UsedMap}
+use Rattle.surveys.specs.declared.UsedMap.{UsedMap}
 use Rattle.files.specs.Calls.{at}
 use Rattle.files.specs.Steps.{Accepted}
 use Rattle.plans.specs.Change.{Wish}

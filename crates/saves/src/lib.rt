@@ -16,12 +16,12 @@ ghost use Rattle.plans.specs.Plan.{dataSteps, oldName, together, cleared, dirSe
 ghost use Rattle.changes.specs.Settled.{Returns, Made};
 ghost use Rattle.taking.specs.Taken.{lowest};
 ghost use Rattle.saves.specs.Write.{wish, wishFor, Bits, Plain, header, run, linkTo, chainBytes, span, Writable, Listable, Savable, Open};
-use directory::UsedMap;
 use files::Lookup;
 use geometry::Address;
 use refusals::Answer;
 use refusals::Reason;
 use refusals::Verdict;
+use surveys::UsedMap;
 use taking::Start;
 
 // The last two bytes of a data sector: where the next one is.
@@ -333,7 +333,7 @@ fn save_at(
         return refusals::no(Reason::TooFewSectors, 0);
     }
     let n = (body.len() + 518) / 510;
-    if directory::free_of(used) < n {
+    if surveys::free_of(used) < n {
         return refusals::no(Reason::TooFewSectors, 0);
     }
     let old = has_old_name(image, i);

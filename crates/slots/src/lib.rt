@@ -3,7 +3,7 @@
 ghost use mathlib.Core.Path.{_≡_};
 ghost use Prim.Native.Nat.{_+_, _*_, _≤_, _<_};
 ghost use Rattle.refusals.specs.Answers.{replyOf};
-ghost use Rattle.slots.specs.Slot.{isLive, isNameless, hidden, protected, kindOf, known, carried, spectrum, readable, nameOf, countOf, firstOf, mapOf, pageOf, offsetOf, pagesOf, remainderOf, facts, lengthOf};
+ghost use Rattle.slots.specs.Slot.{isLive, isNameless, hidden, protected, kindOf, known, carried, spectrum, readable, nameOf, isNamed, countOf, firstOf, mapOf, pageOf, offsetOf, pagesOf, remainderOf, facts, lengthOf};
 ghost use Rattle.slots.specs.Rows.{ownReply, wasteful};
 use refusals::Reason;
 use refusals::Verdict;
@@ -87,6 +87,16 @@ pub fn name_of(s: &[u8]) -> &[u8]
     ensures { λ r. ⌜ now r ≡ nameOf (now (s .entry)) ⌝ }
 {
     buffers::part_at(s, 1, 10)
+}
+
+// Whether a slot is live and has that name.
+pub fn is_named(s: &[u8], name: &[u8]) -> bool
+    ensures { λ r. ⌜ r ≡ isNamed (now (s .entry)) (now (name .entry)) ⌝ }
+{
+    if !is_live(s) {
+        return false;
+    }
+    names::same_name(name_of(s), name)
 }
 
 pub fn count_of(s: &[u8]) -> usize

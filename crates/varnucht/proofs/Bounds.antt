@@ -27,7 +27,7 @@ use Rattle.drives.specs.Raw.{isImage, isDrive, rawRefusal}
 use Rattle.drives.proofs.Laws.{accepted}
 use Rattle.directory.specs.Places.{slots}
 use Rattle.directory.specs.Directory.{directory, slotOr, liveAmong}
-use Rattle.directory.specs.Survey.{free}
+use Rattle.surveys.specs.Survey.{free}
 use Rattle.directory.specs.Find.{find}
 use Rattle.disk.specs.Look.{look, slotsOf, extra}
 use Rattle.disk.specs.Check.{checkLook, checkDisk, checkRelease}

@@ -9,7 +9,7 @@ use Rattle.names.proofs.Names.{padded-whole}
 use Rattle.directory.specs.Places.{slots}
 use Rattle.directory.specs.Directory.{slotsRead, directory}
 use Rattle.directory.specs.Find.{hit, find}
-use Rattle.directory.proofs.Keys.{hit-named}
+use Rattle.directory.proofs.Named.{named-read, hit-named}
 use Rattle.directory.proofs.Search.{find-start, find-rest, find-long}
 use borrow.Author.Needs.{needs}
 use Rattle.directory.proofs.find.Statement.{statement}
@@ -36,6 +36,9 @@ loop-holds c = (omega arith, c .before .padded-name .ensures ∙ padded-whole _ 
 add-i : tie.Need-add-i Inv-loop μ-loop
 add-i c = search needs
 
+slot-at-requires : tie.Need-slot-at-requires Inv-loop μ-loop
+slot-at-requires c κs = search needs
+
 slice-aggregate-is-named : tie.Need-slice-aggregate-is-named Inv-loop μ-loop
 slice-aggregate-is-named c = search needs
 
@@ -44,18 +47,20 @@ is-named-requires c κs = search needs
 
 returns-2 : tie.Need-returns-2 Inv-loop μ-loop
 returns-2 c =
-    let l = c .before .before .before in
-    let a = l .before .loop in
-    sym (a .inv .2 ∙ sweep-stop slots (a .i) _ (a .i) (omega arith) (hit-named _ _ (a .i) _ (a .inv .1) (sym (c .before .is-named .ensures) ∙ c .if2 .taken)))
+    let s = c .before .before .before in
+    let a = s .before .before .loop in
+    let e = named-read _ _ (a .i) (omega arith) (s .slot-at .ensures) (c .before .is-named .ensures) in
+    sym (a .inv .2 ∙ sweep-stop slots (a .i) _ (a .i) (omega arith) (hit-named _ _ (a .i) _ (a .inv .1) (sym e ∙ c .if2 .taken)))
 
 loop-less : tie.Need-loop-less Inv-loop μ-loop
 loop-less c = search needs
 
 loop-again : tie.Need-loop-again Inv-loop μ-loop
 loop-again c =
-    let l = c .before .before .before in
-    let a = l .before .loop in
-    (omega arith, a .inv .1, a .inv .2 ∙ sweep-skip slots (a .i) _ (omega arith) (hit-named _ _ (a .i) _ (a .inv .1) (sym (c .before .is-named .ensures) ∙ c .if2 .left)))
+    let s = c .before .before .before in
+    let a = s .before .before .loop in
+    let e = named-read _ _ (a .i) (omega arith) (s .slot-at .ensures) (c .before .is-named .ensures) in
+    (omega arith, a .inv .1, a .inv .2 ∙ sweep-skip slots (a .i) _ (omega arith) (hit-named _ _ (a .i) _ (a .inv .1) (sym e ∙ c .if2 .left)))
 
 returns-3 : tie.Need-returns-3 Inv-loop μ-loop
 returns-3 c = let a = c .before .loop in sym (a .inv .2 ∙ find-rest _ _ (a .i) (omega arith))
@@ -71,6 +76,7 @@ find-spec =
     slots-read-requires
     loop-holds
     add-i
+    slot-at-requires
     slice-aggregate-is-named
     is-named-requires
     returns-2

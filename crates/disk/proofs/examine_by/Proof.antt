@@ -1,7 +1,7 @@
 -- `disk::examine_by` meets its contract: each way out has the tests that led there.
 use mathlib.Core.Path.{sym, ap, _∙_}
 use Rattle.refusals.specs.Answers.{replyOf}
-use Rattle.directory.proofs.Pass.{surveyed-sound}
+use Rattle.surveys.proofs.Pass.{surveyed-sound}
 use Rattle.disk.proofs.Examined.{examined-length, examined-survey, examined-chains, examined-sound}
 use borrow.Author.Needs.{needs}
 use Rattle.disk.proofs.examine_by.Statement.{statement}

@@ -1,12 +1,12 @@
--- `directory::joined` meets its contract: nothing is shared, so that the counts add up.
+-- `surveys::joined` meets its contract: nothing is shared, so that the counts add up.
 use mathlib.Core.Path.{ap₂}
 use Prim.Native.Nat.{_+_}
 use native.Mathlib.Omega.{arith}
 use Rattle.maps.proofs.Laws.{bits-le}
-use Rattle.directory.proofs.Union.{counted-join}
+use Rattle.surveys.proofs.Union.{counted-join}
 use borrow.Author.Needs.{needs}
-use Rattle.directory.proofs.joined.Statement.{statement}
-use Rattle.directory.proofs.joined.Tie as tie
+use Rattle.surveys.proofs.joined.Statement.{statement}
+use Rattle.surveys.proofs.joined.Tie as tie
 
 slice-aggregate-join-into : tie.Need-slice-aggregate-join-into
 slice-aggregate-join-into c = search needs

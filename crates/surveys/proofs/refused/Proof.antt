@@ -1,8 +1,8 @@
--- `directory::refused` meets its contract: the map that it hands on is clear.
+-- `surveys::refused` meets its contract: the map that it hands on is clear.
 use borrow.Author.Needs.{needs}
-use Rattle.directory.specs.Survey.{refusedWith}
-use Rattle.directory.proofs.refused.Statement.{statement}
-use Rattle.directory.proofs.refused.Tie as tie
+use Rattle.surveys.specs.Survey.{refusedWith}
+use Rattle.surveys.proofs.refused.Statement.{statement}
+use Rattle.surveys.proofs.refused.Tie as tie
 
 unused-requires : tie.Need-unused-requires
 unused-requires c κs = search needs

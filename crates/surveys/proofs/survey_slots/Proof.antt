@@ -1,4 +1,4 @@
--- `directory::survey_slots` meets its contract: the reply is that of the slots from `i` on, and the used map that of those before.
+-- `surveys::survey_slots` meets its contract: the reply is that of the slots from `i` on, and the used map that of those before.
 use Prim.Native.Nat.{_-_, _≤_}
 use mathlib.Core.Path.{_≡_, refl, sym, ap, _∙_}
 use mathlib.Core.Option.{none}
@@ -7,15 +7,15 @@ use denote.Ref.{now}
 use Rattle.refusals.specs.Order.{sweepFrom}
 use Rattle.refusals.specs.Answers.{replyOf}
 use Rattle.refusals.proofs.First.{sweep-skip}
 use Rattle.directory.specs.Places.{slots}
 use Rattle.directory.specs.Directory.{slotsRead, directory}
-use Rattle.directory.specs.Survey.{surveyAt, surveyBy, union, counted}
+use Rattle.surveys.specs.Survey.{surveyAt, surveyBy, union, counted}
 use Rattle.directory.proofs.Live.{met-live, met-dead}
-use Rattle.directory.proofs.Keys.{Noted, noted-none, noted-few, noted-dead, noted-live}
-use Rattle.directory.proofs.Pass.{survey-dead, survey-start, used-start, used-dead, reached, apart, used-more, pass-stops, pass-ends}
+use Rattle.surveys.proofs.Keys.{Noted, noted-none, noted-few, noted-dead, noted-live}
+use Rattle.surveys.proofs.Pass.{survey-dead, survey-start, used-start, used-dead, reached, apart, used-more, pass-stops, pass-ends}
 use borrow.Author.Needs.{needs}
-use Rattle.directory.proofs.survey_slots.Statement.{statement}
-use Rattle.directory.proofs.survey_slots.Tie as tie
+use Rattle.surveys.proofs.survey_slots.Statement.{statement}
+use Rattle.surveys.proofs.survey_slots.Tie as tie
 
 abbrev Inv-loop : tie.InvT-loop
 Inv-loop dir release end used₀ keys₀ files₀ i₀ used keys files i =

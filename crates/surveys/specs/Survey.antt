@@ -10,11 +10,11 @@ use Rattle.refusals.specs.Order.{Row, _when_, Reply, rows, sweep}
 use Rattle.slots.specs.Slot.{nameOf, mapOf, facts}
 use Rattle.names.specs.Name.{sameName}
 use Rattle.slots.specs.Rows.{own, strict, dataCount}
 use Rattle.directory.specs.Places.{slots}
 use Rattle.directory.specs.Directory.{held, Directory, liveAmong}
 use Rattle.refusals.specs.declared.Verdict.{Verdict}
-use Rattle.directory.specs.declared.UsedMap.{UsedMap}
-use Rattle.directory.specs.declared.Survey.{Survey}
+use Rattle.surveys.specs.declared.UsedMap.{UsedMap}
+use Rattle.surveys.specs.declared.Survey.{Survey}
 
 -- an earlier live slot to which a test applies
 unfoldable pub earlier : Directory → ℕ → (List ℕ → Bool) → Bool

@@ -12,9 +12,9 @@ use Rattle.buffers.specs.Bytes.{any}
 use Rattle.maps.specs.Bits.{has, bitsOf, share, clear, join}
 use Rattle.maps.proofs.Laws.{has-clear, none-share, length-join, has-join, bits-clear, bits-join, share-join}
 use Rattle.slots.specs.Slot.{mapOf}
 use Rattle.directory.specs.Directory.{held, Directory}
-use Rattle.directory.specs.Survey.{earlier, union, counted}
-use Rattle.directory.specs.declared.UsedMap.{UsedMap}
+use Rattle.surveys.specs.Survey.{earlier, union, counted}
+use Rattle.surveys.specs.declared.UsedMap.{UsedMap}
 
 -- ---- one slot more
 

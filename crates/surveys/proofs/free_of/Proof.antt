@@ -1,9 +1,9 @@
--- `directory::free_of` meets its contract.
+-- `surveys::free_of` meets its contract.
 use native.Mathlib.Omega.{arith}
 use Rattle.slots.specs.Rows.{dataCount}
-use Rattle.directory.specs.Survey.{freeOf}
-use Rattle.directory.proofs.free_of.Statement.{statement}
-use Rattle.directory.proofs.free_of.Tie as tie
+use Rattle.surveys.specs.Survey.{freeOf}
+use Rattle.surveys.proofs.free_of.Statement.{statement}
+use Rattle.surveys.proofs.free_of.Tie as tie
 
 returns : tie.Need-returns
 unfolding freeOf dataCount

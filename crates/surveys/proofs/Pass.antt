@@ -22,15 +22,15 @@ use Rattle.refusals.proofs.First.{else-none, rows-clear, clear-rows, sweep-star
 use Rattle.slots.specs.Slot.{Facts, kindOf, countOf, firstOf, nameOf, mapOf, facts, known, carried, lengthOf}
 use Rattle.names.specs.Name.{sameName}
 use Rattle.slots.specs.Rows.{own, ownReply, wasteful, strict, dataCount}
 use Rattle.directory.specs.Places.{slots}
 use Rattle.directory.specs.Directory.{held, Directory, slotsRead, directory, liveAmong}
-use Rattle.directory.specs.Survey.{earlier, cross, rowsAt, surveyAt, surveyBy, survey, union, counted, usedMap, refusedWith}
-use Rattle.directory.specs.Steps.{Apart, Keyed, Reached, Surveyed}
-use Rattle.directory.specs.declared.Survey.{Survey}
-use Rattle.directory.specs.declared.UsedMap.{UsedMap}
+use Rattle.surveys.specs.Survey.{earlier, cross, rowsAt, surveyAt, surveyBy, survey, union, counted, usedMap, refusedWith}
+use Rattle.surveys.specs.Steps.{Apart, Keyed, Reached, Surveyed}
+use Rattle.surveys.specs.declared.Survey.{Survey}
+use Rattle.surveys.specs.declared.UsedMap.{UsedMap}
 use Rattle.directory.proofs.Ends.{read-most}
 use Rattle.directory.proofs.Live.{directory-unread, live-read}
-use Rattle.directory.proofs.Union.{union-dead, union-live, union-rest, length-union, share-union, counted-bytes, counted-count}
+use Rattle.surveys.proofs.Union.{union-dead, union-live, union-rest, length-union, share-union, counted-bytes, counted-count}
 
 -- ---- an earlier live slot, as a loop looks for it
 

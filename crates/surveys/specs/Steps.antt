@@ -10,10 +10,10 @@ use Rattle.refusals.specs.Order.{Reply}
 use Rattle.refusals.specs.Answers.{replyOf}
 use Rattle.slots.specs.Slot.{nameOf}
 use Rattle.names.specs.Name.{keyOf}
 use Rattle.directory.specs.Directory.{slotsRead, directory}
-use Rattle.directory.specs.Survey.{union, usedOr, filesOr}
-use Rattle.directory.specs.declared.Survey.{Survey}
-use Rattle.directory.specs.declared.UsedMap.{UsedMap}
+use Rattle.surveys.specs.Survey.{union, usedOr, filesOr}
+use Rattle.surveys.specs.declared.Survey.{Survey}
+use Rattle.surveys.specs.declared.UsedMap.{UsedMap}
 
 -- the keys of the names of the live slots before slot i
 pub record Keyed (d : List ℕ) (i : ℕ) (keys : List ℕ) : Type 0 where

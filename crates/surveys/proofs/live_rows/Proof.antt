@@ -1,4 +1,4 @@
--- `directory::live_rows` meets its contract: its own rows first, then the one that the release check asks for, then the two
+-- `surveys::live_rows` meets its contract: its own rows first, then the one that the release check asks for, then the two
 -- against the slots before it.
 use mathlib.Core.Path.{_≡_, sym, _∙_}
 use mathlib.Core.Bool.{false, _&&_}
@@ -6,10 +6,10 @@ use mathlib.Core.Logic.{⊎-elim}
 use denote.Ref.{now}
 use Rattle.slots.specs.Slot.{facts}
 use Rattle.slots.specs.Rows.{wasteful}
-use Rattle.directory.proofs.Pass.{slot-own, slot-waste, slot-shared, slot-twice, slot-clear}
+use Rattle.surveys.proofs.Pass.{slot-own, slot-waste, slot-shared, slot-twice, slot-clear}
 use borrow.Author.Needs.{needs}
-use Rattle.directory.proofs.live_rows.Statement.{statement}
-use Rattle.directory.proofs.live_rows.Tie as tie
+use Rattle.surveys.proofs.live_rows.Statement.{statement}
+use Rattle.surveys.proofs.live_rows.Tie as tie
 
 -- past row 22 it was not asked for, or it does not hold
 lean : (c : tie.Joined1) → let a = c .before .before .before .before .before .before .before .before .args in (a .release && wasteful (facts (now (a .s)))) ≡ false
