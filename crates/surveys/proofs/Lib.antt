@@ -1,3 +1,3 @@
-pub mod Keys
+pub mod Filter
 pub mod Union
 pub mod Pass

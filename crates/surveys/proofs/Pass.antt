@@ -25,7 +25,8 @@ use Rattle.slots.specs.Rows.{own, ownReply, wasteful, strict, dataCount}
 use Rattle.directory.specs.Places.{slots}
 use Rattle.directory.specs.Directory.{held, Directory, slotsRead, directory, liveAmong}
 use Rattle.surveys.specs.Survey.{earlier, cross, rowsAt, surveyAt, surveyBy, survey, union, counted, usedMap, refusedWith}
-use Rattle.surveys.specs.Steps.{Apart, Keyed, Reached, Surveyed}
+use Rattle.surveys.specs.Filter.{Filtered}
+use Rattle.surveys.specs.Steps.{Apart, Reached, Surveyed}
 use Rattle.surveys.specs.declared.Survey.{Survey}
 use Rattle.surveys.specs.declared.UsedMap.{UsedMap}
 use Rattle.directory.proofs.Ends.{read-most}
@@ -194,8 +195,8 @@ pub used-dead : (v : Directory) (i : ℕ) (u : UsedMap) → u ≡ counted (union
 used-dead v i u e p = e ∙ ap counted (sym (union-dead v i p))
 
 module _ (d : List ℕ) (i : ℕ) (u : UsedMap) (used : u ≡ counted (union (directory d) i)) (s : List ℕ) (here : directory d i ≡ some s) where
-  pub reached : i < slotsRead d → {keys : List ℕ} → Keyed d i keys → Reached d i s (u .bytes) keys
-  reached h k = record { slot = h; here = here; used = counted-bytes (union (directory d) i) u used; keyed = k }
+  pub reached : i < slotsRead d → {f : List ℕ} → Filtered d i f → Reached d i s (u .bytes) f
+  reached h k = record { slot = h; here = here; used = counted-bytes (union (directory d) i) u used; filtered = k }
 
   -- past its rows: m is its map, k its count
   module _ {m : List ℕ} (em : m ≡ mapOf s) where

@@ -1,31 +1,25 @@
 -- What the pass knows at a live slot, what a map is joined under, and what the pass gives.
-use Prim.Native.Nat.{ℕ, _≤_, _<_}
+use Prim.Native.Nat.{ℕ, _<_}
 use mathlib.Core.Path.{_≡_}
 use mathlib.Core.Bool.{false}
 use mathlib.Core.List.{List}
 use mathlib.Core.Option.{some}
-use lib.ListN.{length, getD}
+use lib.ListN.{length}
 use Rattle.maps.specs.Bits.{bitsOf, share}
 use Rattle.refusals.specs.Order.{Reply}
 use Rattle.refusals.specs.Answers.{replyOf}
-use Rattle.slots.specs.Slot.{nameOf}
-use Rattle.names.specs.Name.{keyOf}
 use Rattle.directory.specs.Directory.{slotsRead, directory}
 use Rattle.surveys.specs.Survey.{union, usedOr, filesOr}
+use Rattle.surveys.specs.Filter.{Filtered}
 use Rattle.surveys.specs.declared.Survey.{Survey}
 use Rattle.surveys.specs.declared.UsedMap.{UsedMap}
 
--- the keys of the names of the live slots before slot i
-pub record Keyed (d : List ℕ) (i : ℕ) (keys : List ℕ) : Type 0 where
-  pub room : i ≤ length keys
-  pub key : (j : ℕ) (t : List ℕ) → j < i → directory d j ≡ some t → getD keys j 0 ≡ keyOf (nameOf t)
-
--- slot i is live and its bytes are s; u is the used map of the slots before it
-pub record Reached (d : List ℕ) (i : ℕ) (s u keys : List ℕ) : Type 0 where
+-- slot i is live and its bytes are s; u is the used map of the slots before it, f has the bits of their names
+pub record Reached (d : List ℕ) (i : ℕ) (s u f : List ℕ) : Type 0 where
   pub slot : i < slotsRead d
   pub here : directory d i ≡ some s
   pub used : u ≡ union (directory d) i
-  pub keyed : Keyed d i keys
+  pub filtered : Filtered d i f
 
 -- the counts are the maps' own, and no bit is in both
 pub record Apart (u : UsedMap) (m : List ℕ) (own : ℕ) : Type 0 where

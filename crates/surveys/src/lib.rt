@@ -8,7 +8,8 @@ ghost use Rattle.names.specs.Name.{sameName};
 ghost use Rattle.slots.specs.Slot.{nameOf};
 ghost use Rattle.directory.specs.Directory.{slotsRead, directory};
 ghost use Rattle.surveys.specs.Survey.{earlier, surveyAt, surveyBy, counted, freeOf, refusedWith};
-ghost use Rattle.surveys.specs.Steps.{Apart, Keyed, Reached, Surveyed};
+ghost use Rattle.surveys.specs.Filter.{isNoted, noted, Filtered};
+ghost use Rattle.surveys.specs.Steps.{Apart, Reached, Surveyed};
 use refusals::Reason;
 use refusals::Verdict;
 
@@ -26,19 +27,47 @@ pub struct Survey {
     pub files: usize,
 }
 
-// Whether a live slot before slot `i` has that name; `keys` are the keys of their names. Only a name with the same key is
-// looked at.
-fn named_before(dir: &[u8], i: usize, name: &[u8], keys: &[u64]) -> bool
-    requires { ⌜ (i ≤ slotsRead (now dir)) × Keyed (now dir) i (now keys) ⌝ }
+// The bytes of the filter of row 9.
+const FILTER_BYTES: usize = 640;
+
+// Whether the filter has all bits of a key.
+fn is_noted(filter: &[u8], key: u64) -> bool
+    ensures { λ r. ⌜ r ≡ isNoted (now (filter .entry)) key ⌝ }
+{
+    if !maps::has_bit(filter, (key % 4937) as usize) {
+        return false;
+    }
+    if !maps::has_bit(filter, (key % 5077) as usize) {
+        return false;
+    }
+    maps::has_bit(filter, (key % 5087) as usize)
+}
+
+// Sets the bits of a key in the filter.
+fn note(filter: &mut [u8], key: u64)
+    ensures { λ _. ⌜ now (filter .exit) ≡ noted (now (filter .entry)) key ⌝ }
+{
+    maps::mark(filter, (key % 4937) as usize);
+    maps::mark(filter, (key % 5077) as usize);
+    maps::mark(filter, (key % 5087) as usize);
+}
+
+// Whether a live slot before slot `i` has that name. The slots are looked at only where the filter has all bits of the name's
+// key, and only a name with the same key is compared.
+fn named_before(dir: &[u8], i: usize, name: &[u8], filter: &[u8]) -> bool
+    requires { ⌜ (i ≤ slotsRead (now dir)) × Filtered (now dir) i (now filter) ⌝ }
     ensures { λ r. ⌜ r ≡ earlier (directory (now (dir .entry))) i (λ t. sameName (nameOf t) (now (name .entry))) ⌝ }
 {
     let key = names::key_of(name);
+    if !is_noted(filter, key) {
+        return false;
+    }
     let mut j: usize = 0;
     while j < i {
-        let k = j;
+        let s = directory::slot_at(dir, j);
         j += 1;
-        if keys[k] == key {
-            if slots::is_named(directory::slot_at(dir, k), name) {
+        if names::key_of(slots::name_of(s)) == key {
+            if slots::is_named(s, name) {
                 return true;
             }
         }
@@ -47,9 +76,9 @@ fn named_before(dir: &[u8], i: usize, name: &[u8], keys: &[u64]) -> bool
 }
 
 // Rows 2 to 9 at the live slot `i`, whose bytes are `s`, and 22 after 7 where `release` asks for it; `used` is the used map
-// of the slots before it, and `keys` are the keys of their names.
-fn live_rows(dir: &[u8], i: usize, s: &[u8], used: &[u8], keys: &[u64], release: bool) -> Verdict
-    requires { ⌜ Reached (now dir) i (now s) (now used) (now keys) ⌝ }
+// of the slots before it, and `filter` has the bits of their names.
+fn live_rows(dir: &[u8], i: usize, s: &[u8], used: &[u8], filter: &[u8], release: bool) -> Verdict
+    requires { ⌜ Reached (now dir) i (now s) (now used) (now filter) ⌝ }
     ensures { λ r. ⌜ replyOf r ≡ surveyAt release 0 (directory (now (dir .entry))) i ⌝ }
 {
     let slot = i + 1;
@@ -62,7 +91,7 @@ fn live_rows(dir: &[u8], i: usize, s: &[u8], used: &[u8], keys: &[u64], release:
             if maps::shares(used, slots::map_of(s)) {
                 return refusals::unsound(Reason::SectorShared, slot);
             }
-            if named_before(dir, i, slots::name_of(s), keys) {
+            if named_before(dir, i, slots::name_of(s), filter) {
                 return refusals::unsound(Reason::NameTwice, slot);
             }
             Verdict::Sound
@@ -109,7 +138,7 @@ pub fn survey_slots(dir: &[u8], release: bool) -> Survey
 {
     let end = directory::slots_read(dir);
     let mut used = unused();
-    let mut keys = [0u64; directory::SLOTS];
+    let mut filter = [0u8; FILTER_BYTES];
     let mut files: usize = 0;
     let mut i: usize = 0;
     while i < end {
@@ -117,12 +146,12 @@ pub fn survey_slots(dir: &[u8], release: bool) -> Survey
         let k = i;
         i += 1;
         if slots::is_live(s) {
-            match live_rows(dir, k, s, &used.bytes, &keys, release) {
+            match live_rows(dir, k, s, &used.bytes, &filter, release) {
                 Verdict::Unsound(f) => {
                     return refused(Verdict::Unsound(f));
                 }
                 Verdict::Sound => {
-                    keys[k] = names::key_of(slots::name_of(s));
+                    note(&mut filter, names::key_of(slots::name_of(s)));
                     files += 1;
                     let next = joined(used, slots::map_of(s), slots::count_of(s));
                     used = next;

@@ -3,9 +3,11 @@
 use mathlib.Core.Path.{_≡_, sym, _∙_}
 use mathlib.Core.Bool.{false, _&&_}
 use mathlib.Core.Logic.{⊎-elim}
+use native.Mathlib.Omega.{arith}
 use denote.Ref.{now}
 use Rattle.slots.specs.Slot.{facts}
 use Rattle.slots.specs.Rows.{wasteful}
+use Rattle.directory.proofs.Ends.{read-most}
 use Rattle.surveys.proofs.Pass.{slot-own, slot-waste, slot-shared, slot-twice, slot-clear}
 use borrow.Author.Needs.{needs}
 use Rattle.surveys.proofs.live_rows.Statement.{statement}
@@ -16,7 +18,9 @@ lean : (c : tie.Joined1) → let a = c .before .before .before .before .before .
 lean c = ⊎-elim (λ t. rw (t .0 .taken) (sym (t .1 .ensures) ∙ t .2 .left)) (λ t. rw (t .left)) (c .if1 .came)
 
 add-slot : tie.Need-add-slot
-add-slot c = search needs
+add-slot c =
+    let p = c .before .before .before .before in
+    omega (arith, p .pre .slot, read-most (now (p .args .dir)))
 
 own-rows-requires : tie.Need-own-rows-requires
 own-rows-requires c κs = search needs

@@ -1,7 +1,7 @@
 -- `surveys::survey_slots` meets its contract: the reply is that of the slots from `i` on, and the used map that of those before.
-use Prim.Native.Nat.{_-_, _≤_}
+use Prim.Native.Nat.{_-_, _≤_, _<_}
 use mathlib.Core.Path.{_≡_, refl, sym, ap, _∙_}
-use mathlib.Core.Option.{none}
+use mathlib.Core.Option.{none, some}
 use native.Mathlib.Omega.{arith}
 use denote.Ref.{now}
 use Rattle.refusals.specs.Order.{sweepFrom}
@@ -10,19 +10,28 @@ use Rattle.refusals.proofs.First.{sweep-skip}
 use Rattle.directory.specs.Places.{slots}
 use Rattle.directory.specs.Directory.{slotsRead, directory}
 use Rattle.surveys.specs.Survey.{surveyAt, surveyBy, union, counted}
+use Rattle.directory.proofs.Ends.{read-most}
 use Rattle.directory.proofs.Live.{met-live, met-dead}
-use Rattle.surveys.proofs.Keys.{Noted, noted-none, noted-few, noted-dead, noted-live}
+use Rattle.surveys.proofs.Filter.{Kept, kept-none, kept-few, kept-dead, kept-live}
 use Rattle.surveys.proofs.Pass.{survey-dead, survey-start, used-start, used-dead, reached, apart, used-more, pass-stops, pass-ends}
 use borrow.Author.Needs.{needs}
 use Rattle.surveys.proofs.survey_slots.Statement.{statement}
 use Rattle.surveys.proofs.survey_slots.Tie as tie
 
 abbrev Inv-loop : tie.InvT-loop
-Inv-loop dir release end used₀ keys₀ files₀ i₀ used keys files i =
-    (i ≤ slotsRead dir) × (used ≡ counted (union (directory dir) i)) × (surveyBy release 0 (directory dir) ≡ sweepFrom (slots - i) i (surveyAt release 0 (directory dir))) × Noted dir i keys files
+Inv-loop dir release end used₀ filter₀ files₀ i₀ used filter files i =
+    (i ≤ slotsRead dir) × (used ≡ counted (union (directory dir) i)) × (surveyBy release 0 (directory dir) ≡ sweepFrom (slots - i) i (surveyAt release 0 (directory dir))) × Kept dir i filter files
 
 abbrev μ-loop : tie.MeasureT-loop
-μ-loop dir release end used₀ keys₀ files₀ i₀ used keys files i = end - i
+μ-loop dir release end used₀ filter₀ files₀ i₀ used filter files i = end - i
+
+-- a slot that is met is read; a live one
+met : (t : tie.In-loop Inv-loop μ-loop) → let l = t .before in l .loop .i < slotsRead (now (l .before .before .before .before .args .dir))
+met t = omega arith
+
+live : (y : tie.Then1 Inv-loop μ-loop) → let t = y .before .before in let l = t .before .before in
+    directory (now (l .before .before .before .before .args .dir)) (l .loop .i) ≡ some (now (t .slot-at .result))
+live y = met-live _ _ (y .before .before .slot-at .ensures) (y .before .is-live .ensures) (met (y .before .before .before)) (y .if1 .taken)
 
 -- a slot at which no row holds
 passed : (t : tie.After-enum-told Inv-loop μ-loop) → let l = t .before .before .before .before .before .before .before .before .before .before .before in
@@ -36,7 +45,7 @@ unused-requires : tie.Need-unused-requires Inv-loop μ-loop
 unused-requires c κs = search needs
 
 loop-holds : tie.Need-loop-holds Inv-loop μ-loop
-loop-holds c = (omega arith, used-start _ _ (c .unused .ensures), survey-start _ _ _, noted-none _ _ refl)
+loop-holds c = (omega arith, used-start _ _ (c .unused .ensures), survey-start _ _ _, kept-none _ _ refl)
 
 slot-at-requires : tie.Need-slot-at-requires Inv-loop μ-loop
 slot-at-requires c κs = search needs
@@ -54,7 +63,7 @@ live-rows-requires : tie.Need-live-rows-requires Inv-loop μ-loop
 live-rows-requires c κs =
     let y = c .before .before .before .before in
     let a = y .before .before .before .before .loop in
-    reached _ (a .i) _ (a .inv .1) _ (met-live _ _ (y .before .before .slot-at .ensures) (y .before .is-live .ensures) (omega arith) (y .if1 .taken)) (omega arith) (a .inv .3 .keyed)
+    reached _ (a .i) _ (a .inv .1) _ (live y) (omega arith) (a .inv .3 .filtered)
 
 enum-known-f : tie.Need-enum-known-f Inv-loop μ-loop
 enum-known-f c = search needs
@@ -72,22 +81,22 @@ returns c =
 enum-told : tie.Need-enum-told Inv-loop μ-loop
 enum-told c = search needs
 
+slice-aggregate-note : tie.Need-slice-aggregate-note Inv-loop μ-loop
+slice-aggregate-note c = search needs
+
 name-of-requires : tie.Need-name-of-requires Inv-loop μ-loop
 name-of-requires c κs = search needs
 
 key-of-requires : tie.Need-key-of-requires Inv-loop μ-loop
 key-of-requires c κs = search needs
 
-mul-keys : tie.Need-mul-keys Inv-loop μ-loop
-mul-keys c = search needs
-
-array-write-keys : tie.Need-array-write-keys Inv-loop μ-loop
-array-write-keys c = search needs
+note-requires : tie.Need-note-requires Inv-loop μ-loop
+note-requires c κs = search needs
 
 add-files : tie.Need-add-files Inv-loop μ-loop
 add-files c =
-    let a = c .before .before .before .before .before .before .before .before .before .before .before .before .before .loop in
-    omega (arith, noted-few _ _ _ _ (a .inv .3))
+    let a = c .before .before .before .before .before .before .before .before .before .before .before .before .before .before .before .before .loop in
+    omega (arith, kept-few _ _ _ _ (a .inv .3))
 
 map-of-requires : tie.Need-map-of-requires Inv-loop μ-loop
 map-of-requires c κs = search needs
@@ -97,24 +106,26 @@ count-of-requires c κs = search needs
 
 joined-requires : tie.Need-joined-requires Inv-loop μ-loop
 joined-requires c κs =
-    let t = c .before .before .before .before in
+    let t = c .before .before .before .before .before .before .before in
     let y = t .before .before .before .before .before .before .before in
     let a = y .before .before .before .before .loop in
-    apart _ (a .i) _ (a .inv .1) _ (met-live _ _ (y .before .before .slot-at .ensures) (y .before .is-live .ensures) (omega arith) (y .if1 .taken)) (c .before .map-of .ensures) (c .count-of .ensures .0) _ (passed t)
+    apart _ (a .i) _ (a .inv .1) _ (live y) (c .before .map-of .ensures) (c .count-of .ensures .0) _ (passed t)
 
 loop-less : tie.Need-loop-less Inv-loop μ-loop
 loop-less c = search needs
 
 loop-again : tie.Need-loop-again Inv-loop μ-loop
 loop-again c =
-    let t = c .before .before .before .before .before in
+    let n = c .before .before .before .before in
+    let t = n .before .before .before .before in
     let y = t .before .before .before .before .before .before .before in
-    let a = y .before .before .before .before .loop in
-    let e = met-live _ _ (y .before .before .slot-at .ensures) (y .before .is-live .ensures) (omega arith) (y .if1 .taken) in (
-      omega arith,
+    let l = y .before .before .before in
+    let a = l .before .loop in
+    let e = live y in (
+      omega (arith, met l),
       used-more _ (a .i) _ (a .inv .1) _ e (c .before .before .map-of .ensures) _ (c .joined .ensures),
-      a .inv .2 ∙ sweep-skip slots (a .i) _ (omega arith) (passed t),
-      noted-live _ _ _ _ (a .inv .3) (omega arith) _ e (c .before .before .before .before .name-of .ensures) (c .before .before .before .key-of .ensures),
+      a .inv .2 ∙ sweep-skip slots (a .i) _ (omega (arith, met l, read-most (now (l .before .before .before .before .before .args .dir)))) (passed t),
+      kept-live _ _ _ _ (a .inv .3) _ e (n .before .before .name-of .ensures) (n .before .key-of .ensures) (n .note .ensures),
     )
 
 loop-less-2 : tie.Need-loop-less-2 Inv-loop μ-loop
@@ -125,7 +136,7 @@ loop-again-2 c =
     let s = c .before .before in
     let a = s .before .before .loop in
     let e = met-dead _ _ (s .slot-at .ensures) (c .before .is-live .ensures) (c .if1 .left) in
-    (omega arith, used-dead _ (a .i) _ (a .inv .1) e, a .inv .2 ∙ sweep-skip slots (a .i) _ (omega arith) (survey-dead _ 0 _ (a .i) e), noted-dead _ _ _ _ (a .inv .3) (omega arith) e)
+    (omega arith, used-dead _ (a .i) _ (a .inv .1) e, a .inv .2 ∙ sweep-skip slots (a .i) _ (omega arith) (survey-dead _ 0 _ (a .i) e), kept-dead _ _ _ _ (a .inv .3) e)
 
 returns-2 : tie.Need-returns-2 Inv-loop μ-loop
 returns-2 c = let a = c .before .loop in pass-ends _ _ _ (a .i) (a .inv .2) (omega arith) (omega arith) refl (a .inv .1) (a .inv .3 .live)
@@ -148,10 +159,10 @@ survey-slots-spec =
     refused-requires
     returns
     enum-told
+    slice-aggregate-note
     name-of-requires
     key-of-requires
-    mul-keys
-    array-write-keys
+    note-requires
     add-files
     map-of-requires
     count-of-requires
