@@ -45,7 +45,7 @@ pub slot-base : slotCount 0 ≡ 80
 unfolding slotCount
 slot-base = refl
 
-slot-within : (i : ℕ) → i < slots → slotAt i + 256 ≤ imageSize
+pub slot-within : (i : ℕ) → i < slots → slotAt i + 256 ≤ imageSize
 unfolding slotAt
 slot-within i h = ⊎-elim (λ c. omega arith) (λ c. omega arith) (gap-is i)
 
