@@ -2,7 +2,7 @@
 ghost use mathlib.Core.Path.{_≡_};
 ghost use Rattle.buffers.specs.Bytes.{put};
 ghost use Rattle.refusals.specs.Answers.{replyOf};
-ghost use Rattle.directory.specs.Directory.{directory};
+ghost use Rattle.directory.specs.Directory.{tracksOf, directory};
 ghost use Rattle.directory.specs.Find.{foundAt};
 ghost use Rattle.files.specs.Calls.{soughtOf};
 ghost use Rattle.plans.specs.Saving.{lowestSlot};
@@ -43,7 +43,7 @@ fn asked_rows(start: Start, name: &[u8]) -> Verdict
 
 // The lowest slot that holds no file: one that is read and erased, else the end of the directory.
 fn free_slot(image: &[u8]) -> Found
-    ensures { λ r. ⌜ foundAt r ≡ lowestSlot 0 (directory (now (image .entry))) ⌝ }
+    ensures { λ r. ⌜ foundAt r ≡ lowestSlot (tracksOf (now (image .entry))) (directory (now (image .entry))) ⌝ }
 {
     let end = directory::slots_read(image);
     let mut i: usize = 0;
@@ -55,7 +55,7 @@ fn free_slot(image: &[u8]) -> Found
             return Found::At(k);
         }
     }
-    if end < directory::SLOTS {
+    if end < directory::slots_in(image) {
         return Found::At(end);
     }
     Found::Nothing
