@@ -13,7 +13,7 @@ use lib.Seq.{ext-getD}
 use lib.ListN.{length, getD}
 use Rattle.buffers.specs.Bytes.{tab, put}
 use Rattle.buffers.proofs.Lists.{below-or-not, length-put, part-at, put-in, put-before, put-after}
-use Rattle.buffers.proofs.Counts.{count-cong, any-cong, any-some, none-any}
+use Rattle.buffers.proofs.Counts.{count-cong, any-cong, any-some, none-any, count-less}
 use Rattle.buffers.proofs.Tests.{and-both}
 use Rattle.geometry.specs.Disk.{bitOf}
 use Rattle.refusals.specs.Order.{refuse}
@@ -48,7 +48,7 @@ use Rattle.plans.specs.Plan.{upd, made, run}
 use Rattle.plans.specs.Accepted.{Named, Unprotected, Renames}
 use Rattle.plans.specs.After.{SameAnswers, Gone, AfterErase, AfterRename, hiddenBy, protectedBy, marking, AfterMark}
 use Rattle.plans.proofs.Frame.{slots-some, slot-file, disk-sound, upd-same, upd-other, extra-upd, slots-same, slots-other, entry-live, entry-dead, holds, holds-long}
-use Rattle.plans.proofs.Free.{count-less, extra-few, used-data}
+use Rattle.plans.proofs.Free.{extra-few, used-data}
 use Rattle.plans.proofs.Kept.{sound-apart, sound-long, usable-is}
 use Rattle.plans.proofs.Named.{alone, found-here}
 use Rattle.plans.proofs.Effect.{Touched, erasing, erased, marked-so, renamed}

@@ -11,7 +11,7 @@ use borrow.Author.Tests.{eqb-true, eqb-false}
 use lib.Dec.{eqb}
 use lib.ListN.{length}
 use Rattle.buffers.specs.Bytes.{count, any}
-use Rattle.buffers.proofs.Counts.{any-none, none-any, any-some, some-any, count-cong}
+use Rattle.buffers.proofs.Counts.{any-none, none-any, any-some, some-any, count-cong, count-less}
 use Rattle.maps.specs.Bits.{has, bitsOf}
 use Rattle.slots.specs.Slot.{mapOf, sectorsFor}
 use Rattle.slots.specs.Tracks.{dataBit}
@@ -28,7 +28,7 @@ use Rattle.plans.specs.Change.{Wish, save}
 use Rattle.plans.specs.Saving.{freeBit, mapWith, newSlot}
 use Rattle.plans.specs.Plan.{upd, made, run}
 use Rattle.plans.proofs.Frame.{disk-sound, slots-same, slots-other, extra-upd}
-use Rattle.plans.proofs.Free.{count-less, Run, run-listed, passing-long, free-long, free-small}
+use Rattle.plans.proofs.Free.{Run, run-listed, passing-long, free-long, free-small}
 use Rattle.plans.proofs.NewFile.{newFile, map-is, has-mapWith, bits-mapWith}
 use Rattle.plans.proofs.Demand3.{change-accepted}
 use Rattle.plans.proofs.ReadBack.{Stored, stored}

@@ -12,7 +12,7 @@ use lib.Dec.{eqb}
 use lib.ListN.{length, getD, take}
 use lib.Seq.{length-take-le}
 use Rattle.buffers.specs.Bytes.{count, any}
-use Rattle.buffers.proofs.Counts.{count-add, count-cong, any-none, some-any}
+use Rattle.buffers.proofs.Counts.{count-add, count-cong, count-less, any-none, some-any}
 use Rattle.refusals.proofs.First.{sweep-none, sweep-first}
 use Rattle.maps.specs.Bits.{has, bitsOf}
 use Rattle.slots.specs.Slot.{mapOf, sectorsFor}
@@ -44,19 +44,6 @@ pub record From (p : ℕ → Bool) (l b : ℕ) : Type 0 where
 abbrev pub Run : (ℕ → Bool) → ℕ → List ℕ → Type 0
 Run p l [] = Unit {0}
 Run p l (b ∷ bs) = From p l b × Run p (suc b) bs
-
--- those that hold, less some of them
-pub count-less : (n : ℕ) (p q : ℕ → Bool) → ((k : ℕ) → k < n → q k ≡ true → p k ≡ true) → count n (λ k. p k && not (q k)) + count n q ≡ count n p
-unfolding count
-count-less zero p q h = refl
-count-less (suc n) p q h = by (p n) (q n) (h n (omega arith)) (count-less n p q (λ k l. h k (omega arith)))
-  where
-    by : (a b : Bool) → (b ≡ true → a ≡ true) → count n (λ k. p k && not (q k)) + count n q ≡ count n p
-        → count n (λ k. p k && not (q k)) + cond (a && not b) 1 0 + (count n q + cond b 1 0) ≡ count n p + cond a 1 0
-    by true true w e = omega arith
-    by true false w e = omega arith
-    by false true w e = absurd (false≢true (w refl))
-    by false false w e = omega arith
 
 module _ (p : ℕ → Bool) where
   from-lower : (k l b : ℕ) → k ≤ l → From p l b → From p k b

@@ -9,11 +9,9 @@ use lib.ListN.{length, take}
 use lib.Seq.{take-all}
 use Rattle.buffers.specs.Bytes.{tab, part}
 use Rattle.buffers.proofs.Lists.{length-tab, getD-tab, tab-of, tab-cong, length-part, part-at}
-use Rattle.buffers.proofs.Counts.{count-le}
 use Rattle.refusals.specs.Order.{Reply, _else_, row}
 use Rattle.slots.specs.Slot.{kindOf, readable, facts}
-use Rattle.slots.specs.Tracks.{dataBit}
-use Rattle.slots.proofs.Tracks.{tracks-few, count-data}
+use Rattle.slots.proofs.Tracks.{data-few}
 use Rattle.chains.specs.File.{File, fileOf}
 use Rattle.chains.specs.Chain.{fileLength, bodyByte, body}
 use Rattle.directory.specs.Directory.{slotOr}
@@ -50,12 +48,11 @@ pub record FileOpened (d n : List ℕ) (p : Place) : Type 0 where
 
 -- 510 × 1,560 less the nine bytes of the header
 pub length-few : (d n : List ℕ) (i : ℕ) → Named d n i → readable (kindOf (slotOr d i)) ≡ true → fileLength (fileOf d (slotOr d i)) ≤ longest
-unfolding checkDisk facts fileOf extra
+unfolding checkDisk facts fileOf
 length-few d n i w c =
     let f = named-slot d n i w in
     let g = sound (look d) (w .accepted) .good i (fileOf d (slotOr d i)) (f .below) (look-some d i (slotOr d i) (f .here)) in
-    let t : ℕ = extra (look d) in
-    omega (arith, body-fits t (fileOf d (slotOr d i)) g c, g .few-sectors, count-data t (tracks-few (look d .label 255)), count-le 1560 (dataBit t))
+    omega (arith, body-fits (extra (look d)) (fileOf d (slotOr d i)) g c, g .few-sectors, data-few (extra (look d)))
 
 -- the place of a file's reader past the first t bytes of the body, or past all of them
 abbrev pastOf : File → ℕ → Place

@@ -1,18 +1,19 @@
 -- The plan of a save on an accepted disk, by the tests that led there, and what the writing is then entered with.
-use Prim.Native.Nat.{ℕ, zero, suc, _+_, _-_, _*_, _≤_, _<_}
+use Prim.Native.Nat.{ℕ, zero, suc, _+_, _≤_, _<_}
 use mathlib.Core.Path.{_≡_, refl, sym, ap, ap₂, _∙_, subst}
 use mathlib.Core.Bool.{Bool, true, false, cond, not, _&&_, and-eq-true-iff}
 use mathlib.Core.List.{List, _∷_}
 use mathlib.Core.Option.{Option, none, some}
 use native.Mathlib.Omega.{arith}
-use borrow.Author.Tests.{eqb-false, lt-ltb, le-ltb, leb-true}
-use lib.Dec.{eqb, leb, ltb}
+use borrow.Author.Tests.{lt-ltb, le-ltb, leb-true}
+use lib.Dec.{leb, ltb}
 use lib.ListN.{length, take}
 use Rattle.maps.specs.Bits.{has}
 use Rattle.refusals.specs.Order.{Refusal, refuse, Reply, _else_, row}
 use Rattle.refusals.specs.Answers.{Outcome, done, refused}
 use Rattle.slots.specs.Slot.{carried, sectorsFor}
-use Rattle.slots.specs.Tracks.{dataCount, dataBit}
+use Rattle.slots.specs.Tracks.{dataBit}
+use Rattle.slots.proofs.Tracks.{data-few}
 use Rattle.directory.specs.Places.{slots}
 use Rattle.directory.specs.Directory.{held, Directory, tracksOf, directory}
 use Rattle.surveys.specs.Survey.{union, usedMap, freeOf, free}
@@ -105,15 +106,6 @@ module _ (d : List ℕ) (s : Start) (name exec info body : List ℕ) where
 free-is : (d : List ℕ) (u : UsedMap) → Accepted d u → (f : ℕ) → f ≡ freeOf u → free (tracksOf d) (directory d) ≡ f
 unfolding free
 free-is d u a f e = sym (e ∙ ap freeOf (a .used))
-
--- no disk has more
-pub data-few : (n : ℕ) → dataCount n ≤ 1560
-unfolding dataCount
-data-few n = by (eqb n 0) refl
-  where
-    by : (t : Bool) → eqb n 0 ≡ t → cond t 1560 (1561 - 10 * n) ≤ 1560
-    by true e = omega arith
-    by false e = let z = eqb-false n 0 e in omega arith
 
 pub free-le : (u : UsedMap) → freeOf u ≤ 1560
 unfolding freeOf

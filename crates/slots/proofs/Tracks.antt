@@ -11,7 +11,7 @@ use lib.Dec.{eqb, leb, ltb}
 use lib.ListN.{length, length-replicate}
 use Rattle.buffers.specs.Bytes.{count, any}
 use Rattle.buffers.proofs.Lists.{below-or-not}
-use Rattle.buffers.proofs.Counts.{count-add, count-none, any-cong, any-none, none-any}
+use Rattle.buffers.proofs.Counts.{count-add, count-all, count-none, any-cong, any-none, none-any}
 use Rattle.maps.specs.Bits.{has, share, clear, marked}
 use Rattle.maps.proofs.Laws.{has-clear, length-marked, has-marked}
 use Rattle.slots.specs.Tracks.{isLabel, tracksBy, badTracks, dataCount, dataBit, inDirectory, innerTo, innerMap}
@@ -88,11 +88,6 @@ not-data n b h l = rw (ne-eqb b 0 (omega arith), lt-leb (10 * n) b l) (by (ltb b
 pub data-all : (b : ℕ) → b < 1560 → dataBit 0 b ≡ true
 data-all b h = is-data-from 0 b h (omega arith)
 
-count-all : (n : ℕ) (p : ℕ → Bool) → ((k : ℕ) → k < n → p k ≡ true) → count n p ≡ n
-unfolding count
-count-all zero p h = refl
-count-all (suc n) p h = rw (h n (omega arith), count-all n p (λ k l. h k (omega arith))) (omega arith)
-
 -- as many as are told
 pub count-data : (n : ℕ) → n ≤ 35 → count 1560 (dataBit n) ≡ dataCount n
 unfolding dataCount
@@ -109,6 +104,15 @@ count-data n h = by (eqb n 0) refl
         count-all (1560 - 10 * n) (λ j. dataBit n (1 + (10 * n - 1 + j))) (λ j l. is-data-from n (1 + (10 * n - 1 + j)) (omega arith) (omega arith)) in
         ap (λ (k : ℕ). count k (dataBit n)) s
         ∙ omega (arith, count-add 1 (10 * n - 1 + (1560 - 10 * n)) (dataBit n), count-add (10 * n - 1) (1560 - 10 * n) (λ j. dataBit n (1 + j)))
+
+-- no disk has more
+pub data-few : (n : ℕ) → dataCount n ≤ 1560
+unfolding dataCount
+data-few n = by (eqb n 0) refl
+  where
+    by : (t : Bool) → eqb n 0 ≡ t → cond t 1560 (1561 - 10 * n) ≤ 1560
+    by true e = omega arith
+    by false e = let z : n ≡ 0 → ⊥ = eqb-false n 0 e in omega arith
 
 -- ---- a map with no bit inside the directory
 

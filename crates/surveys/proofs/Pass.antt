@@ -2,7 +2,7 @@
 -- of a slot that has none.
 use Prim.Native.Nat.{ℕ, suc, _+_, _-_, _*_, _≤_, _<_}
 use mathlib.Core.Path.{_≡_, refl, sym, ap, ap₂, _∙_}
-use mathlib.Core.Bool.{Bool, true, false, cond, not, _&&_, and-eq-true-iff}
+use mathlib.Core.Bool.{Bool, true, false, cond, not, _&&_, and-eq-true-iff, true≢false}
 use mathlib.Core.List.{List, [], _∷_, _++_}
 use mathlib.Core.Option.{Option, none, some}
 use native.Mathlib.Numerals.{add-one}
@@ -10,7 +10,7 @@ use native.Mathlib.Omega.{arith}
 use borrow.Author.Tests.{not-false, leb-true, eqb-true, le-leb, eq-eqb}
 use lib.Dec.{leb, ltb}
 use lib.ListN.{length}
-use Rattle.buffers.proofs.Counts.{any-none, none-any}
+use Rattle.buffers.proofs.Counts.{any-none, none-any, some-any, count-less}
 use Rattle.buffers.proofs.Tests.{or-neither}
 use Rattle.buffers.specs.Bytes.{any}
 use Rattle.maps.specs.Bits.{has, bitsOf, share, clear, join}
@@ -23,7 +23,8 @@ use Rattle.refusals.proofs.First.{else-none, rows-clear, clear-rows, sweep-star
 use Rattle.slots.specs.Slot.{Facts, kindOf, countOf, firstOf, nameOf, mapOf, facts, known, carried, lengthOf}
 use Rattle.names.specs.Name.{sameName}
 use Rattle.slots.specs.Rows.{own, ownReply, wasteful, strict}
-use Rattle.slots.specs.Tracks.{dataCount, inDirectory}
+use Rattle.slots.specs.Tracks.{dataCount, dataBit, inDirectory}
+use Rattle.slots.proofs.Tracks.{count-data, outside-data}
 use Rattle.directory.specs.Places.{slots}
 use Rattle.directory.specs.Directory.{held, Directory, tracksOf, slotsRead, directory, liveAmong}
 use Rattle.surveys.specs.Survey.{earlier, cross, rowsAt, surveyAt, surveyBy, survey, union, counted, usedMap, refusedWith}
@@ -33,7 +34,7 @@ use Rattle.surveys.specs.declared.Survey.{Survey}
 use Rattle.surveys.specs.declared.UsedMap.{UsedMap}
 use Rattle.directory.proofs.Ends.{read-most}
 use Rattle.directory.proofs.Live.{directory-unread, live-read}
-use Rattle.surveys.proofs.Union.{union-dead, union-live, union-rest, length-union, share-union, counted-bytes, counted-count, counted-tracks}
+use Rattle.surveys.proofs.Union.{union-dead, union-live, union-rest, length-union, has-union, share-union, counted-bytes, counted-count, counted-tracks}
 
 -- ---- an earlier live slot, as a loop looks for it
 
@@ -185,6 +186,21 @@ passed-survey n v h = none-sweep slots (surveyAt false n v) (λ i l. by i l (v i
     by : (i : ℕ) → i < slots → (o : Option (List ℕ)) → v i ≡ o → surveyAt false n v i ≡ none
     by i l none p = survey-dead false n v i p
     by i l (some s) p = at-passed n v i s p (h i s l p)
+
+-- where no row holds, the used bits are data bits, and no more than these
+pub used-data : (n : ℕ) (v : Directory) → survey n v ≡ none → (b : ℕ) → b < 1560 → has (union v slots) b ≡ true → dataBit n b ≡ true
+used-data n v e b h q =
+    let j = some-any slots (λ i. held false (λ s. has (mapOf s) b) (v i)) (sym (has-union v slots b h) ∙ q) in
+    by (j .0) (j .1) (v (j .0)) refl (j .2)
+  where
+    by : (i : ℕ) → i < slots → (o : Option (List ℕ)) → v i ≡ o → held false (λ s. has (mapOf s) b) o ≡ true → dataBit n b ≡ true
+    by i k none p m = absurd (true≢false (sym m))
+    by i k (some s) p m = outside-data n (mapOf s) (survey-passed n v e i s k p .outside) b h m
+
+pub used-few : (n : ℕ) (v : Directory) → n ≤ 35 → survey n v ≡ none → bitsOf (union v slots) ≤ dataCount n
+unfolding bitsOf
+used-few n v h e =
+    omega (arith, count-data n h, count-less 1560 (dataBit n) (has (union v slots)) (used-data n v e))
 
 -- ---- the pass, turn by turn: the used map so far, and the reply of the slots from i on
 
