@@ -35,7 +35,7 @@ tracks-agree d e q = ap (λ (f : ℕ → ℕ). tracksBy (f 255)) q
 
 -- ---- as the code meets byte 255
 
-label-byte : (d : List ℕ) → labelOf d 255 ≡ getD d 255 0
+pub label-byte : (d : List ℕ) → labelOf d 255 ≡ getD d 255 0
 unfolding labelOf isLabel slotAt pastGap
 label-byte d = part-at 0 256 d 255 (omega arith)
 
