@@ -1,20 +1,21 @@
 -- Directory tracks beyond four: how many there can be, which map bits are data, and how many those are.
-use Prim.Native.Nat.{ℕ, zero, suc, _+_, _-_, _*_, _≤_, _<_, min}
+use Prim.Native.Nat.{ℕ, zero, suc, _+_, _-_, _*_, _/_, _%_, _^_, _≤_, _<_, min}
+use native.Mathlib.Nat.{zero-div}
 use native.Mathlib.Numerals.{add-one}
 use mathlib.Core.Path.{_≡_, refl, sym, ap, _∙_}
-use mathlib.Core.Bool.{Bool, true, false, cond, not, _&&_, _||_, and-eq-true-iff, and-true, and-false, true≢false}
+use mathlib.Core.Bool.{Bool, true, false, cond, not, _&&_, _||_, and-eq-true-iff, and-false, true≢false}
 use mathlib.Core.List.{List}
 use mathlib.Core.Logic.{_⊎_, inl, inr, ⊎-elim}
 use native.Mathlib.Omega.{arith}
 use borrow.Author.Tests.{ltb-true, ltb-false, lt-ltb, le-ltb, not-true, leb-true, le-leb, lt-leb, eqb-true, eqb-false, eq-eqb, ne-eqb}
 use lib.Dec.{eqb, leb, ltb}
-use lib.ListN.{length, length-replicate}
+use lib.ListN.{length, getD, length-replicate}
 use Rattle.buffers.specs.Bytes.{count, any}
 use Rattle.buffers.proofs.Lists.{below-or-not}
-use Rattle.buffers.proofs.Counts.{count-add, count-all, count-none, any-cong, any-none, none-any}
-use Rattle.maps.specs.Bits.{has, share, clear, marked}
+use Rattle.buffers.proofs.Counts.{count-add, count-all, count-none, any-none, any-some, none-any}
+use Rattle.maps.specs.Bits.{has, clear, marked}
 use Rattle.maps.proofs.Laws.{has-clear, length-marked, has-marked}
-use Rattle.slots.specs.Tracks.{isLabel, tracksBy, badTracks, dataCount, dataBit, inDirectory, innerTo, innerMap}
+use Rattle.slots.specs.Tracks.{isLabel, tracksBy, badTracks, dataCount, dataBit, inDirectory, clearAt, innerTo, innerMap}
 
 pub tracks-few : (b : ℕ) → tracksBy b ≤ 35
 unfolding tracksBy
@@ -132,6 +133,42 @@ data-outside n m h = none-any 1560 (λ b. has m b && not (dataBit n b)) (λ b l.
     by b l true q = rw (h b l q)
     by b l false q = refl
 
+-- ---- as a loop looks for such a bit
+
+-- none from 1 on and below b
+abbrev pub NoneTo : List ℕ → ℕ → Type 0
+NoneTo m b = (c : ℕ) → 1 ≤ c → c < b → has m c ≡ false
+
+pub none-to : (m : List ℕ) → NoneTo m 1
+none-to m c h l = absurd (omega arith)
+
+pub none-more : (m : List ℕ) (b : ℕ) → NoneTo m b → has m b ≡ false → NoneTo m (b + 1)
+none-more m b w e c h l = ⊎-elim (λ k. w c h k) (λ (k : b ≤ c). let z : c ≡ b = omega arith in ap (has m) z ∙ e) (below-or-not c b)
+
+-- the bits of a byte that is clear
+pub none-byte : (m : List ℕ) (b : ℕ) → NoneTo m b → clearAt m b ≡ true → NoneTo m (b + 8)
+unfolding clearAt has
+none-byte m b w e c h l =
+    let q = and-eq-true-iff (eqb (b % 8) 0) (eqb (getD m (b / 8) 0) 0) .0 e in
+    let r : b % 8 ≡ 0 = eqb-true (b % 8) 0 (q .0) in
+    ⊎-elim (λ k. w c h k)
+    (λ (k : b ≤ c).
+    let z : c / 8 ≡ b / 8 = omega arith in
+    ap (λ (x : ℕ). eqb (x / 2 ^ (c % 8) % 2) 1) (ap (λ (j : ℕ). getD m j 0) z ∙ eqb-true (getD m (b / 8) 0) 0 (q .1)) ∙ ap (λ (x : ℕ). eqb (x % 2) 1) (zero-div (2 ^ (c % 8))))
+    (below-or-not c b)
+
+-- past the directory's bits there is none; and one that is met is one
+pub inside-not : (n end b : ℕ) (m : List ℕ) → end ≡ 10 * min n 156 → end ≤ b → NoneTo m b → inDirectory n m ≡ false
+inside-not n end b m e h w =
+    data-outside n m (λ c l q.
+    ⊎-elim (λ (k : c < 1). is-data-first n c (omega arith))
+    (λ (k : 1 ≤ c). ⊎-elim (λ (j : c < b). absurd (true≢false (sym q ∙ w c k j))) (λ (j : b ≤ c). is-data-from n c l (omega arith)) (below-or-not c b)) (below-or-not c 1))
+
+pub inside-met : (n end b : ℕ) (m : List ℕ) → end ≡ 10 * min n 156 → 1 ≤ b → b < end → has m b ≡ true → inDirectory n m ≡ true
+unfolding inDirectory
+inside-met n end b m e h l q =
+    any-some 1560 (λ b. has m b && not (dataBit n b)) b (omega arith) (rw (q, not-data n b (omega arith) (omega arith)))
+
 -- ---- the map of the bits inside the directory
 
 pub length-inner : (n k : ℕ) → length (innerTo n k) ≡ 195
@@ -170,20 +207,6 @@ inner-bits n b (suc k) h = by (inner-bits n b k (omega arith)) (dataBit n k) ref
 
 pub has-inner : (n b : ℕ) → b < 1560 → has (innerMap n) b ≡ not (dataBit n b)
 has-inner n b h = inner-bits n b 1560 (omega arith) ∙ ap (λ (t : Bool). t && not (dataBit n b)) (lt-ltb b 1560 h)
-
--- a map shares a bit with it where it has one inside the directory
-pub inside-share : (n : ℕ) (m : List ℕ) → share (innerMap n) m ≡ inDirectory n m
-unfolding share inDirectory
-inside-share n m =
-    any-cong 1560 (λ b. has (innerMap n) b && has m b) (λ b. has m b && not (dataBit n b))
-    (λ b h. ap (λ (t : Bool). t && has m b) (has-inner n b h) ∙ turned (not (dataBit n b)) (has m b))
-  where
-    turned : (s t : Bool) → (s && t) ≡ (t && s)
-    turned true t = sym (and-true t)
-    turned false t = sym (and-false t)
-
-pub inside-none : (n : ℕ) (m : List ℕ) → n ≡ 0 → inDirectory n m ≡ false
-inside-none n m e = ap (λ (k : ℕ). inDirectory k m) e ∙ data-outside 0 m (λ b l q. data-all b l)
 
 -- as a loop makes it: bit 0 is data, the next are not, and those from its end on are
 pub inner-first : (n : ℕ) → clear ≡ innerTo n 1

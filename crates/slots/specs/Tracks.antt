@@ -1,9 +1,10 @@
 -- Directory tracks beyond four. "These disks have up to 39 directory tracks.": how many there are, which bytes of slot 1 are the
 -- disk's own, and which map bits are data. Here n is the number of those tracks.
-use Prim.Native.Nat.{ℕ, zero, suc, _-_, _*_}
+use Prim.Native.Nat.{ℕ, zero, suc, _-_, _*_, _/_, _%_}
 use mathlib.Core.Bool.{Bool, cond, not, _&&_, _||_}
 use mathlib.Core.List.{List}
 use lib.Dec.{eqb, leb, ltb}
+use lib.ListN.{getD}
 use Rattle.buffers.specs.Bytes.{any}
 use Rattle.maps.specs.Bits.{has, clear, marked}
 
@@ -31,6 +32,10 @@ dataBit n b = ltb b 1560 && (eqb b 0 || leb (10 * n) b)
 -- "a map bit inside the directory"
 unfoldable pub inDirectory : ℕ → List ℕ → Bool
 inDirectory n m = any 1560 (λ b. has m b && not (dataBit n b))
+
+-- byte b / 8 of a map is 0, and bit b is its first
+unfoldable pub clearAt : List ℕ → ℕ → Bool
+clearAt m b = eqb (b % 8) 0 && eqb (getD m (b / 8) 0) 0
 
 -- the map of the bits inside the directory: of those below k, and of all
 unfoldable pub innerTo : ℕ → ℕ → List ℕ

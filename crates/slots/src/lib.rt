@@ -4,7 +4,7 @@ ghost use mathlib.Core.Path.{_≡_};
 ghost use Prim.Native.Nat.{_+_, _*_, _≤_, _<_};
 ghost use Rattle.refusals.specs.Answers.{replyOf};
 ghost use Rattle.slots.specs.Slot.{isLive, isNameless, hidden, protected, kindOf, known, carried, spectrum, readable, nameOf, isNamed, countOf, firstOf, mapOf, pageOf, offsetOf, pagesOf, remainderOf, facts, lengthOf};
-ghost use Rattle.slots.specs.Tracks.{dataCount, innerMap};
+ghost use Rattle.slots.specs.Tracks.{dataCount, inDirectory, clearAt, innerMap};
 ghost use Rattle.slots.specs.Rows.{ownReplyBy, wasteful};
 use refusals::Reason;
 use refusals::Verdict;
@@ -161,6 +161,36 @@ pub fn data_count(tracks: usize) -> usize
         return 0;
     }
     1561 - 10 * tracks
+}
+
+// Whether the eight bits of a map from `b` on are clear, and `b` is the first of a byte.
+fn is_clear(map: &[u8], b: usize) -> bool
+    ensures { λ r. ⌜ r ≡ clearAt (now (map .entry)) b ⌝ }
+{
+    if b % 8 != 0 {
+        return false;
+    }
+    buffers::byte_at(map, b / 8) == 0
+}
+
+// Whether a map has a bit inside the directory, with so many tracks beyond four. Of a byte that is clear no bit is looked at.
+pub fn is_inside(map: &[u8], tracks: usize) -> bool
+    ensures { λ r. ⌜ r ≡ inDirectory tracks (now (map .entry)) ⌝ }
+{
+    let end = 10 * buffers::lesser(tracks, 156);
+    let mut b: usize = 1;
+    while b < end {
+        let c = b;
+        if is_clear(map, c) {
+            b += 8;
+        } else {
+            b += 1;
+            if maps::has_bit(map, c) {
+                return true;
+            }
+        }
+    }
+    false
 }
 
 // The map of the bits inside the directory, with so many tracks beyond four: those of tracks 4 on, but the first.

@@ -6,7 +6,6 @@ ghost use Rattle.maps.specs.Bits.{clear, join};
 ghost use Rattle.refusals.specs.Answers.{replyOf};
 ghost use Rattle.names.specs.Name.{sameName};
 ghost use Rattle.slots.specs.Slot.{nameOf};
-ghost use Rattle.slots.specs.Tracks.{inDirectory, innerMap};
 ghost use Rattle.slots.specs.Rows.{ownReply};
 ghost use Rattle.directory.specs.Directory.{tracksOf, slotsRead, directory};
 ghost use Rattle.surveys.specs.Survey.{earlier, surveyAt, surveyBy, counted, freeOf, refusedWith};
@@ -78,28 +77,16 @@ fn named_before(dir: &[u8], i: usize, name: &[u8], filter: &[u8]) -> bool
     false
 }
 
-// Whether a map has a bit inside the directory; `inner` is the map of those bits.
-fn is_inside(map: &[u8], tracks: usize, inner: &[u8]) -> bool
-    requires { ⌜ now inner ≡ innerMap tracks ⌝ }
-    ensures { λ r. ⌜ r ≡ inDirectory tracks (now (map .entry)) ⌝ }
-{
-    if tracks == 0 {
-        return false;
-    }
-    maps::shares(inner, map)
-}
-
 // Rows 2 and 4 to 7 at a live slot.
-fn own_at(s: &[u8], slot: usize, tracks: usize, inner: &[u8]) -> Verdict
-    requires { ⌜ now inner ≡ innerMap tracks ⌝ }
+fn own_at(s: &[u8], slot: usize, tracks: usize) -> Verdict
     ensures { λ r. ⌜ replyOf r ≡ ownReply tracks slot (now (s .entry)) ⌝ }
 {
-    let inside = is_inside(slots::map_of(s), tracks, inner);
+    let inside = slots::is_inside(slots::map_of(s), tracks);
     slots::own_rows(s, slot, slots::data_count(tracks), inside)
 }
 
 // Rows 2 to 9 at the live slot `i`, whose bytes are `s`, and 22 after 7 where `release` asks for it; `used` is the used map
-// of the slots before it, and `filter` has the bits of their names; `inner` is the map of the bits inside the directory.
+// of the slots before it, and `filter` has the bits of their names.
 fn live_rows(
     dir: &[u8],
     i: usize,
@@ -108,13 +95,12 @@ fn live_rows(
     filter: &[u8],
     release: bool,
     tracks: usize,
-    inner: &[u8],
 ) -> Verdict
-    requires { ⌜ Reached (now dir) i (now s) (now used) (now filter) × (now inner ≡ innerMap tracks) ⌝ }
+    requires { ⌜ Reached (now dir) i (now s) (now used) (now filter) ⌝ }
     ensures { λ r. ⌜ replyOf r ≡ surveyAt release tracks (directory (now (dir .entry))) i ⌝ }
 {
     let slot = i + 1;
-    match own_at(s, slot, tracks, inner) {
+    match own_at(s, slot, tracks) {
         Verdict::Unsound(f) => Verdict::Unsound(f),
         Verdict::Sound => {
             if release && slots::is_wasteful(s) {
@@ -175,7 +161,6 @@ pub fn survey_slots(dir: &[u8], release: bool) -> Survey
     ensures { λ r. ⌜ Surveyed (surveyBy release (tracksOf (now (dir .entry))) (directory (now (dir .entry)))) (now (dir .entry)) r ⌝ }
 {
     let tracks = directory::tracks_of(dir);
-    let inner = slots::inner_map(tracks);
     let end = directory::slots_read(dir);
     let mut used = unused(tracks);
     let mut filter = [0u8; FILTER_BYTES];
@@ -186,7 +171,7 @@ pub fn survey_slots(dir: &[u8], release: bool) -> Survey
         let k = i;
         i += 1;
         if slots::is_live(s) {
-            match live_rows(dir, k, s, &used.bytes, &filter, release, tracks, &inner) {
+            match live_rows(dir, k, s, &used.bytes, &filter, release, tracks) {
                 Verdict::Unsound(f) => {
                     return refused(Verdict::Unsound(f));
                 }

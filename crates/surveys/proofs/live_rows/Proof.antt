@@ -14,13 +14,13 @@ use Rattle.surveys.proofs.live_rows.Statement.{statement}
 use Rattle.surveys.proofs.live_rows.Tie as tie
 
 -- past row 22 it was not asked for, or it does not hold
-lean : (c : tie.Joined1) → let a = c .before .before .before .before .before .before .before .before .before .args in (a .release && wasteful (facts (now (a .s)))) ≡ false
+lean : (c : tie.Joined1) → let a = c .before .before .before .before .before .before .before .before .args in (a .release && wasteful (facts (now (a .s)))) ≡ false
 lean c = ⊎-elim (λ t. rw (t .0 .taken) (sym (t .1 .ensures) ∙ t .2 .left)) (λ t. rw (t .left)) (c .if1 .came)
 
 add-slot : tie.Need-add-slot
 add-slot c =
-    let p = c .before .before .before .before .before in
-    omega (arith, p .pre .0 .slot, read-most (now (p .args .dir)))
+    let p = c .before .before .before .before in
+    omega (arith, p .pre .slot, read-most (now (p .args .dir)))
 
 own-at-requires : tie.Need-own-at-requires
 own-at-requires c κs = search needs
@@ -42,7 +42,7 @@ returns c =
     let t = c .before in
     let a = t .before .before in
     let o = a .before .before .before in
-    let p = o .before .before .before .before .before .before .pre .0 in
+    let p = o .before .before .before .before .before .pre in
     c .unsound .ensures
     ∙ slot-waste _ _ _ _ _ _ (p .here) (p .used) _ (o .own-at .ensures) (a .before .enum-told .given .1)
     (rw (a .if1 .taken) (sym (t .before .is-wasteful .ensures) ∙ t .if2 .taken))
@@ -62,7 +62,7 @@ returns-2 c =
     let m = t .before .before in
     let j = m .before in
     let o = j .before .before .before in
-    let p = o .before .before .before .before .before .before .pre .0 in
+    let p = o .before .before .before .before .before .pre in
     c .unsound2 .ensures
     ∙ slot-shared _ _ _ _ _ _ (p .here) (p .used) _ (o .own-at .ensures) (j .before .enum-told .given .1) (lean j) (m .map-of .ensures) (t .before .shares .ensures) (t .if3 .taken)
 
@@ -82,7 +82,7 @@ returns-3 c =
     let m = n .before .before .before in
     let j = m .before in
     let o = j .before .before .before in
-    let p = o .before .before .before .before .before .before .pre .0 in
+    let p = o .before .before .before .before .before .pre in
     c .unsound3 .ensures
     ∙ slot-twice _ _ _ _ _ _ (p .here) (p .used) _ (o .own-at .ensures) (j .before .enum-told .given .1) (lean j) (m .map-of .ensures) (n .before .before .shares .ensures)
     (n .before .if3 .left) (n .name-of .ensures) (t .before .named-before .ensures) (t .if4 .taken)
@@ -90,7 +90,7 @@ returns-3 c =
 returns-4 : tie.Need-returns-4
 returns-4 c =
     let o = c .before .before .before in
-    let p = o .before .before .before .before .before .before .pre .0 in
+    let p = o .before .before .before .before .before .pre in
     slot-own _ _ _ _ _ _ (p .here) (p .used) _ (o .own-at .ensures) _ (c .before .f .given .1)
 
 returns-5 : tie.Need-returns-5
@@ -99,7 +99,7 @@ returns-5 c =
     let m = n .before .before .before in
     let j = m .before in
     let o = j .before .before .before in
-    let p = o .before .before .before .before .before .before .pre .0 in
+    let p = o .before .before .before .before .before .pre in
     slot-clear _ _ _ _ _ _ (p .here) (p .used) _ (o .own-at .ensures) (j .before .enum-told .given .1) (lean j) (m .map-of .ensures) (n .before .before .shares .ensures)
     (n .before .if3 .left) (n .name-of .ensures) (c .before .named-before .ensures) (c .if4 .left)
 
