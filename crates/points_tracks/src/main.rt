@@ -2,6 +2,7 @@
 // which map bits are data, what a save into slot 1 keeps, and a directory of 778 slots.
 ghost use Prim.Native.Nat.{_<_};
 use geometry::Address;
+use refusals::Answer;
 
 fn put(image: &mut [u8], at: usize, b: u8) {
     let one = [b];
@@ -88,6 +89,21 @@ fn erased(what: &[u8], image: &mut [u8], name: &[u8]) {
     points::told(answer, &list);
 }
 
+// A body of four bytes.
+fn read(what: &[u8], image: &[u8], name: &[u8]) {
+    let mut body = [0u8; 4];
+    points::title(b"read of ", what);
+    match files::read(image, name, &mut body) {
+        Answer::Done(len, _) => {
+            points::number(b"length ", len);
+            points::say(b", bytes ");
+            points::say(&body);
+            points::say(b"\n");
+        }
+        Answer::No(r) => points::refused(r),
+    }
+}
+
 // Bytes 210 to 219, 252, 253 and 255 of slot 1.
 fn label(image: &[u8]) {
     points::say(b"name ");
@@ -149,7 +165,7 @@ fn a_full_directory() {
     points::listed(b"777 files", &image, &mut buf);
     saved(b"one more", &mut image, b"LAST");
     points::listed(b"778 files", &image, &mut buf);
-    points::read(b"the last", &image, b"LAST", &mut buf);
+    read(b"the last", &image, b"LAST");
     saved(b"one too many", &mut image, b"NONE");
     erased(b"the last", &mut image, b"LAST");
     saved(b"another in its place", &mut image, b"OTHER");
