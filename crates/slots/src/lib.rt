@@ -3,7 +3,7 @@
 ghost use mathlib.Core.Path.{_≡_};
 ghost use Prim.Native.Nat.{_+_, _*_, _≤_, _<_};
 ghost use Rattle.refusals.specs.Answers.{replyOf};
-ghost use Rattle.slots.specs.Slot.{isLive, isNameless, hidden, protected, kindOf, known, carried, spectrum, readable, nameOf, isNamed, countOf, firstOf, mapOf, pageOf, offsetOf, pagesOf, remainderOf, facts, lengthOf};
+ghost use Rattle.slots.specs.Slot.{isLive, isNameless, hidden, protected, kindOf, known, carried, spectrum, readable, nameOf, isNamed, countOf, firstOf, mapOf, pageOf, offsetOf, pagesOf, remainderOf, facts, lengthOf, isDirectory, codeOf, parentOf};
 ghost use Rattle.slots.specs.Tracks.{dataCount, inDirectory, clearAt, innerMap};
 ghost use Rattle.slots.specs.Rows.{ownReplyBy, wasteful};
 use refusals::Reason;
@@ -82,6 +82,27 @@ pub fn is_readable(kind: usize) -> bool
         return true;
     }
     is_spectrum(kind)
+}
+
+// Whether a slot is a directory.
+pub fn is_directory(s: &[u8]) -> bool
+    ensures { λ r. ⌜ r ≡ isDirectory (now (s .entry)) ⌝ }
+{
+    kind_of(s) == 21
+}
+
+// The code of a directory.
+pub fn code_of(s: &[u8]) -> usize
+    ensures { λ r. ⌜ (r ≡ codeOf (now (s .entry))) × (r < 256) ⌝ }
+{
+    buffers::num_at(s, 250)
+}
+
+// The code of the directory that a slot is in; 0 for the root.
+pub fn parent_of(s: &[u8]) -> usize
+    ensures { λ r. ⌜ (r ≡ parentOf (now (s .entry))) × (r < 256) ⌝ }
+{
+    buffers::num_at(s, 254)
 }
 
 pub fn name_of(s: &[u8]) -> &[u8]
