@@ -72,3 +72,7 @@ module _ (d : List ℕ) (c : Codes) (t : Tables d c) where
           reply = ap replyOf h ∙ sym placed;
           number = n ∙ codes-sound e .number ∙ sym (ap (λ (o : Reply). numberOr o (directory d)) z);
         }
+
+-- what its caller learns
+pub nests-number : (d : List ℕ) (r : Nesting) → Nests d r → treeReply (directory d) ≡ none → r .number ≡ directories (directory d)
+nests-number d r n e = n .number ∙ ap (λ (o : Reply). numberOr o (directory d)) e
