@@ -53,7 +53,7 @@ sum-one zero f i l h = absurd (omega arith)
 sum-one (suc n) f i l h =
     ⊎-elim (λ (e : i ≡ n). let z : sum n f ≡ 0 = sum-none n f (λ k q. h k (omega arith) (λ w. omega arith)) in rw (z, e) (omega arith))
     (λ (q : i < n). let z : f n ≡ 0 = h n (omega arith) (λ w. omega arith) in
-        omega (arith, sum-one n f i q (λ k p. h k (omega arith)))) (eq-or-lt-of-le (le-of-suc-le-suc l))
+    omega (arith, sum-one n f i q (λ k p. h k (omega arith)))) (eq-or-lt-of-le (le-of-suc-le-suc l))
 
 pub sum-part : (n : ℕ) (f : ℕ → ℕ) (i : ℕ) → i < n → f i ≤ sum n f
 unfolding sum
@@ -151,7 +151,7 @@ few n q f l h once =
     covers (x ∷ l) h =
         let w = h x (omega (arith, times-same x l)) in
         let e : sum n (λ i. cond (q i) (times (f i) (x ∷ l)) 0) ≡ sum n (λ i. cond (q i) (cond (eqb (f i) x) 1 0) 0) + sum n (λ i. cond (q i) (times (f i) l) 0)
-            = sum-cong n _ _ (λ i k. one x l i (q i)) ∙ sum-plus n _ _ in
+        = sum-cong n _ _ (λ i k. one x l i (q i)) ∙ sum-plus n _ _ in
         let z : _≡_ {A = ℕ} (cond (q (w .0)) (cond (eqb (f (w .0)) x) 1 0) 0) 1 = rw (w .2, eq-eqb (f (w .0)) x (w .3)) in
         omega (arith, covers l (λ y p. h y (omega (arith, times-more y x l))), sum-part n (λ i. cond (q i) (cond (eqb (f i) x) 1 0) 0) (w .0) (w .1))
 

@@ -107,8 +107,14 @@ module _ (v : Directory) (n c : ℕ) where
       unfolding beneath level
       filled-room s q h k l =
           let z : (i + 1) + (slots - (i + 1)) ≡ slots = omega arith in
-          omega (arith, f .place, ap length (more _ (level-in i s q h)), length-append (partly v n c i) ((i + 1) ∷ inside n v s),
-            gather-le (slots - (i + 1)) (i + 1) (levelAt v c (inside n v)), ap (λ (m : ℕ). length (gather m (levelAt v c (inside n v)))) z)
+          omega (
+            arith,
+            f .place,
+            ap length (more _ (level-in i s q h)),
+            length-append (partly v n c i) ((i + 1) ∷ inside n v s),
+            gather-le (slots - (i + 1)) (i + 1) (levelAt v c (inside n v)),
+            ap (λ (m : ℕ). length (gather m (levelAt v c (inside n v)))) z,
+          )
 
       -- a directory, and what a call of itself put, which enters one directory less
       pub folder-room : (s : List ℕ) → v i ≡ some s → parentOf s ≡ c → isDirectory s ≡ true → 0 < n → i < slots → from + length (beneath n v c) ≤ 65535
@@ -130,7 +136,7 @@ module _ (v : Directory) (n c : ℕ) where
     filled-all i at now f h e =
         let z : i + (slots - i) ≡ slots = omega arith in
         let w : partly v n c i ≡ partly v n c slots =
-            sym (gather-rest (slots - i) i (levelAt v c (inside n v)) (λ k l. level-dead k (e k l))) ∙ ap (partly v n c) z in
+        sym (gather-rest (slots - i) i (levelAt v c (inside n v)) (λ k l. level-dead k (e k l))) ∙ ap (partly v n c) z in
         record { place = f .place ∙ ap (λ (l : List ℕ). from + length l) w; numbers = f .numbers ∙ ap (put buf from) w }
 
     pub filled-long : (i at : ℕ) (now : List ℕ) → Filled v n c buf from i at now → length now ≡ length buf

@@ -8,10 +8,10 @@ use mathlib.Core.Option.{Option, none, some}
 use native.Mathlib.Omega.{arith}
 use borrow.Author.Tests.{eqb-true}
 use lib.Dec.{eqb}
-use Rattle.directory.specs.Places.{slots}
-use Rattle.directory.specs.Directory.{held, Directory}
 use Rattle.buffers.specs.Sums.{gather}
 use Rattle.slots.specs.Slot.{isDirectory, codeOf, parentOf}
+use Rattle.directory.specs.Places.{slots}
+use Rattle.directory.specs.Directory.{held, Directory}
 use Rattle.trees.specs.Tree.{directories, up, upBy, levelAt, level, inside, beneath, tree}
 use Rattle.trees.specs.Under.{Live, Folder, Under, Nested}
 use Rattle.trees.proofs.Up.{Coded, Apart, up-of, root-by, by-front, by-add, by-later, repeats, itself-under, up-under}
@@ -60,8 +60,8 @@ module _ (v : Directory) (n : Nested v) where
       back x y h q w =
           let g : (y - x - 1) + suc x ≡ y = omega arith in
           let r : upBy v (y - x - 1) (parentOf (w .bytes)) ≡ codeOf (w .bytes) =
-              ap (upBy v (y - x - 1)) (sym (up-of v a (w .at) (w .bytes) (w .folder)) ∙ ap (up v) (w .code)) ∙ sym (by-add v a (y - x - 1) (suc x) (codeOf s))
-              ∙ ap (λ (k : ℕ). upBy v k (codeOf s)) g ∙ sym q ∙ sym (w .code) in
+          ap (upBy v (y - x - 1)) (sym (up-of v a (w .at) (w .bytes) (w .folder)) ∙ ap (up v) (w .code)) ∙ sym (by-add v a (y - x - 1) (suc x) (codeOf s))
+          ∙ ap (λ (k : ℕ). upBy v k (codeOf s)) g ∙ sym q ∙ sym (w .code) in
           absurd (n .apart (w .at) (w .bytes) (w .folder) (up-under v a (codeOf (w .bytes)) (n .own (w .at) (w .bytes) (w .folder)) (y - x - 1) (w .at) (w .bytes) (w .folder .live) r))
 
       by : (m : ℕ) → upBy v (directories v) (codeOf s) ≡ m → m ≡ 0
@@ -69,7 +69,7 @@ module _ (v : Directory) (n : Nested v) where
       by (suc m) e =
           let far : upBy v (directories v) (codeOf s) ≡ 0 → ⊥ = λ q. omega arith in
           let p = repeats v a (suc (directories v)) (λ k. upBy v k (codeOf s)) (omega arith)
-              (λ k l. step k (λ q. far (by-later v a k (directories v) (codeOf s) (omega arith) q))) in
+          (λ k l. step k (λ q. far (by-later v a k (directories v) (codeOf s) (omega arith) q))) in
           let w = step (p .low) (λ q. far (by-later v a (p .low) (directories v) (codeOf s) (omega (arith, p .rising, p .bounded)) q)) in
           back (p .low) (p .high) (p .rising) (p .same) w
 
@@ -92,7 +92,7 @@ module _ (v : Directory) (n : Nested v) where
       by true q r =
           level-cong v (codeOf s) (inside k v) (inside (suc k) v)
           (λ j t p e. r j t p (λ w z.
-              d q (ap (upBy v m) (sym e ∙ sym (up-of v own-codes j t (record { live = p; folder = w }))) ∙ sym (by-front v own-codes m (codeOf t)) ∙ z)))
+          d q (ap (upBy v m) (sym e ∙ sym (up-of v own-codes j t (record { live = p; folder = w }))) ∙ sym (by-front v own-codes m (codeOf t)) ∙ z)))
 
   pub more : (i : ℕ) (s : List ℕ) → Live v i s → inside (directories v) v s ≡ inside (suc (directories v)) v s
   unfolding upBy
@@ -123,7 +123,7 @@ module _ (v : Directory) (n : Nested v) where
       at k m s d r false q = refl
       at k m s d r true q =
           e (codeOf s) ∙ level-cong v (codeOf s) _ _ (λ j t p x. r j t p (λ w z.
-              d q (ap (upBy v m) (sym x ∙ sym (up-of v own-codes j t (record { live = p; folder = w }))) ∙ sym (by-front v own-codes m (codeOf t)) ∙ z)))
+          d q (ap (upBy v m) (sym x ∙ sym (up-of v own-codes j t (record { live = p; folder = w }))) ∙ sym (by-front v own-codes m (codeOf t)) ∙ z)))
 
       same : (k m i : ℕ) (s : List ℕ) → directories v ≤ k + m → Live v i s → (isDirectory s ≡ true → upBy v m (codeOf s) ≡ 0 → ⊥) → cond (isDirectory s) (f (codeOf s)) [] ≡ inside k v s
       same zero m i s h l d = ap (λ (b : Bool). cond b (f (codeOf s)) []) (deep m i s (omega arith) l d (isDirectory s) refl)

@@ -2,20 +2,21 @@
 -- or in a directory, and no directory lies beneath itself.
 use Prim.Native.Nat.{ℕ, zero, suc, _+_, _≤_, _<_}
 use mathlib.Core.Path.{_≡_, refl, sym, ap, _∙_}
-use mathlib.Core.Bool.{Bool, true, false, not, cond, _&&_, _||_, and-eq-true-iff, true≢false}
+use mathlib.Core.Bool.{Bool, true, false, not, cond, _&&_, _||_, true≢false}
 use mathlib.Core.List.{List, [], _∷_}
 use mathlib.Core.Option.{Option, none, some, Option·some-ne-none}
 use native.Mathlib.Omega.{arith}
 use borrow.Author.Tests.{eqb-true, eqb-false, eq-eqb, ne-eqb, not-true, not-false}
 use lib.Dec.{eqb}
 use Rattle.buffers.specs.Bytes.{any}
+use Rattle.buffers.proofs.Tests.{or-neither}
 use Rattle.buffers.proofs.Counts.{any-none, none-any, any-some, some-any}
 use Rattle.refusals.specs.Order.{Reply, _when_, row, rows, sweep}
 use Rattle.refusals.proofs.First.{else-none, none-else, rows-clear, clear-rows, sweep-none, none-sweep}
+use Rattle.slots.specs.Slot.{isDirectory, codeOf, parentOf}
 use Rattle.directory.specs.Places.{slots}
 use Rattle.directory.specs.Directory.{held, Directory}
 use Rattle.surveys.specs.Survey.{earlier}
-use Rattle.slots.specs.Slot.{isDirectory, codeOf, parentOf}
 use Rattle.trees.specs.Tree.{coded, inItself, codeAt, placing, placeAt, treeReply}
 use Rattle.trees.specs.Under.{Live, Folder, Under, Nested}
 use Rattle.trees.proofs.Up.{Coded, coded-is, is-coded, Apart, under-itself, itself-under}
@@ -63,11 +64,7 @@ coded-earlier v i c w l =
 
 -- ---- none given, nothing wrong
 
-or-false : (a b : Bool) → (a || b) ≡ false → (a ≡ false) × (b ≡ false)
-or-false true b e = absurd (true≢false e)
-or-false false b e = (refl, e)
-
-and-right : (a b : Bool) → (a && b) ≡ false → a ≡ true → b ≡ false
+pub and-right : (a b : Bool) → (a && b) ≡ false → a ≡ true → b ≡ false
 and-right true b e q = e
 and-right false b e q = absurd (true≢false (sym q))
 
@@ -78,7 +75,7 @@ module _ (v : Directory) where
   code-own : sweep slots (codeAt v) ≡ none → (i : ℕ) (s : List ℕ) → Folder v i s → (eqb (codeOf s) 0 ≡ false) × (earlier v i (coded (codeOf s)) ≡ false)
   code-own e i s f =
       let c = rows-clear (suc i) ((26 when wrong v i s) ∷ []) (sym (code-live v i s (f .live .here)) ∙ sweep-none slots (codeAt v) e i (f .live .below)) in
-      or-false _ _ (and-right (isDirectory s) _ (c .0) (f .folder))
+      or-neither _ _ (and-right (isDirectory s) _ (c .0) (f .folder))
 
   pub apart : sweep slots (codeAt v) ≡ none → Apart v
   apart e = record {

@@ -11,17 +11,15 @@ use borrow.Author.Tests.{eqb-true, eqb-false, eq-eqb, ne-eqb}
 use lib.Dec.{eqb}
 use lib.ListN.{length}
 use Rattle.buffers.specs.Bytes.{count}
+use Rattle.buffers.specs.Sums.{gather, times, sum}
 use Rattle.buffers.proofs.Lists.{below-or-not}
 use Rattle.buffers.proofs.Counts.{count-le}
+use Rattle.buffers.proofs.Sums.{sum-cong, sum-plus, sum-none, sum-one, times-gather, times-same, few}
+use Rattle.slots.specs.Slot.{isDirectory, codeOf, parentOf}
 use Rattle.directory.specs.Places.{slots}
 use Rattle.directory.specs.Directory.{held, Directory}
-use Rattle.buffers.specs.Sums.{gather}
-use Rattle.slots.specs.Slot.{isDirectory, codeOf, parentOf}
 use Rattle.trees.specs.Tree.{coded, directories, up, upBy, levelAt, level, inside, beneath, tree}
-use Rattle.buffers.specs.Sums.{times}
 use Rattle.trees.specs.Under.{Live, Folder, Under, direct, deeper, Nested, Holds}
-use Rattle.buffers.specs.Sums.{sum}
-use Rattle.buffers.proofs.Sums.{sum-cong, sum-plus, sum-none, sum-one, times-gather, times-same, few}
 use Rattle.trees.proofs.Up.{Apart, coded-is, is-coded, same-bytes, one-home, up-of, by-front, root-by}
 use Rattle.trees.proofs.Enough.{own-codes, to-root, tree-more}
 
@@ -151,9 +149,9 @@ module _ (v : Directory) where
     root-inside e (suc n) k t m =
         times-cond (suc i) (isDirectory t) (level v (codeOf t) (inside n v))
         ∙ cond-zero (isDirectory t) _ (λ q.
-            level-live (codeOf t) i s (inside n v) l
-            ∙ ap₂ _+_ (ap (λ (b : Bool). cond b 1 0) (ne-eqb (parentOf s) (codeOf t) (λ w. a .own k t (record { live = m; folder = q }) (sym w ∙ e))))
-              (among-zero (codeOf t) _ (λ j u p. root-inside e n j u p)))
+        level-live (codeOf t) i s (inside n v) l
+        ∙ ap₂ _+_ (ap (λ (b : Bool). cond b 1 0) (ne-eqb (parentOf s) (codeOf t) (λ w. a .own k t (record { live = m; folder = q }) (sym w ∙ e))))
+        (among-zero (codeOf t) _ (λ j u p. root-inside e n j u p)))
 
     pub in-root : parentOf s ≡ 0 → (n c : ℕ) → times (suc i) (beneath n v c) ≡ cond (eqb (parentOf s) c) 1 0
     unfolding beneath
@@ -191,8 +189,8 @@ module _ (v : Directory) where
       one-level n c r =
           level-live c i s (inside (suc n) v) l
           ∙ ap (λ (x : ℕ). cond (eqb (parentOf s) c) 1 0 + x)
-            (among-cong c _ _ (λ k t m. r t) ∙ among-add c (λ t. cond (coded (parentOf s) t) 1 0) (λ t. times (suc h) (inside n v t))
-             ∙ ap (λ (x : ℕ). x + among v c (λ t. times (suc h) (inside n v t))) (among-coded c) ∙ sym (level-live c h u (inside n v) (f .live)))
+          (among-cong c _ _ (λ k t m. r t) ∙ among-add c (λ t. cond (coded (parentOf s) t) 1 0) (λ t. times (suc h) (inside n v t))
+          ∙ ap (λ (x : ℕ). x + among v c (λ t. times (suc h) (inside n v t))) (among-coded c) ∙ sym (level-live c h u (inside n v) (f .live)))
 
       shift : (n : ℕ) (t : List ℕ) → times (suc i) (inside (suc n) v t) ≡ cond (coded (parentOf s) t) 1 0 + times (suc h) (inside n v t)
       unfolding inside times coded

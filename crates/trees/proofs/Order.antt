@@ -1,38 +1,27 @@
 -- The refusal of 26 to 28 is the first in the order.
 use Prim.Native.Nat.{ℕ, zero, suc, _+_, _≤_, _<_}
 use mathlib.Core.Path.{_≡_, refl, sym, ap, ap₂, _∙_, subst}
-use mathlib.Core.Bool.{Bool, true, false, not, cond, _&&_, _||_, and-eq-true-iff, true≢false}
+use mathlib.Core.Bool.{Bool, true, false, not, cond, _&&_, _||_, true≢false}
 use mathlib.Core.List.{List, [], _∷_}
 use mathlib.Core.Logic.{_⊎_, inl, inr, ⊎-elim}
 use mathlib.Core.Option.{Option, none, some, Option·some-ne-none}
 use native.Mathlib.Omega.{arith}
 use borrow.Author.Tests.{eqb-true, eqb-false, eq-eqb, ne-eqb, not-true, not-false}
 use lib.Dec.{eqb}
+use Rattle.buffers.proofs.Tests.{and-both, or-either, or-neither}
 use Rattle.refusals.specs.Order.{Refusal, refuse, Reply, _when_, row, rows, sweep, FirstRow, FirstAt}
 use Rattle.refusals.proofs.First.{else-some, rows-clear, rows-first, sweep-none, none-sweep, sweep-first, first-sweep}
+use Rattle.slots.specs.Slot.{isDirectory, codeOf, parentOf}
 use Rattle.directory.specs.Places.{slots}
 use Rattle.directory.specs.Directory.{held, Directory}
 use Rattle.surveys.specs.Survey.{earlier}
-use Rattle.slots.specs.Slot.{isDirectory, codeOf, parentOf}
 use Rattle.trees.specs.Tree.{coded, inItself, codeAt, placing, placeAt, treeReply}
 use Rattle.trees.specs.Under.{Live, Folder, Under, Wrong, Lost, Knotted, Placed, Given, by-code, by-parent, by-knot}
 use Rattle.trees.proofs.Up.{Coded, Apart, same-bytes, under-itself, itself-under}
-use Rattle.trees.proofs.Numbers.{code-live, code-dead, place-live, place-dead, earlier-coded, coded-earlier, apart}
+use Rattle.trees.proofs.Numbers.{code-live, code-dead, place-live, place-dead, earlier-coded, coded-earlier, and-right, apart}
 
 refusal-is : (r : Refusal) (n s : ℕ) → r .number ≡ n → r .slot ≡ s → r ≡ refuse n s
 refusal-is r n s p q = ap₂ refuse p q
-
-or-split : (a b : Bool) → (a || b) ≡ true → (a ≡ true) ⊎ (b ≡ true)
-or-split true b e = inl refl
-or-split false b e = inr e
-
-or-false : (a b : Bool) → (a || b) ≡ false → (a ≡ false) × (b ≡ false)
-or-false true b e = absurd (true≢false e)
-or-false false b e = (refl, e)
-
-and-right : (a b : Bool) → (a && b) ≡ false → a ≡ true → b ≡ false
-and-right true b e q = e
-and-right false b e q = absurd (true≢false (sym q))
 
 module _ (v : Directory) (i : ℕ) (h : i < slots) where
   abbrev test : List ℕ → Bool
@@ -44,13 +33,13 @@ module _ (v : Directory) (i : ℕ) (h : i < slots) where
     where
       told : (s : List ℕ) → v i ≡ some s → test s ≡ true → Wrong v i
       told s q w =
-          let p = and-eq-true-iff (isDirectory s) (eqb (codeOf s) 0 || earlier v i (coded (codeOf s))) .0 w in
+          let p = and-both (isDirectory s) (eqb (codeOf s) 0 || earlier v i (coded (codeOf s))) w in
           record {
             bytes = s;
             folder = record { live = record { below = h; here = q }; folder = p .0 };
             why = ⊎-elim (λ z. inl (eqb-true (codeOf s) 0 z))
                 (λ z. let c = earlier-coded v i (codeOf s) (omega arith) z in inr (c .0 .at, c .0 .bytes, c .0 .folder, c .1, c .0 .code))
-                (or-split (eqb (codeOf s) 0) (earlier v i (coded (codeOf s))) (p .1));
+                (or-either (eqb (codeOf s) 0) (earlier v i (coded (codeOf s))) (p .1));
           }
 
       by : (o : Option (List ℕ)) → v i ≡ o → Wrong v i × (r ≡ refuse 26 (suc i))
@@ -63,7 +52,7 @@ module _ (v : Directory) (i : ℕ) (h : i < slots) where
   code-clear e w =
       let s : List ℕ = w .bytes in
       let c = rows-clear (suc i) ((26 when test s) ∷ []) (sym (code-live v i s (w .folder .live .here)) ∙ e) in
-      let p = or-false (eqb (codeOf s) 0) (earlier v i (coded (codeOf s))) (and-right (isDirectory s) _ (c .0) (w .folder .folder)) in
+      let p = or-neither (eqb (codeOf s) 0) (earlier v i (coded (codeOf s))) (and-right (isDirectory s) _ (c .0) (w .folder .folder)) in
       ⊎-elim (λ z. eqb-false (codeOf s) 0 (p .0) z)
       (λ z. true≢false (sym (coded-earlier v i (codeOf s) (record { at = z .0; bytes = z .1; folder = z .2; code = z .4 }) (z .3)) ∙ p .1)) (w .why)
 
@@ -74,7 +63,7 @@ module _ (v : Directory) (i : ℕ) (h : i < slots) where
 
     is-lost : (s : List ℕ) → Live v i s → lost s ≡ true → Lost v i
     is-lost s l w =
-        let p = and-eq-true-iff (not (eqb (parentOf s) 0)) (not (earlier v slots (coded (parentOf s)))) .0 w in
+        let p = and-both (not (eqb (parentOf s) 0)) (not (earlier v slots (coded (parentOf s)))) w in
         record {
           bytes = s;
           live = l;
@@ -91,7 +80,7 @@ module _ (v : Directory) (i : ℕ) (h : i < slots) where
 
     is-knot : (s : List ℕ) → Live v i s → (isDirectory s && inItself v (codeOf s)) ≡ true → Knotted v i
     is-knot s l w =
-        let p = and-eq-true-iff (isDirectory s) (inItself v (codeOf s)) .0 w in
+        let p = and-both (isDirectory s) (inItself v (codeOf s)) w in
         let f : Folder v i s = record { live = l; folder = p .0 } in
         record { bytes = s; folder = f; under = itself-under v a i s f (p .1) }
 
@@ -186,7 +175,7 @@ module _ (v : Directory) where
   unfolding treeReply
   given-only r (by-code i h w b) =
       let z : sweep slots (codeAt v) ≡ some (refuse 26 (suc i)) =
-          first-sweep slots (codeAt v) _ (record { at = i; below = h; before = λ k l. right-at k (omega arith) (b k l); here = wrong-at i h w }) in
+      first-sweep slots (codeAt v) _ (record { at = i; below = h; before = λ k l. right-at k (omega arith) (b k l); here = wrong-at i h w }) in
       rw z
   given-only r (by-parent n i h w b) =
       let z : sweep slots (codeAt v) ≡ none = no-code n in

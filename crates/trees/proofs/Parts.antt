@@ -73,7 +73,7 @@ module _ (v : Directory) (n : Nested v) where
       let x : g i ≡ suc i ∷ below s = level-here v c i s below (l .here) p in
       let y : g j ≡ suc j ∷ below t = level-here v c j t below (m .here) q in
       let e : a .0 ≡ b .0 ++ (suc i ∷ (below s ++ b .1)) =
-          a .3 ∙ b .2 ∙ ap (λ (k : List ℕ). b .0 ++ k ++ b .1) x ∙ append-assoc (b .0) (suc i ∷ below s) (b .1) in
+      a .3 ∙ b .2 ∙ ap (λ (k : List ℕ). b .0 ++ k ++ b .1) x ∙ append-assoc (b .0) (suc i ∷ below s) (b .1) in
       record {
         front = b .0;
         between = below s ++ b .1;

@@ -1,7 +1,7 @@
 -- Going up from a directory: where it leads, and that it comes back within as many steps as there are directories.
 use Prim.Native.Nat.{ℕ, zero, suc, _+_, _-_, _≤_, _<_}
 use mathlib.Core.Path.{_≡_, refl, sym, ap, ap₂, _∙_, subst}
-use mathlib.Core.Bool.{Bool, true, false, cond, _&&_, and-eq-true-iff, true≢false}
+use mathlib.Core.Bool.{Bool, true, false, cond, _&&_, true≢false}
 use mathlib.Core.List.{List, [], _∷_}
 use mathlib.Core.Logic.{_⊎_, inl, inr, ⊎-elim}
 use mathlib.Core.Option.{Option, none, some, Option·some-ne-none}
@@ -11,15 +11,16 @@ use borrow.Author.Tests.{eqb-true, eqb-false, eq-eqb, ne-eqb}
 use lib.Dec.{eqb}
 use lib.ListN.{length}
 use Rattle.buffers.specs.Bytes.{tab, count, any}
+use Rattle.buffers.specs.Sums.{times}
+use Rattle.buffers.proofs.Tests.{and-both}
 use Rattle.buffers.proofs.Lists.{length-tab, below-or-not}
 use Rattle.buffers.proofs.Counts.{any-some, some-any}
+use Rattle.buffers.proofs.Sums.{few, twice, times-found, Pair}
+use Rattle.slots.specs.Slot.{isDirectory, codeOf, parentOf}
 use Rattle.directory.specs.Places.{slots}
 use Rattle.directory.specs.Directory.{held, Directory}
-use Rattle.slots.specs.Slot.{isDirectory, codeOf, parentOf}
 use Rattle.trees.specs.Tree.{coded, directories, upAmong, up, upBy, inItself}
-use Rattle.buffers.specs.Sums.{times}
 use Rattle.trees.specs.Under.{Live, Folder, Under, direct, deeper}
-use Rattle.buffers.proofs.Sums.{few, twice, times-found, Pair}
 
 -- ---- a directory by its code
 
@@ -32,7 +33,7 @@ pub record Coded (v : Directory) (c : ℕ) : Type 0 where
 
 pub coded-is : (c : ℕ) (s : List ℕ) → coded c s ≡ true → (isDirectory s ≡ true) × (codeOf s ≡ c)
 unfolding coded
-coded-is c s e = let p = and-eq-true-iff (isDirectory s) (eqb (codeOf s) c) .0 e in (p .0, eqb-true (codeOf s) c (p .1))
+coded-is c s e = let p = and-both (isDirectory s) (eqb (codeOf s) c) e in (p .0, eqb-true (codeOf s) c (p .1))
 
 pub is-coded : (c : ℕ) (s : List ℕ) → isDirectory s ≡ true → codeOf s ≡ c → coded c s ≡ true
 unfolding coded
@@ -182,9 +183,9 @@ module _ (v : Directory) (a : Apart v) where
           let a1 : r + p .low ≡ suc n = omega (arith, p .rising, p .bounded) in
           let a2 : r + p .high ≡ (p .high - p .low) + suc n = omega (arith, p .rising, p .bounded) in
           let b1 : upBy v (r + p .high) c ≡ c =
-              by-add r (p .high) c ∙ ap (upBy v r) (sym (p .same)) ∙ sym (by-add r (p .low) c) ∙ ap (λ (k : ℕ). upBy v k c) a1 ∙ e in
+          by-add r (p .high) c ∙ ap (upBy v r) (sym (p .same)) ∙ sym (by-add r (p .low) c) ∙ ap (λ (k : ℕ). upBy v k c) a1 ∙ e in
           let b2 : upBy v (p .high - p .low) c ≡ c =
-              sym (ap (λ (k : ℕ). upBy v k c) a2 ∙ by-add (p .high - p .low) (suc n) c ∙ ap (upBy v (p .high - p .low)) e) ∙ b1 in
+          sym (ap (λ (k : ℕ). upBy v k c) a2 ∙ by-add (p .high - p .low) (suc n) c ∙ ap (upBy v (p .high - p .low)) e) ∙ b1 in
           let a3 : suc (p .high - p .low - 1) ≡ p .high - p .low = omega (arith, p .rising) in
           any-some (directories v) _ (p .high - p .low - 1) (omega (arith, p .rising, p .bounded))
           (eq-eqb _ c (ap (λ (k : ℕ). upBy v k c) a3 ∙ b2))

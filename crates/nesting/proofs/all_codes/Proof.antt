@@ -110,9 +110,11 @@ loop-again c =
     let s = y .before .before in
     let l = s .before in
     let a = l .before .loop in
-    let e = met-live _ _ (s .slot-at .ensures) (y .before .is-live .ensures) (read l) (y .if1 .taken) in
-    (omega arith, tabling-folder _ _ _ (a .i) (a .inv .1) (low l) _ e (sym (z .before .is-directory .ensures) ∙ z .if2 .taken) _ (o .code-of .ensures .0)
-        (g .if3 .left) (c .before .if4 .left) (o .code-of .ensures .1) _ (c .parent-of .ensures .0))
+    let e = met-live _ _ (s .slot-at .ensures) (y .before .is-live .ensures) (read l) (y .if1 .taken) in (
+      omega arith,
+      tabling-folder _ _ _ (a .i) (a .inv .1) (low l) _ e (sym (z .before .is-directory .ensures) ∙ z .if2 .taken) _ (o .code-of .ensures .0)
+          (g .if3 .left) (c .before .if4 .left) (o .code-of .ensures .1) _ (c .parent-of .ensures .0),
+    )
 
 loop-less-2 : tie.Need-loop-less-2 Inv-loop μ-loop
 loop-less-2 c = search needs

@@ -33,7 +33,7 @@ returns-2 c =
     let f = o .before .before in
     let n = f .before in
     c .unsound2 .ensures ∙ sym (rows-inside _ _ _ _ (sym (n .before .lies-nowhere .ensures) ∙ n .if1 .left) (sym (f .is-directory .ensures) ∙ o .before .if2 .taken)
-        _ (o .code-of .ensures .0) _ (b .comes-back .ensures) (c .before .if3 .taken))
+    _ (o .code-of .ensures .0) _ (b .comes-back .ensures) (c .before .if3 .taken))
 
 returns-3 : tie.Need-returns-3
 returns-3 c =
@@ -42,7 +42,7 @@ returns-3 c =
     let f = o .before .before in
     let n = f .before in
     sym (rows-folder _ _ _ _ (sym (n .before .lies-nowhere .ensures) ∙ n .if1 .left) (sym (f .is-directory .ensures) ∙ o .before .if2 .taken)
-        _ (o .code-of .ensures .0) _ (b .comes-back .ensures) (c .if3 .left))
+    _ (o .code-of .ensures .0) _ (b .comes-back .ensures) (c .if3 .left))
 
 returns-4 : tie.Need-returns-4
 returns-4 c =

@@ -96,9 +96,14 @@ fill-fill-requires t c κs =
     let l = s .before in
     let a = l .before .loop in
     let b = l .before .before .before .before in
-    let e = met-live _ _ (s .slot-at .ensures) (y .before .is-live .ensures) (read t (s .before)) (y .if1 .taken) in
-    (omega (arith, b .pre .0, z .if4 .taken), record { read = b .pre .1 .read; room = folder-room _ _ _ _ _ (a .i) _ _ (a .inv .1) _ e (sym (w .before .parent-of .ensures .0) ∙ w .if2 .taken)
-        (sym (d .is-directory .ensures) ∙ z .before .if3 .taken) (z .if4 .taken) (low t l) (b .pre .1 .room) _ (o .code-of .ensures .0) })
+    let e = met-live _ _ (s .slot-at .ensures) (y .before .is-live .ensures) (read t (s .before)) (y .if1 .taken) in (
+      omega (arith, b .pre .0, z .if4 .taken),
+      record {
+        read = b .pre .1 .read;
+        room = folder-room _ _ _ _ _ (a .i) _ _ (a .inv .1) _ e (sym (w .before .parent-of .ensures .0) ∙ w .if2 .taken)
+            (sym (d .is-directory .ensures) ∙ z .before .if3 .taken) (z .if4 .taken) (low t l) (b .pre .1 .room) _ (o .code-of .ensures .0);
+      },
+    )
 
 fill-loop-less : (t : ℕ) → fill-lts.Need-loop-less (claims t) (fill-at t) fill.Post fill-Inv-loop fill-μ-loop
 fill-loop-less t c = search needs
@@ -114,9 +119,11 @@ fill-loop-again t c =
     let y = w .before .before in
     let s = y .before .before in
     let a = s .before .before .loop in
-    let e = met-live _ _ (s .slot-at .ensures) (y .before .is-live .ensures) (read t (s .before)) (y .if1 .taken) in
-    (omega (arith, read t (s .before)), filled-folder _ _ _ _ _ (a .i) _ _ (a .inv .1) _ e (sym (w .before .parent-of .ensures .0) ∙ w .if2 .taken)
-        (sym (d .is-directory .ensures) ∙ z .before .if3 .taken) (z .if4 .taken) _ (p .put-number .ensures) _ (o .code-of .ensures .0) _ _ (f .fill .ensures))
+    let e = met-live _ _ (s .slot-at .ensures) (y .before .is-live .ensures) (read t (s .before)) (y .if1 .taken) in (
+      omega (arith, read t (s .before)),
+      filled-folder _ _ _ _ _ (a .i) _ _ (a .inv .1) _ e (sym (w .before .parent-of .ensures .0) ∙ w .if2 .taken)
+          (sym (d .is-directory .ensures) ∙ z .before .if3 .taken) (z .if4 .taken) _ (p .put-number .ensures) _ (o .code-of .ensures .0) _ _ (f .fill .ensures),
+    )
 
 fill-loop-less-2 : (t : ℕ) → fill-lts.Need-loop-less-2 (claims t) (fill-at t) fill.Post fill-Inv-loop fill-μ-loop
 fill-loop-less-2 t c = search needs
@@ -128,9 +135,11 @@ fill-loop-again-2 t c =
     let y = w .before .before in
     let s = y .before .before in
     let a = s .before .before .loop in
-    let e = met-live _ _ (s .slot-at .ensures) (y .before .is-live .ensures) (read t (s .before)) (y .if1 .taken) in
-    (omega (arith, read t (s .before)), filled-one _ _ _ _ _ (a .i) _ _ (a .inv .1) _ e (sym (w .before .parent-of .ensures .0) ∙ w .if2 .taken)
-        (inside-last _ _ _ (c .if4 .left)) _ (p .put-number .ensures))
+    let e = met-live _ _ (s .slot-at .ensures) (y .before .is-live .ensures) (read t (s .before)) (y .if1 .taken) in (
+      omega (arith, read t (s .before)),
+      filled-one _ _ _ _ _ (a .i) _ _ (a .inv .1) _ e (sym (w .before .parent-of .ensures .0) ∙ w .if2 .taken)
+          (inside-last _ _ _ (c .if4 .left)) _ (p .put-number .ensures),
+    )
 
 fill-loop-less-3 : (t : ℕ) → fill-lts.Need-loop-less-3 (claims t) (fill-at t) fill.Post fill-Inv-loop fill-μ-loop
 fill-loop-less-3 t c = search needs
@@ -142,9 +151,11 @@ fill-loop-again-3 t c =
     let y = w .before .before in
     let s = y .before .before in
     let a = s .before .before .loop in
-    let e = met-live _ _ (s .slot-at .ensures) (y .before .is-live .ensures) (read t (s .before)) (y .if1 .taken) in
-    (omega (arith, read t (s .before)), filled-one _ _ _ _ _ (a .i) _ _ (a .inv .1) _ e (sym (w .before .parent-of .ensures .0) ∙ w .if2 .taken)
-        (inside-file _ _ _ (sym (c .before .is-directory .ensures) ∙ c .if3 .left)) _ (p .put-number .ensures))
+    let e = met-live _ _ (s .slot-at .ensures) (y .before .is-live .ensures) (read t (s .before)) (y .if1 .taken) in (
+      omega (arith, read t (s .before)),
+      filled-one _ _ _ _ _ (a .i) _ _ (a .inv .1) _ e (sym (w .before .parent-of .ensures .0) ∙ w .if2 .taken)
+          (inside-file _ _ _ (sym (c .before .is-directory .ensures) ∙ c .if3 .left)) _ (p .put-number .ensures),
+    )
 
 fill-loop-less-4 : (t : ℕ) → fill-lts.Need-loop-less-4 (claims t) (fill-at t) fill.Post fill-Inv-loop fill-μ-loop
 fill-loop-less-4 t c = search needs

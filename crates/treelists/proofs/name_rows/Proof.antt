@@ -47,7 +47,7 @@ returns-3 c =
     let f = i .before .before in
     let a = f .before .before in
     sym (found-folder _ _ (a .before .if1 .left) (sym (a .is-askable .ensures) ∙ not-false _ (f .before .if2 .left)) _ (sym (f .find .ensures) ∙ ap foundAt (i .i .given .1))
-        _ (s .slot-at .ensures) (sym (c .before .is-directory .ensures) ∙ c .if3 .taken))
+    _ (s .slot-at .ensures) (sym (c .before .is-directory .ensures) ∙ c .if3 .taken))
 
 add-unsound : tie.Need-add-unsound
 add-unsound c =
@@ -72,7 +72,7 @@ returns-5 c =
     let f = i .before .before in
     let a = f .before .before in
     c .unsound3 .ensures ∙ sym (found-file _ _ (a .before .if1 .left) (sym (a .is-askable .ensures) ∙ not-false _ (f .before .if2 .left)) _ (sym (f .find .ensures) ∙ ap foundAt (i .i .given .1))
-        _ (s .slot-at .ensures) (sym (e .before .is-directory .ensures) ∙ e .if3 .left))
+    _ (s .slot-at .ensures) (sym (e .before .is-directory .ensures) ∙ e .if3 .left))
 
 pub name-rows-spec : {M : Type 1} → statement M
 name-rows-spec =
