@@ -5,7 +5,7 @@ ghost use Prim.Native.Nat.{_+_, _*_, _≤_, _<_};
 ghost use Rattle.refusals.specs.Answers.{replyOf};
 ghost use Rattle.slots.specs.Slot.{isLive, isNameless, hidden, protected, kindOf, known, carried, spectrum, readable, nameOf, isNamed, countOf, firstOf, mapOf, pageOf, offsetOf, pagesOf, remainderOf, facts, lengthOf, isDirectory, codeOf, parentOf};
 ghost use Rattle.slots.specs.Tracks.{dataCount, inDirectory, clearAt, innerMap};
-ghost use Rattle.slots.specs.Rows.{ownReplyBy, wasteful};
+ghost use Rattle.slots.specs.Rows.{ownReplyBy, wasteful, directoryReply, fileReplyBy};
 use refusals::Reason;
 use refusals::Verdict;
 
@@ -228,10 +228,23 @@ pub fn inner_map(tracks: usize) -> [u8; 195]
     map
 }
 
-// Rows 2 and 4 to 7 at a live slot: `most` is the number of data sectors, and `inside` says whether its map has a bit inside
-// the directory.
-pub fn own_rows(s: &[u8], slot: usize, most: usize, inside: bool) -> Verdict
-    ensures { λ r. ⌜ replyOf r ≡ ownReplyBy most inside slot (now (s .entry)) ⌝ }
+// Rows 4 and 5 at a directory's slot.
+fn directory_rows(s: &[u8], slot: usize) -> Verdict
+    ensures { λ r. ⌜ replyOf r ≡ directoryReply slot (now (s .entry)) ⌝ }
+{
+    if count_of(s) != 0 {
+        return refusals::unsound(Reason::CountOutOfRange, slot);
+    }
+    if maps::bits_of(map_of(s)) != 0 {
+        return refusals::unsound(Reason::BitsDiffer, slot);
+    }
+    Verdict::Sound
+}
+
+
+// Rows 2 and 4 to 7 at the slot of any other file.
+fn file_rows(s: &[u8], slot: usize, most: usize, inside: bool) -> Verdict
+    ensures { λ r. ⌜ replyOf r ≡ fileReplyBy most inside slot (now (s .entry)) ⌝ }
 {
     let kind = kind_of(s);
     if !is_known(kind) {
@@ -260,6 +273,17 @@ pub fn own_rows(s: &[u8], slot: usize, most: usize, inside: bool) -> Verdict
         }
     }
     Verdict::Sound
+}
+
+// Rows 2 and 4 to 7 at a live slot: `most` is the number of data sectors, and `inside` says whether its map has a bit inside
+// the directory.
+pub fn own_rows(s: &[u8], slot: usize, most: usize, inside: bool) -> Verdict
+    ensures { λ r. ⌜ replyOf r ≡ ownReplyBy most inside slot (now (s .entry)) ⌝ }
+{
+    if is_directory(s) {
+        return directory_rows(s, slot);
+    }
+    file_rows(s, slot, most, inside)
 }
 
 // Row 22, which the release check alone asks for: a carried kind, and more sectors than its length needs.
