@@ -8,7 +8,7 @@ use Rattle.buffers.specs.Bytes.{tab}
 use Rattle.geometry.specs.Disk.{bitOf}
 use Rattle.maps.specs.Bits.{has}
 use Rattle.refusals.specs.Order.{Row, _when_, Reply, rows}
-use Rattle.slots.specs.Slot.{Facts, facts, kindOf, carried, spectrum, lengthOf}
+use Rattle.slots.specs.Slot.{Facts, facts, kindOf, carried, spectrum, directoryKind, lengthOf}
 use Rattle.chains.specs.File.{File}
 
 -- "Bytes 511 and 512 of a data sector, counted from one, are the next track and sector." The map bit that a sector's
@@ -50,9 +50,9 @@ headerLength h = getD h 1 0 + 256 * getD h 2 0
 abbrev pub headerStart : List ℕ → ℕ
 headerStart h = getD h 3 0 + 256 * getD h 4 0
 
--- rows 10, 11 and 25 of one file
-abbrev pub later : Facts → (ℕ → List ℕ) → List Row
-later x sec =
+-- rows 10, 11 and 25 of a file with sectors
+abbrev pub chainRows : Facts → (ℕ → List ℕ) → List Row
+chainRows x sec =
     -- the chain is broken
     (10 when broken x sec)
     -- carried kind, and the header's first byte, remainder or pages differ from the slot's
@@ -61,7 +61,14 @@ later x sec =
     ∷ (25 when spectrum (x .kind) && ltb (510 * x .count) (9 + headerLength (sec (x .first))))
     ∷ []
 
+-- of kind 21 none: "the chain pass skips it"
+abbrev pub later : Facts → (ℕ → List ℕ) → List Row
+later x sec = cond (directoryKind (x .kind)) [] (chainRows x sec)
+
 -- their reply at a slot
+unfoldable pub chainReply : ℕ → File → Reply
+chainReply slot f = rows slot (chainRows (facts (f .bytes)) (f .sectors))
+
 unfoldable pub laterReply : ℕ → File → Reply
 laterReply slot f = rows slot (later (facts (f .bytes)) (f .sectors))
 
