@@ -1,7 +1,7 @@
 -- What the passes keep: a table of the directories by their codes, and what goes by it alone.
 use Prim.Native.Nat.{ℕ, zero, suc, _-_}
 use mathlib.Core.Path.{_≡_}
-use mathlib.Core.Bool.{Bool, not, cond, _&&_}
+use mathlib.Core.Bool.{Bool, false, not, cond, _&&_}
 use mathlib.Core.List.{List, [], _∷_}
 use mathlib.Core.Option.{none, some}
 use lib.Dec.{eqb}
@@ -11,7 +11,7 @@ use Rattle.refusals.specs.Order.{Row, _when_, Reply, sweep}
 use Rattle.refusals.specs.Answers.{replyOf}
 use Rattle.slots.specs.Slot.{isDirectory, codeOf, parentOf}
 use Rattle.directory.specs.Places.{slots}
-use Rattle.directory.specs.Directory.{Directory, directory}
+use Rattle.directory.specs.Directory.{held, Directory, directory}
 use Rattle.surveys.specs.Survey.{earlier}
 use Rattle.trees.specs.Tree.{coded, directories, upAmong, codeAt, treeReply}
 use Rattle.nesting.specs.declared.Codes.{Codes}
@@ -58,3 +58,7 @@ numberOr (some r) v = 0
 pub record Nests (d : List ℕ) (r : Nesting) : Type 0 where
   pub reply : replyOf (r .verdict) ≡ treeReply (directory d)
   pub number : r .number ≡ numberOr (treeReply (directory d)) (directory d)
+
+-- slot j is live, not slot i, and in the directory with the code
+unfoldable pub inOther : Directory → ℕ → ℕ → ℕ → Bool
+inOther v i code j = not (eqb j i) && held false (λ t. eqb (parentOf t) code) (v j)

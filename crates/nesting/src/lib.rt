@@ -1,14 +1,15 @@
-// Rows 26 to 28, which the listing of a directory asks for: whether the directories of a disk make a tree. All of it goes by
-// the directory's bytes alone, and answers for a slice of any length.
+// Rows 26 to 28, which the listing of a directory asks for: whether the directories of a disk make a tree; and row 29, which
+// an erase asks for. All of it goes by the directory's bytes alone, and answers for a slice of any length.
 ghost use mathlib.Core.Path.{_≡_};
 ghost use Prim.Native.Nat.{_-_};
 ghost use lib.ListN.{getD};
+ghost use Rattle.buffers.specs.Bytes.{any};
 ghost use Rattle.refusals.specs.Order.{rows, sweep};
 ghost use Rattle.refusals.specs.Answers.{replyOf};
 ghost use Rattle.directory.specs.Places.{slots};
 ghost use Rattle.directory.specs.Directory.{directory};
-ghost use Rattle.trees.specs.Tree.{placeAt};
-ghost use Rattle.nesting.specs.Steps.{backBy, nowhere, placingBy, Tabled, Tables, Nests};
+ghost use Rattle.trees.specs.Tree.{placeAt, occupied};
+ghost use Rattle.nesting.specs.Steps.{inOther, backBy, nowhere, placingBy, Tabled, Tables, Nests};
 use refusals::Reason;
 use refusals::Refused;
 use refusals::Verdict;
@@ -178,4 +179,39 @@ pub fn survey_nesting(dir: &[u8]) -> Nesting
             }
         }
     }
+}
+
+// Whether a slot other than slot `i` is live and in the directory with a code.
+fn holds_other(dir: &[u8], i: usize, code: usize) -> bool
+    ensures { λ r. ⌜ r ≡ any slots (inOther (directory (now (dir .entry))) i code) ⌝ }
+{
+    let end = directory::slots_read(dir);
+    let mut j: usize = 0;
+    while j < end {
+        let s = directory::slot_at(dir, j);
+        let k = j;
+        j += 1;
+        if k != i {
+            if slots::is_live(s) {
+                if slots::parent_of(s) == code {
+                    return true;
+                }
+            }
+        }
+    }
+    false
+}
+
+// Row 29 of slot `i`, counted from 0, whose bytes are `s`: a directory whose code, not 0, is another live slot's byte 254.
+pub fn is_occupied(dir: &[u8], i: usize, s: &[u8]) -> bool
+    ensures { λ r. ⌜ r ≡ occupied (directory (now (dir .entry))) i (now (s .entry)) ⌝ }
+{
+    if !slots::is_directory(s) {
+        return false;
+    }
+    let code = slots::code_of(s);
+    if code == 0 {
+        return false;
+    }
+    holds_other(dir, i, code)
 }

@@ -4,3 +4,4 @@ pub mod Enough
 pub mod Once
 pub mod Parts
 pub mod Order
+pub mod Occupied

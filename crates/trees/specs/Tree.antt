@@ -89,3 +89,10 @@ beneath n v c = level v c (inside n v)
 
 abbrev pub tree : Directory → ℕ → List ℕ
 tree v c = beneath (directories v) v c
+
+-- ---- erasing a directory
+
+-- "29, a directory whose code, not 0, is another live slot's byte 254": of slot i, whose bytes are s
+unfoldable pub occupied : Directory → ℕ → List ℕ → Bool
+occupied v i s =
+    isDirectory s && (not (eqb (codeOf s) 0) && any slots (λ j. not (eqb j i) && held false (λ t. eqb (parentOf t) (codeOf s)) (v j)))

@@ -64,6 +64,16 @@ pub record Nested (v : Directory) : Type 0 where
   pub placed : (i : ℕ) (s : List ℕ) → Live v i s → (parentOf s ≡ 0 → ⊥) → (j : ℕ) × (t : List ℕ) × Folder v j t × (codeOf t ≡ parentOf s)
   pub apart : (i : ℕ) (s : List ℕ) → Folder v i s → Under v (codeOf s) i → ⊥
 
+-- "a directory whose code, not 0, is another live slot's byte 254": slot i, whose bytes are s
+pub record Occupied (v : Directory) (i : ℕ) (s : List ℕ) : Type 0 where
+  pub folder : isDirectory s ≡ true
+  pub nonzero : codeOf s ≡ 0 → ⊥
+  pub other : ℕ
+  pub bytes : List ℕ
+  pub elsewhere : other ≡ i → ⊥
+  pub live : Live v other bytes
+  pub inside : parentOf bytes ≡ codeOf s
+
 -- ---- "answers how many lie beneath it and fills a lent buffer of numbers with their slots"
 
 -- "each once": the number of each slot that lies beneath the directory with code c, and no other number
