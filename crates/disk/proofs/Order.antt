@@ -1,8 +1,8 @@
 -- Each check gives a refusal exactly when its row holds and none before it in the order does.
 use Prim.Native.Nat.{ℕ, suc, _≤_}
 use mathlib.Core.Path.{_≡_, refl, sym, ap, _∙_}
-use mathlib.Core.Bool.{Bool, true, false, not}
-use mathlib.Core.List.{List}
+use mathlib.Core.Bool.{Bool, true, false, not, cond}
+use mathlib.Core.List.{List, [], _++_}
 use mathlib.Core.Logic.{_⊎_, _≢_, ⊎-elim}
 use mathlib.Core.Option.{Option, none, some, Option·some-ne-none}
 use native.Mathlib.Omega.{arith}
@@ -12,15 +12,16 @@ use Rattle.refusals.specs.Order.{Refusal, refuse, Reply, _else_, row, rows, swe
 use Rattle.refusals.proofs.First.{else-none, else-some, rows-clear, clear-rows, rows-first, first-rows, sweep-none, none-sweep, sweep-cong, sweep-first, first-sweep}
 use Rattle.refusals.proofs.Lowest.{lacks, lowest-first, first-lacks}
 use Rattle.geometry.specs.Disk.{imageSize}
-use Rattle.slots.specs.Slot.{facts}
-use Rattle.slots.specs.Tracks.{badTracks}
+use Rattle.slots.specs.Slot.{directoryKind, facts}
+use Rattle.slots.specs.Rows.{directoryRows, fileRows, strict}
+use Rattle.slots.specs.Tracks.{badTracks, dataCount, inDirectory}
 use Rattle.slots.proofs.Tracks.{tracks-good, good-tracks, tracks-bad, bad-tracks}
 use Rattle.chains.specs.File.{File}
-use Rattle.chains.specs.Chain.{laterReply}
+use Rattle.chains.specs.Chain.{chainRows, later, laterReply}
 use Rattle.chains.proofs.Turns.{later-rises}
 use Rattle.directory.specs.Places.{slots}
 use Rattle.directory.specs.Directory.{held}
-use Rattle.surveys.specs.Survey.{rowsAt, surveyAt, surveyBy}
+use Rattle.surveys.specs.Survey.{cross, rowsAt, surveyAt, surveyBy}
 use Rattle.surveys.proofs.Pass.{survey-rises}
 use Rattle.disk.specs.Look.{Look, look, slotsOf, extra}
 use Rattle.disk.specs.Check.{chainAt, checkBy, checkLook, checkDisk}
@@ -212,14 +213,30 @@ pub positive-by : (release : Bool) (l : Look) (r : Refusal) → checkBy release 
 positive-by release l r e = by (given-by release l r e)
   where
     some-number : (release : Bool) (i : ℕ) (f : File) → lacks 0 (rowsBy release l i f) ≡ true
-    some-number true i f = refl
-    some-number false i f = refl
+    some-number release i f = kinds release (directoryKind (facts (f .bytes) .kind))
+      where
+        kinds : (release t : Bool)
+            → lacks 0
+            (cond t (directoryRows (facts (f .bytes))) (fileRows (dataCount (extra l)) (inDirectory (extra l) (facts (f .bytes) .map)) (facts (f .bytes)))
+            ++ (strict release (facts (f .bytes)) ++ cross (slotsOf l) i (f .bytes)))
+            ≡ true
+        kinds true true = refl
+        kinds true false = refl
+        kinds false true = refl
+        kinds false false = refl
+
+    some-chain : (f : File) → lacks 0 (later (facts (f .bytes)) (f .sectors)) ≡ true
+    some-chain f = kinds (directoryKind (facts (f .bytes) .kind))
+      where
+        kinds : (t : Bool) → lacks 0 (cond t [] (chainRows (facts (f .bytes)) (f .sectors))) ≡ true
+        kinds true = refl
+        kinds false = refl
 
     by : GivenBy release l r → r .number ≢ 0
     by (by-length n q) = λ z. omega (arith, ap (λ (x : Refusal). x .number) q)
     by (by-tracks n a b q) = λ z. omega (arith, ap (λ (x : Refusal). x .number) q)
     by (by-slot n t w) = first-lacks 0 (rowsBy release l (w .at) (w .file)) (r .number) (some-number release (w .at) (w .file)) (w .number)
-    by (by-chain n t c w) = first-lacks 0 (rows11 l (w .at) (w .file)) (r .number) refl (w .number)
+    by (by-chain n t c w) = first-lacks 0 (rows11 l (w .at) (w .file)) (r .number) (some-chain (w .file)) (w .number)
 
 pub check-positive : (d : List ℕ) (r : Refusal) → checkDisk d ≡ some r → r .number ≢ 0
 unfolding checkDisk

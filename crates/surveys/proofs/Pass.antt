@@ -2,7 +2,7 @@
 -- of a slot that has none.
 use Prim.Native.Nat.{ℕ, suc, _+_, _-_, _≤_, _<_}
 use mathlib.Core.Path.{_≡_, refl, sym, ap, ap₂, _∙_}
-use mathlib.Core.Bool.{Bool, true, false, cond, not, _&&_, and-eq-true-iff, true≢false}
+use mathlib.Core.Bool.{Bool, true, false, cond, not, _&&_, true≢false}
 use mathlib.Core.List.{List, [], _∷_, _++_}
 use mathlib.Core.Option.{Option, none, some}
 use native.Mathlib.Numerals.{add-one}
@@ -13,18 +13,18 @@ use lib.ListN.{length}
 use Rattle.buffers.proofs.Counts.{any-none, none-any, some-any, count-less}
 use Rattle.buffers.proofs.Tests.{or-neither, and-both}
 use Rattle.buffers.specs.Bytes.{any}
-use Rattle.maps.specs.Bits.{bitsOf, share, clear, join}
+use Rattle.maps.specs.Bits.{has, bitsOf, share, clear, join}
 use Rattle.refusals.specs.Order.{refuse, Reply, _else_, Row, rows, sweepFrom, Clear, rises}
 use Rattle.refusals.specs.Answers.{refusalOf, replyOf}
 use Rattle.refusals.specs.declared.Refused.{Refused}
 use Rattle.refusals.specs.declared.Verdict.{Verdict}
 use Rattle.refusals.specs.declared.Verdict.the-variants.{Sound, Unsound}
 use Rattle.refusals.proofs.First.{else-none, rows-clear, sweep-start, sweep-stop, sweep-none, none-sweepFrom}
-use Rattle.slots.specs.Slot.{Facts, kindOf, directoryKind, countOf, nameOf, mapOf, facts}
+use Rattle.slots.specs.Slot.{Facts, kindOf, directoryKind, countOf, firstOf, nameOf, mapOf, facts}
 use Rattle.names.specs.Name.{sameName}
 use Rattle.slots.specs.Rows.{own, ownReply, wasteful, strict, directoryRows, fileRows}
 use Rattle.slots.specs.Tracks.{dataCount, dataBit, inDirectory}
-use Rattle.slots.proofs.Tracks.{count-data, outside-data}
+use Rattle.slots.proofs.Tracks.{count-data, outside-data, empty-outside}
 use Rattle.directory.specs.Places.{slots}
 use Rattle.directory.specs.Directory.{held, Directory, tracksOf, slotsRead, directory, liveAmong}
 use Rattle.surveys.specs.Survey.{earlier, cross, rowsAt, surveyAt, surveyBy, survey, union, counted, usedMap, refusedWith}
@@ -146,6 +146,7 @@ plain-at release n v i s e h =
 pub record Passed (n : ℕ) (v : Directory) (i : ℕ) (s : List ℕ) : Type 0 where
   pub most : countOf s ≤ dataCount n
   pub bits : bitsOf (mapOf s) ≡ countOf s
+  pub outside : inDirectory n (mapOf s) ≡ false
   pub unshared : earlier v i (λ t. share (mapOf t) (mapOf s)) ≡ false
   pub single : earlier v i (λ t. sameName (nameOf t) (nameOf s)) ≡ false
 
@@ -157,15 +158,18 @@ passed-at n v i s e h = by (directoryKind (kindOf s)) (rows-clear (suc i) (rowsA
     by : (t : Bool) → Clear (cond t (directoryRows (facts s)) (fileRows (dataCount n) (inDirectory n (mapOf s)) (facts s)) ++ cross v i s) → Passed n v i s
     by true c =
         let z : countOf s ≡ 0 = eqb-true (countOf s) 0 (not-false (eqb (countOf s) 0) (c .0)) in
+        let m : bitsOf (mapOf s) ≡ 0 = eqb-true (bitsOf (mapOf s)) 0 (not-false (eqb (bitsOf (mapOf s)) 0) (c .1 .0)) in
         record {
           most = omega arith;
-          bits = eqb-true (bitsOf (mapOf s)) 0 (not-false (eqb (bitsOf (mapOf s)) 0) (c .1 .0)) ∙ sym z;
+          bits = m ∙ sym z;
+          outside = empty-outside n (mapOf s) m;
           unshared = c .1 .1 .0;
           single = c .1 .1 .1 .0;
         }
     by false c = record {
       most = leb-true (countOf s) (dataCount n) (and-both (leb 1 (countOf s)) (leb (countOf s) (dataCount n)) (not-false _ (c .1 .0)) .1);
       bits = eqb-true (bitsOf (mapOf s)) (countOf s) (not-false _ (c .1 .1 .0));
+      outside = or-neither (not (has (mapOf s) (firstOf s))) (inDirectory n (mapOf s)) (c .1 .1 .1 .0) .1;
       unshared = c .1 .1 .1 .1 .1 .0;
       single = c .1 .1 .1 .1 .1 .1 .0;
     }
