@@ -235,10 +235,10 @@ fn directory_rows(s: &[u8], slot: usize) -> Verdict
     if count_of(s) != 0 {
         return refusals::unsound(Reason::CountOutOfRange, slot);
     }
-    if maps::bits_of(map_of(s)) != 0 {
-        return refusals::unsound(Reason::BitsDiffer, slot);
+    if maps::bits_of(map_of(s)) == 0 {
+        return Verdict::Sound;
     }
-    Verdict::Sound
+    refusals::unsound(Reason::BitsDiffer, slot)
 }
 
 

@@ -29,9 +29,16 @@ askedCode v n = cond (eqb (length n) 0) 0 (held 0 (λ i. held 0 codeOf (v i)) (f
 unfoldable pub fillWith : List ℕ → Reply → List ℕ → Out
 fillWith l r buf = filled (r else row 20 0 (ltb (length buf) (length l))) (done (length l) 0) l buf
 
--- "Refusals of this call, after the disk check and before 12, 13 (not a directory), 15 and 20: 26 ..; 27 ..; 28"
+-- "Refusals of this call, after the disk check and before 12, 13 (not a directory), 15 and 20: 26 ..; 27 ..; 28": all but 20
+abbrev pub treeBars : Look → List ℕ → Reply
+treeBars l n = checkLook l else treeReply (slotsOf l) else nameReply (slotsOf l) n
+
+-- what lies beneath the directory asked for
+abbrev pub treeOf : Look → List ℕ → List ℕ
+treeOf l n = tree (slotsOf l) (askedCode (slotsOf l) n)
+
 unfoldable pub treeLook : Look → List ℕ → List ℕ → Out
-treeLook l n buf = fillWith (tree (slotsOf l) (askedCode (slotsOf l) n)) (checkLook l else treeReply (slotsOf l) else nameReply (slotsOf l) n) buf
+treeLook l n buf = fillWith (treeOf l n) (treeBars l n) buf
 
 abbrev pub treeing : List ℕ → List ℕ → List ℕ → Out
 treeing d n buf = treeLook (look d) n buf

@@ -21,23 +21,23 @@ map-of-requires c κs = search needs
 bits-of-requires : tie.Need-bits-of-requires
 bits-of-requires c κs = search needs
 
+returns-2 : tie.Need-returns-2
+returns-2 c =
+    let b = c .before in
+    let m = b .before in
+    let n = m .before in
+    directory-none _ _ (sym (n .before .count-of .ensures .0) ∙ n .if1 .left) (sym (b .bits-of .ensures .0 ∙ ap bitsOf (m .map-of .ensures)) ∙ c .if2 .taken)
+
 unsound-requires-2 : tie.Need-unsound-requires-2
 unsound-requires-2 c κs = search needs
 
-returns-2 : tie.Need-returns-2
-returns-2 c =
+returns-3 : tie.Need-returns-3
+returns-3 c =
     let b = c .before .before in
     let m = b .before in
     let n = m .before in
     c .unsound2 .ensures
-    ∙ directory-5 _ _ (sym (n .before .count-of .ensures .0) ∙ n .if1 .left) (λ e. c .before .if2 .taken (b .bits-of .ensures .0 ∙ ap bitsOf (m .map-of .ensures) ∙ e))
-
-returns-3 : tie.Need-returns-3
-returns-3 c =
-    let b = c .before in
-    let m = b .before in
-    let n = m .before in
-    directory-none _ _ (sym (n .before .count-of .ensures .0) ∙ n .if1 .left) (sym (b .bits-of .ensures .0 ∙ ap bitsOf (m .map-of .ensures)) ∙ c .if2 .left)
+    ∙ directory-5 _ _ (sym (n .before .count-of .ensures .0) ∙ n .if1 .left) (λ e. c .before .if2 .left (b .bits-of .ensures .0 ∙ ap bitsOf (m .map-of .ensures) ∙ e))
 
 pub directory-rows-spec : {M : Type 1} → statement M
 directory-rows-spec =
@@ -48,6 +48,6 @@ directory-rows-spec =
     returns
     map-of-requires
     bits-of-requires
-    unsound-requires-2
     returns-2
+    unsound-requires-2
     returns-3)
