@@ -52,7 +52,7 @@ pub small-row : (n s : ℕ) (t : Bool) → n ≤ lastNumber → s ≤ 778 → Sm
 small-row n s true p q = (p, q)
 small-row n s false p q = tt
 
-small-sweep : (n : ℕ) (f : ℕ → Reply) → ((i : ℕ) → i < n → Small (f i)) → Small (sweep n f)
+pub small-sweep : (n : ℕ) (f : ℕ → Reply) → ((i : ℕ) → i < n → Small (f i)) → Small (sweep n f)
 small-sweep n f h = by (sweep n f) refl
   where
     by : (q : Reply) → sweep n f ≡ q → Small q

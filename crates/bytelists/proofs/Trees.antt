@@ -28,7 +28,7 @@ use Rattle.bytelists.specs.Trees.{treeingBytes}
 use Rattle.bytelists.proofs.Changing.{least-room, lent-long, back-long}
 
 -- where nothing but 20 can still be refused there are no more than slots
-tree-few : (d n : List ℕ) → treeBars (look d) n ≡ none → length (treeOf (look d) n) ≤ slots
+pub tree-few : (d n : List ℕ) → treeBars (look d) n ≡ none → length (treeOf (look d) n) ≤ slots
 tree-few d n e =
     let a = else-none (checkLook (look d)) (treeReply (slotsOf (look d)) else nameReply (slotsOf (look d)) n) e in
     let b = else-none (treeReply (slotsOf (look d))) (nameReply (slotsOf (look d)) n) (a .1) in

@@ -4,6 +4,7 @@ use mathlib.Core.Bool.{Bool, false, cond, _&&_, _||_}
 use mathlib.Core.List.{List, [], _∷_}
 use lib.Dec.{eqb, leb, ltb}
 use Rattle.buffers.specs.Bytes.{count, tab}
+use Rattle.buffers.specs.Sums.{sum}
 use Rattle.refusals.specs.Order.{Refusal}
 use Rattle.slots.specs.Slot.{kindOf, countOf}
 use Rattle.directory.specs.Places.{slots}
