@@ -2,7 +2,7 @@
 use Prim.Native.Nat.{ℕ, suc, _≤_, _<_}
 use mathlib.Core.Path.{_≡_, refl, sym, subst}
 use mathlib.Core.Bool.{Bool, true, false, cond, not, _&&_}
-use mathlib.Core.List.{List, [], _∷_, _++_}
+use mathlib.Core.List.{List, [], _∷_}
 use mathlib.Core.Option.{Option, none, some}
 use native.Mathlib.Omega.{arith}
 use borrow.Author.Tests.{leb-true}
@@ -12,18 +12,14 @@ use Rattle.geometry.specs.Disk.{imageSize}
 use Rattle.refusals.specs.Order.{refuse, Reply, _else_, Row, rows, row, sweep}
 use Rattle.refusals.specs.Answers.{lastNumber}
 use Rattle.refusals.proofs.First.{sweep-first}
-use Rattle.slots.specs.Slot.{directoryKind, facts}
-use Rattle.slots.specs.Rows.{directoryRows, fileRows, strict}
 use Rattle.chains.specs.File.{File}
-use Rattle.chains.specs.Chain.{chainRows}
 use Rattle.directory.specs.Places.{slots}
 use Rattle.directory.specs.Directory.{held}
-use Rattle.surveys.specs.Survey.{cross}
-use Rattle.disk.specs.Look.{Look, slotsOf, extra}
+use Rattle.disk.specs.Look.{Look}
 use Rattle.disk.specs.Check.{checkBy, checkLook}
-use Rattle.slots.specs.Tracks.{badTracks, dataCount, inDirectory}
+use Rattle.slots.specs.Tracks.{badTracks}
 use Rattle.disk.specs.Given.{rowsBy, rows11}
-use Rattle.disk.proofs.Order.{passAt, pass, check-passes}
+use Rattle.disk.proofs.Order.{passAt, pass, check-passes, rows-by-kind, chain-by-kind}
 
 -- a refusal of the table at a slot of the directory, or none
 abbrev pub Small : Reply → Type 0
@@ -72,24 +68,11 @@ small-by release l =
     (small-else (row 1 0 (not (eqb (l .long) imageSize))) (row 24 0 (badTracks (l .label 255)) else pass l (rowsBy release l) else pass l (rows11 l))
     (small-row 1 0 (not (eqb (l .long) imageSize)) (omega arith) (omega arith))
     (small-else (row 24 0 (badTracks (l .label 255))) (pass l (rowsBy release l) else pass l (rows11 l)) (small-row 24 0 (badTracks (l .label 255)) (omega arith) (omega arith))
-    (small-else (pass l (rowsBy release l)) (pass l (rows11 l)) (small-pass l (rowsBy release l) (by release)) (small-pass l (rows11 l) (λ i f. chains f (directoryKind (facts (f .bytes) .kind)))))))
+    (small-else (pass l (rowsBy release l)) (pass l (rows11 l)) (small-pass l (rowsBy release l) (by release)) (small-pass l (rows11 l) (λ i f. chain-by-kind (λ rs. few rs ≡ true) l i f refl refl)))))
   where
     by : (release : Bool) (i : ℕ) (f : File) → few (rowsBy release l i f) ≡ true
-    by release i f = kinds release (directoryKind (facts (f .bytes) .kind))
-      where
-        kinds : (release t : Bool)
-            → few
-            (cond t (directoryRows (facts (f .bytes))) (fileRows (dataCount (extra l)) (inDirectory (extra l) (facts (f .bytes) .map)) (facts (f .bytes)))
-            ++ (strict release (facts (f .bytes)) ++ cross (slotsOf l) i (f .bytes)))
-            ≡ true
-        kinds true true = refl
-        kinds true false = refl
-        kinds false true = refl
-        kinds false false = refl
-
-    chains : (f : File) (t : Bool) → few (cond t [] (chainRows (facts (f .bytes)) (f .sectors))) ≡ true
-    chains f true = refl
-    chains f false = refl
+    by true i f = rows-by-kind (λ rs. few rs ≡ true) true l i f refl refl
+    by false i f = rows-by-kind (λ rs. few rs ≡ true) false l i f refl refl
 
 pub check-small : (l : Look) → Small (checkLook l)
 check-small l = small-by false l

@@ -1,8 +1,8 @@
 -- The release check: what it accepts, when it gives which number, and that the first check is as it was.
 use Prim.Native.Nat.{ℕ, suc, _≤_, _<_}
 use mathlib.Core.Path.{_≡_, refl, ap}
-use mathlib.Core.Bool.{Bool, true, false, not, cond}
-use mathlib.Core.List.{List, [], _++_}
+use mathlib.Core.Bool.{true, false, not}
+use mathlib.Core.List.{List, _++_}
 use mathlib.Core.Logic.{_≢_, _↔_}
 use mathlib.Core.Option.{none, some}
 use native.Mathlib.Omega.{arith}
@@ -11,12 +11,11 @@ use lib.Dec.{eqb, ltb}
 use Rattle.refusals.specs.Order.{Refusal, _else_, row, rows, sweep, Clear}
 use Rattle.refusals.proofs.Lowest.{lacks, first-lacks}
 use Rattle.geometry.specs.Disk.{imageSize}
-use Rattle.slots.specs.Slot.{facts, kindOf, carried, directoryKind, countOf, lengthOf, sectorsFor}
-use Rattle.slots.specs.Rows.{directoryRows, fileRows, own, wasteful, strict}
-use Rattle.slots.specs.Tracks.{badTracks, dataCount, inDirectory}
+use Rattle.slots.specs.Slot.{facts, kindOf, carried, countOf, lengthOf, sectorsFor}
+use Rattle.slots.specs.Rows.{own, wasteful, strict}
+use Rattle.slots.specs.Tracks.{badTracks}
 use Rattle.slots.proofs.Least.{sectors-least, sectors-few}
 use Rattle.chains.specs.File.{File}
-use Rattle.chains.specs.Chain.{chainRows}
 use Rattle.directory.specs.Places.{slots}
 use Rattle.directory.specs.Directory.{held}
 use Rattle.surveys.specs.Survey.{cross, surveyAt, surveyBy}
@@ -25,7 +24,7 @@ use Rattle.disk.specs.Check.{chainAt, checkBy, checkLook, checkDisk, che
 use Rattle.disk.specs.Given.{GivenBy, Given, by-length, by-tracks, by-slot, by-chain, rows9, rows11}
 use Rattle.disk.specs.Release.{LeanFile, Lean}
 use Rattle.disk.proofs.Rows.{guard, guarded, carried-is, is-carried, clear-parts, parts-clear}
-use Rattle.disk.proofs.Order.{Accepted, accepted, accepted-only, accepted-by, accepted-by-only, given, given-by, given-by-only, positive-by}
+use Rattle.disk.proofs.Order.{Accepted, accepted, accepted-only, accepted-by, accepted-by-only, given, given-by, given-by-only, rows-by-kind, chain-by-kind, positive-by}
 
 -- ---- row 22 of one slot
 
@@ -116,23 +115,11 @@ module _ (d : List ℕ) where
   unfolding checkDisk
   never-22 r e = by (given (look d) r e)
     where
-      kinds : (i : ℕ) (f : File) (t : Bool)
-          → lacks 22
-          (cond t (directoryRows (facts (f .bytes))) (fileRows (dataCount (extra (look d))) (inDirectory (extra (look d)) (facts (f .bytes) .map)) (facts (f .bytes)))
-          ++ cross (slotsOf (look d)) i (f .bytes))
-          ≡ true
-      kinds i f true = refl
-      kinds i f false = refl
-
-      chains : (f : File) (t : Bool) → lacks 22 (cond t [] (chainRows (facts (f .bytes)) (f .sectors))) ≡ true
-      chains f true = refl
-      chains f false = refl
-
       by : Given (look d) r → r .number ≢ 22
       by (by-length n q) = λ z. omega (arith, ap (λ (x : Refusal). x .number) q)
       by (by-tracks n a b q) = λ z. omega (arith, ap (λ (x : Refusal). x .number) q)
-      by (by-slot n t w) = first-lacks 22 (rows9 (look d) (w .at) (w .file)) (r .number) (kinds (w .at) (w .file) (directoryKind (facts (w .file .bytes) .kind))) (w .number)
-      by (by-chain n t c w) = first-lacks 22 (rows11 (look d) (w .at) (w .file)) (r .number) (chains (w .file) (directoryKind (facts (w .file .bytes) .kind))) (w .number)
+      by (by-slot n t w) = first-lacks 22 (rows9 (look d) (w .at) (w .file)) (r .number) (rows-by-kind (λ rs. lacks 22 rs ≡ true) false (look d) (w .at) (w .file) refl refl) (w .number)
+      by (by-chain n t c w) = first-lacks 22 (rows11 (look d) (w .at) (w .file)) (r .number) (chain-by-kind (λ rs. lacks 22 rs ≡ true) (look d) (w .at) (w .file) refl refl) (w .number)
 
 -- ---- the first check
 

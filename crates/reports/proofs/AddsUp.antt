@@ -23,7 +23,7 @@ use Rattle.surveys.proofs.Pass.{used-few}
 use Rattle.disk.specs.Look.{Look, look, slotsOf, extra}
 use Rattle.disk.specs.Check.{checkLook, checkDisk}
 use Rattle.disk.specs.Given.{rows9, rows11, Given, by-length, by-tracks, by-slot, by-chain}
-use Rattle.disk.proofs.Order.{given, check-positive}
+use Rattle.disk.proofs.Order.{given, rows-by-kind, chain-by-kind, check-positive}
 use Rattle.reports.specs.Numbers.{Numbers, inClass, filesAmong, filesReport, acceptedReport, refusedReport, empty, plus, over, reportOf}
 use Rattle.reports.specs.Shelf.{Disks, ofAccepted, total, filesOf, dataOf, AddsUp}
 use Rattle.reports.proofs.Classes.{class-only, class-some}
@@ -71,8 +71,8 @@ check-low l r e = by (given l r e)
     by : Given l r → r .number ≤ 32
     by (by-length n q) = omega (arith, ap (λ (x : Refusal). x .number) q)
     by (by-tracks n a b q) = omega (arith, ap (λ (x : Refusal). x .number) q)
-    by (by-slot n t w) = first-low (rows9 l (w .at) (w .file)) (r .number) refl (w .number)
-    by (by-chain n t c w) = first-low (rows11 l (w .at) (w .file)) (r .number) refl (w .number)
+    by (by-slot n t w) = first-low (rows9 l (w .at) (w .file)) (r .number) (rows-by-kind (λ rs. low rs ≡ true) false l (w .at) (w .file) refl refl) (w .number)
+    by (by-chain n t c w) = first-low (rows11 l (w .at) (w .file)) (r .number) (chain-by-kind (λ rs. low rs ≡ true) l (w .at) (w .file) refl refl) (w .number)
 
 one-refused : (x : ℕ) → x ≢ 0 → x ≤ 32 → sum 32 (λ n. cond (eqb (suc n) x) 1 0) ≡ 1
 one-refused x h l =
