@@ -137,6 +137,7 @@ fn inside_itself(image: &mut [u8]) {
     treed(b"a directory inside itself", image, b"");
     erased(b"a directory inside itself", image, b"AB");
     folder(image, 1, 2, 2);
+    folder(image, 3, 5, 0);
     file(image, 8);
     treed(b"an orphan behind it", image, b"");
 }

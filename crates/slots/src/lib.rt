@@ -241,7 +241,6 @@ fn directory_rows(s: &[u8], slot: usize) -> Verdict
     refusals::unsound(Reason::BitsDiffer, slot)
 }
 
-
 // Rows 2 and 4 to 7 at the slot of any other file.
 fn file_rows(s: &[u8], slot: usize, most: usize, inside: bool) -> Verdict
     ensures { λ r. ⌜ replyOf r ≡ fileReplyBy most inside slot (now (s .entry)) ⌝ }
