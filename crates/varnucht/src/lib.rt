@@ -208,8 +208,8 @@ pub extern "C" fn varnucht_save(
 pub extern "C" fn varnucht_tree(image: &[u8], name: &[u8], list: &mut [u8]) -> u64
     ensures { λ r. ⌜ (r ≡ packed (treeingBytes (now (image .entry)) (now (name .entry)) (now (list .entry)) .outcome)) × (now (list .exit) ≡ treeingBytes (now (image .entry)) (now (name .entry)) (now (list .entry)) .buffer) ⌝ }
 {
-    let listed = bytelists::list_tree(image, name, list);
-    packing::pack(listed)
+    let beneath = bytelists::list_tree(image, name, list);
+    packing::pack(beneath)
 }
 
 // Adds a disk to a report: the disks in it after.
