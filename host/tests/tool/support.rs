@@ -1,8 +1,9 @@
 //! What the tests of the tool share: a folder of their own, and the tool run as a process.
 #![allow(dead_code)] // Each test file uses a part of this.
-use std::ffi::OsStr;
+use std::ffi::{OsStr, c_int};
 use std::fs;
 use std::io::Write;
+use std::os::unix::process::CommandExt;
 use std::path::{Path, PathBuf};
 use std::process::{Command, Output, Stdio};
 use std::sync::atomic::{AtomicUsize, Ordering};
@@ -108,6 +109,25 @@ pub fn tool<S: AsRef<OsStr>>(words: impl IntoIterator<Item = S>) -> Command {
     let mut command = Command::new(TOOL);
     command.args(words).env_remove("NO_COLOR").stdin(Stdio::null());
     command
+}
+
+unsafe extern "C" {
+    fn signal(number: c_int, action: usize) -> usize;
+}
+
+/// Lets a program heed HUP, INT and TERM, even where the tests themselves were started with some of them ignored, as by `nohup`:
+/// what is ignored stays so in all that is started, and a shell cannot take it back.
+pub fn heeding(command: &mut Command) -> &mut Command {
+    const USUAL: usize = 0;
+    // SAFETY: between the fork and the start of the program this sets what signals do, and nothing else.
+    unsafe {
+        command.pre_exec(|| {
+            for number in [1, 2, 15] {
+                signal(number, USUAL);
+            }
+            Ok(())
+        })
+    }
 }
 
 /// Runs the tool with these words.
