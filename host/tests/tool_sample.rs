@@ -37,8 +37,8 @@ fn the_script_makes_the_disk_anew() {
 #[test]
 fn the_tool_prints_what_is_kept() {
     let image = sample("sample.mgt");
-    assert_eq!(on("check", &image, NONE).done(), "accepted\n");
-    assert_eq!(on("check", &image, ["--release"]).done(), "accepted\n");
+    assert_eq!(on("check", &image, NONE).done(), ACCEPTED);
+    assert_eq!(on("check", &image, ["--release"]).done(), ACCEPTED);
     assert_eq!(
         on("list", &image, NONE).done(),
         fs::read_to_string(sample("list.txt")).unwrap()

@@ -8,7 +8,7 @@ use std::path::{Path, PathBuf};
 use std::process::{Command, Output, Stdio};
 use std::sync::atomic::{AtomicUsize, Ordering};
 use std::time::{Duration, Instant, SystemTime};
-use varnucht::{CarriedKind, Disk, Image, NewFile, NewName, Start};
+use varnucht::{CarriedKind, Directory, Disk, Image, NewFile, NewName, Start};
 
 /// The tool.
 pub const TOOL: &str = env!("CARGO_BIN_EXE_varnucht");
@@ -198,6 +198,9 @@ pub fn plain(text: &str) -> String {
     })
 }
 
+/// What `check` says of a good disk with a directory of four tracks.
+pub const ACCEPTED: &str = "accepted, 4 directory tracks\n";
+
 /// No more words.
 pub const NONE: [&str; 0] = [];
 
@@ -210,7 +213,12 @@ pub fn body(length: usize) -> Vec<u8> {
 
 /// A disk with these files of code, by name and length.
 pub fn disk<S: AsRef<str>>(files: &[(S, usize)]) -> Disk {
-    let mut disk = Disk::open(Image::blank()).expect("a blank disk is accepted");
+    disk_with(Directory::default(), files)
+}
+
+/// The same with a directory of this size.
+pub fn disk_with<S: AsRef<str>>(directory: Directory, files: &[(S, usize)]) -> Disk {
+    let mut disk = Disk::open(Image::blank_with(directory)).expect("a blank disk is accepted");
     for (name, length) in files {
         let body = body(*length);
         let (name, start) = (
