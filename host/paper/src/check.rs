@@ -26,8 +26,6 @@ pub struct Survey {
     pub files: usize,
     /// Every sector that a live slot has, and those of the directory that have a map bit: none of them is free.
     pub used: Map,
-    /// The map bits of the directory's own sectors.
-    own: Map,
     /// How many sectors the live slots have.
     used_count: usize,
     names: Names,
@@ -35,12 +33,12 @@ pub struct Survey {
 
 impl Survey {
     fn empty(extent: Extent) -> Survey {
-        let own = extent.own_map();
+        let mut used = Map::CLEAR;
+        used.set_all(extent.own_bits());
         Survey {
             extent,
             files: 0,
-            used: own,
-            own,
+            used,
             used_count: 0,
             names: Names::EMPTY,
         }
@@ -60,7 +58,7 @@ impl Survey {
         if map.count() != count {
             return Err(Reason::MapUnlikeCount);
         }
-        if !slot.first().bit().is_some_and(|bit| map.has(bit)) || self.own.meets(&map) {
+        if !slot.first().bit().is_some_and(|bit| map.has(bit)) || map.has_any(self.extent.own_bits()) {
             return Err(Reason::FirstNotInMap);
         }
         if slot.is_carried() && PAYLOAD_BYTES * count < HEADER_BYTES + slot.length() {

@@ -1,8 +1,8 @@
 //! Document 02, M-106: bigger MasterDOS directories. How many tracks the directory has, and what follows from that.
 
 use crate::geometry::{Image, MAP_BITS};
-use crate::map::Map;
 use crate::refusal::{Reason, Refused};
+use std::ops::Range;
 
 /// Byte 255 of slot 1, which is the number of directory tracks beyond four.
 const EXTRA_AT: usize = 255;
@@ -37,18 +37,11 @@ impl Extent {
     }
 
     /// The map bits of the directory's own sectors: all of its tracks beyond four but the first, track 4 sector 1.
-    fn own_bits(self) -> std::ops::Range<usize> {
+    pub fn own_bits(self) -> Range<usize> {
         match self.extra {
             0 => 1..1,
             n => 1..10 * usize::from(n),
         }
-    }
-
-    /// These bits as a map.
-    pub fn own_map(self) -> Map {
-        let mut map = Map::CLEAR;
-        map.set_all(self.own_bits());
-        map
     }
 }
 
@@ -87,7 +80,7 @@ mod tests {
         for byte in 0..=35 {
             let extent = extent(byte).unwrap_or_else(|refused| panic!("{byte}: {refused:?}"));
             let (mut data, mut directory) = ([false; 1_600], [false; 1_600]);
-            for bit in extent.own_map().clear_bits() {
+            for bit in (0..MAP_BITS).filter(|bit| !extent.own_bits().contains(bit)) {
                 data[Address::of_bit(bit).number().expect("a data sector")] = true;
             }
             for slot in 1..=extent.slots() {
