@@ -26,6 +26,8 @@ pub struct Survey {
     pub files: usize,
     /// Every sector that a live slot has, and those of the directory that have a map bit: none of them is free.
     pub used: Map,
+    /// The map bits of the directory's own sectors.
+    own: Map,
     /// How many sectors the live slots have.
     used_count: usize,
     names: Names,
@@ -39,6 +41,7 @@ impl Survey {
             extent,
             files: 0,
             used,
+            own: used,
             used_count: 0,
             names: Names::EMPTY,
         }
@@ -58,7 +61,7 @@ impl Survey {
         if map.count() != count {
             return Err(Reason::MapUnlikeCount);
         }
-        if !slot.first().bit().is_some_and(|bit| map.has(bit)) || map.has_any(self.extent.own_bits()) {
+        if !slot.first().bit().is_some_and(|bit| map.has(bit)) || self.own.meets(&map) {
             return Err(Reason::FirstNotInMap);
         }
         if slot.is_carried() && PAYLOAD_BYTES * count < HEADER_BYTES + slot.length() {

@@ -48,16 +48,6 @@ impl Map {
         self.words[bit / 64] >> (bit % 64) & 1 == 1
     }
 
-    /// Whether a bit of a range is set.
-    pub fn has_any(&self, bits: Range<usize>) -> bool {
-        let below = |bit: usize, word: usize| match bit.saturating_sub(64 * word) {
-            bits @ 0..64 => (1 << bits) - 1,
-            _ => u64::MAX,
-        };
-        (bits.start / 64..bits.end.div_ceil(64))
-            .any(|word| self.words[word] & below(bits.end, word) & !below(bits.start, word) != 0)
-    }
-
     /// Sets every bit of a range.
     pub fn set_all(&mut self, bits: Range<usize>) {
         bits.for_each(|bit| self.set(bit));
@@ -140,17 +130,6 @@ mod tests {
         assert!(map.clear_bits().eq((0..MAP_BITS).filter(|bit| bit % 3 == 1)));
         assert_eq!(map.count() + map.clear_bits().count(), MAP_BITS);
         assert_eq!(Map::from_bytes(&[255; MAP_BYTES]).clear_bits().next(), None);
-    }
-
-    #[test]
-    fn bits_of_a_range() {
-        for (start, end) in [(1, 1), (1, 10), (1, 64), (1, 350), (64, 128), (63, 65), (0, MAP_BITS)] {
-            for bit in 0..MAP_BITS {
-                let mut map = Map::CLEAR;
-                map.set(bit);
-                assert_eq!(map.has_any(start..end), (start..end).contains(&bit), "{bit}");
-            }
-        }
     }
 
     #[test]

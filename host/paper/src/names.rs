@@ -27,23 +27,32 @@ impl Names {
     /// Adds a name, and tells whether it is new.
     pub fn add(&mut self, name: &Name) -> bool {
         let name = folded(name);
+        if self.count == FEW {
+            self.spread();
+        }
         let new = match self.count {
-            0..FEW => !self.few[..self.count].contains(&name),
-            FEW => self.spread() && self.put(name),
+            ..FEW => self.line_up(name),
             _ => self.put(name),
         };
-        if new && self.count < FEW {
-            self.few[self.count] = name;
-        }
         self.count += usize::from(new);
         new
     }
 
-    /// Puts the first names, which are all different, into the table.
-    fn spread(&mut self) -> bool {
+    /// Puts a name behind the first ones, and tells whether it is none of them.
+    fn line_up(&mut self, name: Name) -> bool {
+        let new = !self.few[..self.count].contains(&name);
+        if new {
+            self.few[self.count] = name;
+        }
+        new
+    }
+
+    /// Puts the first names into the table.
+    fn spread(&mut self) {
         self.many = vec![[0; 10]; PLACES];
-        let few = self.few;
-        few.into_iter().all(|name| self.put(name))
+        for name in self.few {
+            self.put(name);
+        }
     }
 
     /// Puts a name into the table, and tells whether it was not there.
@@ -51,11 +60,12 @@ impl Names {
         let mut place = hash(&name);
         loop {
             match self.many[place] {
-                [0, ..] => break self.many[place] = name,
+                [0, ..] => break,
                 other if other == name => return false,
                 _ => place = (place + 1) % PLACES,
             }
         }
+        self.many[place] = name;
         true
     }
 }

@@ -218,7 +218,7 @@ fn ended(full: &Disk, slot: usize) {
     assert_eq!(listed(&disk.image, slot - 1).0, slot - 1);
     let left = expect(&save(vec![7; 10]), &disk.image, 0);
     let mut directory = vec![slot_sector(slot)];
-    if slot < disk.slots() && slot % 2 == 0 {
+    if slot < disk.slots() && slot.is_multiple_of(2) {
         directory.insert(0, slot_sector(slot + 1));
     }
     assert_eq!(calls::value(left.answer), 1 + directory.len());
