@@ -349,7 +349,8 @@ static inline unsigned varnucht_report_class_first(unsigned c) { return c == 0 ?
  *   - if any sector is missing, varnucht_list, varnucht_read and varnucht_start answer exactly as before the change, free
  *     sectors included: it has not happened, nothing is lost or used up, and it can be asked for again;
  *   - if none is missing, it is the changed disk, byte for byte;
- *   - in either case every file that the change did not ask for by name keeps its slot and its sectors, byte for byte.
+ *   - in either case every file that the change did not ask for by name keeps its slot and its sectors, byte for byte, and
+ *     the disk its name and its directory tracks (section 6).
  * You may rely on that only if no sector reaches the storage before one that stands earlier in the list, and none reaches it
  * in part. Where a write fails, the image in memory is ahead of the file: read it again from there before the next change.
  *
