@@ -186,7 +186,7 @@ uint64_t varnucht_check(const uint8_t *image, size_t image_len);
 
 /* Whether the disk is good and fit to go out: no file of a carried kind has waste sectors behind it, where old texts hide. A
  * file has them where its count is above the least that its length needs. Every other call accepts such a disk still.
- * Value: 0. Refusals: 1 to 11, 22, 24, 25. Stack: 1,352 bytes. */
+ * Value: 0. Refusals: 1 to 11, 22, 24, 25. Stack: 1,768 bytes. */
 uint64_t varnucht_check_release(const uint8_t *image, size_t image_len);
 
 /* Every file, hidden ones too, by rising slot, at 258 bytes each from the front of `out`; section 6 says how to read them.
@@ -224,7 +224,7 @@ uint64_t varnucht_read(const uint8_t *image, size_t image_len, const uint8_t *na
 
 /* Finds a file. Value: the length of its body in bytes, 0 to 795,591. Slot: the sector that the body begins in, 0 to 1,599.
  * Free: the place of its first byte there, 9. Refusals: 1 to 11, 24, 25, 12, 13, 15, as varnucht_read has them.
- * Stack: 1,432 bytes. */
+ * Stack: 1,848 bytes. */
 uint64_t varnucht_open(const uint8_t *image, size_t image_len, const uint8_t *name, size_t name_len);
 
 /* The next bytes, to the front of `out`: as many as it holds or as are left.
@@ -312,7 +312,7 @@ enum varnucht_report_place {
 
 /* Adds a disk to a report: any bytes, which are only read. A disk that varnucht_check refuses is counted by the number that
  * it gives, and nowhere else. Value: how many disks are in the report then, 1 to 65,535. Refusals: 20 where `report` is too
- * short to be one, then 31 where 65,535 disks are in it. Stack: 2,504 bytes. */
+ * short to be one, then 31 where 65,535 disks are in it. Stack: 2,920 bytes. */
 uint64_t varnucht_report_add(const uint8_t *image, size_t image_len, uint8_t *report, size_t report_len);
 
 /* Joins `other`, which is only read, to `report`. Value: how many disks are in the report then, 0 to 65,535. Refusals: 20
