@@ -61,6 +61,10 @@ pub fn biggest_alike() -> Disk {
     made("778 x 100, names alike", 35, 778, 100, alike)
 }
 
+pub fn biggest_drawn() -> Disk {
+    made("778 x 100, names drawn", 35, 778, 100, drawn)
+}
+
 /// A full directory of 20 tracks.
 pub fn twenty_tracks() -> Disk {
     made("398 x 100", 16, 398, 100, unlike)
@@ -141,6 +145,12 @@ fn alike(file: u16) -> [u8; 10] {
     let mut name = *b"disk one--";
     name[8..].copy_from_slice(&sign(file));
     name
+}
+
+/// Ten bytes that can be printed, drawn for each file.
+fn drawn(file: u16) -> [u8; 10] {
+    let mut random = Random::new(file.into());
+    [0; 10].map(|_: u8| random.between(33, 126) as u8)
 }
 
 /// Two bytes for each file. The first are not enough alone, because capitals or not a letter is the same.

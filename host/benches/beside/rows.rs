@@ -34,7 +34,7 @@ pub fn all() -> Vec<Row> {
     let (blank, eighty, seventy_eight, one) = (disks::blank(), disks::eighty(), disks::seventy_eight(), disks::one());
     let (eighty_alike, scattered) = (disks::eighty_alike(), disks::scattered());
     let (three, three_and_old) = (disks::three(), disks::three_and_old());
-    let (biggest, biggest_alike) = (disks::biggest(), disks::biggest_alike());
+    let (biggest, biggest_alike, biggest_drawn) = (disks::biggest(), disks::biggest_alike(), disks::biggest_drawn());
     let disks = [&blank, &eighty, &seventy_eight, &one];
     let row = |disk: &Disk, work, refusal| Row {
         disk: disk.clone(),
@@ -44,7 +44,7 @@ pub fn all() -> Vec<Row> {
     let mut rows = vec![];
     rows.extend([&blank, &three, &three_and_old].map(|disk| row(disk, Work::Check, 0)));
     rows.extend([&eighty, &eighty_alike, &seventy_eight, &one, &scattered].map(|disk| row(disk, Work::Check, 0)));
-    rows.extend([&disks::twenty_tracks(), &biggest, &biggest_alike].map(|disk| row(disk, Work::Check, 0)));
+    rows.extend([&disks::twenty_tracks(), &biggest, &biggest_alike, &biggest_drawn].map(|disk| row(disk, Work::Check, 0)));
     rows.extend([&eighty, &one].map(|disk| row(disk, Work::CheckRelease, 0)));
     rows.extend(disks.map(|disk| row(disk, Work::List, 0)));
     rows.push(row(&biggest, Work::List, 0));
