@@ -20,7 +20,9 @@ pub fn print_head(timer: Duration) {
     );
     println!("bytes that differ in the first two; with 'names alike' in the last two alone, with 'names drawn' anywhere.");
     println!("'less one', 'erased': the last file was erased before, so the save takes its slot and sectors.");
-    println!("'old slots': behind its end the directory has old bytes. 398 and 778 files stand on 20 and 39 directory tracks.");
+    println!(
+        "'old slots': behind its end the directory has old bytes. 398 and 778 files stand on 20 and 39 directory tracks."
+    );
     println!();
     println!(
         "{:<13} {:<22} {:<10} {:>10} {:>10} {:>10} {:>10} {:>7} {:>7} {:>6}",
