@@ -31,6 +31,16 @@ pub const HEADER_PAGE: usize = 8;
 
 pub const KNOWN: [u8; 20] = [1, 2, 3, 4, 5, 6, 7, 8, 9, 10, 11, 12, 16, 17, 18, 19, 20, 21, 22, 23];
 
+/// A directory of MasterDOS: document 02, M-108.
+pub const DIRECTORY: u8 = 21;
+/// Where a directory has its code, and every live slot that of the directory it is in.
+pub const CODE: usize = 250;
+pub const PARENT: usize = 254;
+
+pub fn is_directory(kind: u8) -> bool {
+    kind == DIRECTORY
+}
+
 pub fn is_known(kind: u8) -> bool {
     KNOWN.contains(&kind)
 }
