@@ -94,6 +94,12 @@ pub fn refused(facts: &Facts) -> Option<(u8, usize)> {
     })
 }
 
+/// Whether a slot is a directory that another live slot is in, so that it cannot be erased.
+pub fn is_held(facts: &Facts, directory: &Live) -> bool {
+    let inside = |other: &Live| other.slot != directory.slot && other.parent == directory.code;
+    directory.is_directory() && directory.code != 0 && facts.live.iter().any(inside)
+}
+
 /// The directory with this code.
 fn above(facts: &Facts, code: u8) -> Option<&Live> {
     facts
@@ -110,6 +116,15 @@ pub fn beneath(facts: &Facts, directory: Option<&Live>) -> Vec<usize> {
     paths.sort();
     let inside = |path: &&Vec<usize>| directory.is_none_or(|live| path[..path.len() - 1].contains(&live.slot));
     paths.iter().filter(inside).map(|path| path[path.len() - 1]).collect()
+}
+
+/// A directory that something lies beneath, and how many those are, of a disk whose tree is not refused.
+pub fn some_directory(facts: &Facts) -> Option<(&Live, usize)> {
+    let trees = refused(facts).is_none();
+    let directories = facts.live.iter().filter(|live| trees && live.is_directory());
+    directories
+        .map(|live| (live, beneath(facts, Some(live)).len()))
+        .find(|(_, many)| *many > 0)
 }
 
 fn path(facts: &Facts, live: &Live) -> Vec<usize> {
