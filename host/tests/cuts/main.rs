@@ -161,6 +161,14 @@ fn the_largest_save_cut_anywhere() {
     let change = Change::save(&disk.image, 795_591 - 510, random).expect("the room is there");
     assert_eq!((change.named.len(), &change.named[1_559..]), (1_561, &[1, 0][..]));
     cut(&change, &mut Counts::default(), random);
+    // All sectors there are, beside a directory, and two of the directory's: the longest list.
+    let mut shape = ending(0, 2);
+    shape.files = vec![(1, 0)];
+    let mut disk = disks::of_shape(&shape, random);
+    disk.slot_mut(3)[..2].copy_from_slice(b"\xffX");
+    let change = Change::save(&disk.image, 795_591, random).expect("no sector is taken");
+    assert_eq!((change.named.len(), &change.named[1_560..]), (1_562, &[1, 0][..]));
+    cut(&change, &mut Counts::default(), random);
 }
 
 fn cut(change: &Change, counts: &mut Counts, random: &mut Random) {
