@@ -1,8 +1,8 @@
 /* How much stack each call takes: it runs on a stack of its own, which was painted before, and the paint that is gone is
  * counted. The disks are those that make a call work longest: the greatest file, eighty files, 778 in the biggest directory,
- * and one of 255 subdirectories, each in the one before, with files in the last; and for both checks the greatest file with its last link but one leading back to its first sector, which is
- * refused 10 where that comes again. For the save also a disk whose directory ends at slot 2, with an old name behind it in
- * another sector. */
+ * and there 255 subdirectories, each in the one before, with files in the last; and for both checks the greatest file with its
+ * last link but one leading back to its first sector, which is refused 10 where that comes again. For the save also a disk
+ * whose directory ends at slot 2, with an old name behind it in another sector. */
 #define _XOPEN_SOURCE 700
 #include <stdio.h>
 #include <string.h>

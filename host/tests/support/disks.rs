@@ -2,7 +2,7 @@
 
 use super::fields;
 use super::folders;
-use super::geometry::{self, BITS, EXTRA, PAYLOAD, SECTOR, SLOT, address, bit_place, fills, slot_place};
+use super::geometry::{self, EXTRA, PAYLOAD, SECTOR, SLOT, address, bit_place, fills, slot_place};
 use super::names::{self, Name};
 use super::random::Random;
 use super::shapes::Shape;
@@ -121,12 +121,7 @@ impl Disk {
         if let Some(&first) = chain.first() {
             bytes[fields::FIRST..fields::MAP].copy_from_slice(&address(first));
         }
-        for bit in 0..BITS {
-            fields::set_bit(&mut bytes, bit, false);
-        }
-        for &bit in &chain {
-            fields::set_bit(&mut bytes, bit, true);
-        }
+        fields::set_map(&mut bytes, &chain);
         start(&mut bytes, random);
         let body = if fields::is_carried(kind) {
             let length = if shape.tidy {

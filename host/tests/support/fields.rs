@@ -94,6 +94,12 @@ pub fn set_bit(slot: &mut [u8], bit: usize, on: bool) {
     *byte = *byte & !(1 << (bit % 8)) | u8::from(on) << (bit % 8);
 }
 
+/// Sets these bits of a slot's map and clears all others.
+pub fn set_map(slot: &mut [u8], bits: &[usize]) {
+    slot[MAP..MAP + MAP_BYTES].fill(0);
+    bits.iter().for_each(|&bit| set_bit(slot, bit, true));
+}
+
 /// The bits of a slot's map, rising.
 pub fn bits(slot: &[u8]) -> Vec<usize> {
     (0..BITS).filter(|&bit| has_bit(slot, bit)).collect()

@@ -108,8 +108,8 @@ fn above(facts: &Facts, code: u8) -> Option<&Live> {
         .find(|live| live.is_directory() && code != 0 && live.code == code)
 }
 
-/// The slots beneath a directory, or beneath the root, of a disk whose tree is not refused. The path of a slot is the slots of the
-/// directories around it, from the root on, and its own: by rising paths a directory comes before what lies beneath it, and
+/// The slots beneath a directory, or beneath the root, of a disk whose tree is not refused. The path of a slot is the slots of
+/// the directories around it, from the root on, and its own: by rising paths a directory comes before what lies beneath it, and
 /// each level is by rising slot.
 pub fn beneath(facts: &Facts, directory: Option<&Live>) -> Vec<usize> {
     let mut paths: Vec<Vec<usize>> = facts.live.iter().map(|live| path(facts, live)).collect();

@@ -109,48 +109,50 @@ fn names_asked_for() {
     refused(&disk, b"Name 5", 0, 20, 0);
 }
 
-/// The rows of the check: every count but 0, every bit of the map, any first address. 7, 10, 11, 22 and 25 are not given.
+/// Both checks give this number, at slot 3.
+fn checked(disk: &Disk, number: u8) {
+    for call in [Call::Check, Call::CheckRelease] {
+        let answer = expect(&Asked::new(call), &disk.image, number).answer;
+        assert_eq!(calls::slot(answer), if number == 0 { 0 } else { 3 });
+    }
+}
+
+/// The rows of the check: every count but 0, and every bit of the map.
 #[test]
-fn rows_of_a_directory() {
+fn counts_and_bits() {
     let mut disk = disk(0, &NESTED);
-    let given = |disk: &Disk, number: u8| {
-        for call in [Call::Check, Call::CheckRelease] {
-            let answer = expect(&Asked::new(call), &disk.image, number).answer;
-            assert_eq!(calls::slot(answer), if number == 0 { 0 } else { 3 });
-        }
-    };
     for count in [0, 1, 2, 3, 255, 256, BITS, BITS + 1, 32_768, 65_535] {
         fields::set_count(disk.slot_mut(3), count);
-        given(&disk, if count == 0 { 0 } else { 4 });
+        checked(&disk, if count == 0 { 0 } else { 4 });
     }
     fields::set_count(disk.slot_mut(3), 0);
     for bit in 0..BITS {
         fields::set_bit(disk.slot_mut(3), bit, true);
-        given(&disk, 5);
+        checked(&disk, 5);
         fields::set_bit(disk.slot_mut(3), bit, false);
     }
+}
+
+/// Any first address and any length are taken: 6, 7, 10, 11, 22 and 25 are not given. Of another kind a count of 0 is refused.
+#[test]
+fn what_is_not_looked_at() {
+    let mut disk = disk(0, &NESTED);
     for track in 0..=255 {
         for sector in [0, 1, 10, 11, 255] {
             disk.slot_mut(3)[fields::FIRST..fields::MAP].copy_from_slice(&[track, sector]);
-            given(&disk, 0);
+            checked(&disk, 0);
         }
     }
-    for at in [
-        fields::PAGE,
-        fields::PAGES,
-        fields::REMAINDER,
-        fields::REMAINDER + 1,
-        fields::EXEC,
-    ] {
+    for at in fields::PAGE..=fields::EXEC {
         disk.slot_mut(3)[at] ^= 255;
-        given(&disk, 0);
+        checked(&disk, 0);
     }
     for marks in [0, 64, 128, 192] {
         disk.slot_mut(3)[0] = marks | fields::DIRECTORY;
-        given(&disk, 0);
+        checked(&disk, 0);
         for kind in fields::KNOWN.into_iter().filter(|&kind| !fields::is_directory(kind)) {
             disk.slot_mut(3)[0] = marks | kind;
-            given(&disk, 4);
+            checked(&disk, 4);
         }
     }
 }
