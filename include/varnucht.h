@@ -331,8 +331,8 @@ enum varnucht_report_place {
     VARNUCHT_REPORT_FILE_SECTORS = 97,  /* the sectors of all files */
     VARNUCHT_REPORT_FREE_SECTORS = 98,  /* the free sectors of the accepted disks */
     VARNUCHT_REPORT_CLASSES = 99,       /* + c, 0 to 11: how many files have 0 sectors (subdirectories, kind 21), 1, 2 to 3,
-                                           4 to 7, .., 512 to 1,023, 1,024 and more. They add up to the files. From 111 on nothing is counted, and
-                                           what stands there stays */
+                                           4 to 7, .., 512 to 1,023, 1,024 and more. They add up to the files. From 111 on
+                                           nothing is counted, and what stands there stays */
     VARNUCHT_REPORT_CLASS_COUNT = 12
 };
 
