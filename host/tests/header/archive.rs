@@ -85,6 +85,7 @@ fn the_calls_need_little_stack() {
         let most = match call {
             "save" => 8192,
             "report_add" | "report_join" => 3072,
+            "tree" => 36 * 1024,
             _ => 2048,
         };
         assert!(bytes > 0 && bytes < most, "{line}");
