@@ -72,17 +72,12 @@ pub fn twenty_tracks() -> Disk {
 
 /// The same with 100 directories, three in each but the innermost, and the files spread over all of them.
 pub fn nested() -> Disk {
-    in_directories(
-        "678 in 100 directories",
-        100,
-        |code| (code + 1) / 3,
-        |file| (file % 101) as u8,
-    )
+    in_directories("678 in 100", 100, |code| (code + 1) / 3, |file| (file % 101) as u8)
 }
 
 /// The same with 255 directories, each in the one before, and all files in the innermost.
 pub fn deepest() -> Disk {
-    in_directories("523 in 255, each in the last", 255, |code| code - 1, |_| 255)
+    in_directories("523 in 255 nested", 255, |code| code - 1, |_| 255)
 }
 
 /// The biggest directory with this many directories in its first slots, of codes 1 on, and files in the rest; and the codes of
