@@ -100,8 +100,8 @@ fn somewhere(damage: &Damage, disk: &mut Disk, random: &mut Random) -> Option<(u
         .find_map(|index| Some((index, (damage.apply)(disk, index, random)?)))
 }
 
-/// 24 comes first; then all slots for 2 to 9, before all slots for 10, 11 and 25; then the lowest slot, and at a slot the lowest number. What
-/// stands behind the directory's end is not seen.
+/// 24 comes first; then all slots for 2 to 9, before all slots for 10, 11 and 25; then the lowest slot, and at a slot the lowest
+/// number. What stands behind the directory's end is not seen.
 fn earlier(one: Outcome, other: Outcome) -> Outcome {
     let (one, other) = (seen_before(one, other), seen_before(other, one));
     let rank = |outcome: Outcome| match outcome {
