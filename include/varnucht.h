@@ -293,8 +293,8 @@ uint64_t varnucht_start(const uint8_t *image, size_t image_len, const uint8_t *n
  * them). Those in one directory come by rising slot, and a subdirectory is directly followed by all that lies beneath it.
  *   name   the subdirectory's; an empty one (length 0) is the root, and beneath it lies every file of the disk
  * Value: how many, 0 to 778. `slots`: two bytes for each, and VARNUCHT_TREE_BYTES always suffice; a buffer of L bytes has
- * room for L / 2 numbers. A listing has all else that the slots say, and its functions varnucht_entry_code and
- * varnucht_entry_parent tell which of them is in which.
+ * room for L / 2 numbers. A listing has all else that the slots say, and varnucht_entry_code and varnucht_entry_parent tell
+ * which of them is in which.
  * Refusals: 1 to 11, 24, 25, 26, 27, 28, 12, 13 (not a subdirectory), 15, 20. On a disk with 255 subdirectories, each inside
  * the one before, which are as many as there can be, Stack: 35,536 bytes. */
 uint64_t varnucht_tree(const uint8_t *image, size_t image_len, const uint8_t *name, size_t name_len, uint8_t *slots,

@@ -6,6 +6,9 @@ use crate::listing::Listing;
 use crate::name::Name;
 use crate::refusal::Refused;
 
+/// The bytes of a list with room for every tree: 778 slots, two bytes to a number.
+const TREE_LENGTH: usize = 2 * 778;
+
 /// What lies beneath a directory or beneath the root: every file and every directory there, at whatever depth.
 /// [`Disk::tree`](crate::Disk::tree) gives it.
 ///
@@ -28,7 +31,8 @@ impl Tree {
     /// The library's tree of a directory, or of the root where no name is given.
     pub(crate) fn of(image: &Image, listing: &Listing, directory: Option<&Name>) -> Result<Tree, Refused> {
         let name = directory.map_or(&[][..], |name| name.as_bytes());
-        let mut slots = vec![0; 2 * listing.entries().len()];
+        // With room for every slot there is the library need not count them first.
+        let mut slots = [0; TREE_LENGTH];
         let done = calls::tree(image.as_bytes(), name, &mut slots).decode()?;
         let numbers = slots.as_chunks().0.iter().take(done.value as usize);
         let entries = numbers.filter_map(|number| at_slot(listing, u16::from_le_bytes(*number)));
