@@ -14,8 +14,8 @@ use Rattle.refusals.proofs.Lowest.{lacks, lowest-first, first-lacks}
 use Rattle.geometry.specs.Disk.{imageSize}
 use Rattle.slots.specs.Slot.{facts}
 use Rattle.chains.specs.File.{File}
-use Rattle.chains.specs.Chain.{laterReply}
-use Rattle.chains.proofs.Turns.{later-rises}
+use Rattle.headers.specs.Header.{laterReply}
+use Rattle.headers.proofs.Rows.{later-rises}
 use Rattle.directory.specs.Places.{slots}
 use Rattle.directory.specs.Directory.{held}
 use Rattle.surveys.specs.Survey.{rowsAt, surveyAt, surveyBy}

@@ -22,7 +22,7 @@ use Rattle.slots.proofs.KindLaws.{carried-not, read-either}
 use Rattle.names.specs.Name.{askable}
 use Rattle.slots.specs.Rows.{dataCount}
 use Rattle.chains.specs.File.{sectorAt, sectorsOf, fileOf}
-use Rattle.chains.specs.Chain.{fileLength, body}
+use Rattle.headers.specs.Header.{fileLength, body}
 use Rattle.drives.specs.Raw.{isImage, isDrive, rawRefusal}
 use Rattle.drives.proofs.Laws.{accepted}
 use Rattle.directory.specs.Places.{slots}

@@ -1,10 +1,10 @@
--- `chains::header_differs` meets its contract.
+-- `headers::header_differs` meets its contract.
 use borrow.Author.Tests.{eq-eqb, ne-eqb}
 use Rattle.slots.specs.Slot.{facts}
-use Rattle.chains.specs.Chain.{headerDiffers}
+use Rattle.headers.specs.Header.{headerDiffers}
 use borrow.Author.Needs.{needs}
-use Rattle.chains.proofs.header_differs.Statement.{statement}
-use Rattle.chains.proofs.header_differs.Tie as tie
+use Rattle.headers.proofs.header_differs.Statement.{statement}
+use Rattle.headers.proofs.header_differs.Tie as tie
 
 num-at-requires : tie.Need-num-at-requires
 num-at-requires c κs = search needs

@@ -1,11 +1,11 @@
--- `chains::file_length` meets its contract: by the header, or by the slot.
+-- `headers::file_length` meets its contract: by the header, or by the slot.
 use Prim.Native.Nat.{_≤_, _<_}
 use mathlib.Core.Path.{sym, _∙_}
 use native.Mathlib.Omega.{arith}
 use borrow.Author.Needs.{needs}
-use Rattle.chains.proofs.Turns.{long-header, long-slot}
-use Rattle.chains.proofs.file_length.Statement.{statement}
-use Rattle.chains.proofs.file_length.Tie as tie
+use Rattle.headers.proofs.Rows.{long-header, long-slot}
+use Rattle.headers.proofs.file_length.Statement.{statement}
+use Rattle.headers.proofs.file_length.Tie as tie
 
 kind-of-requires : tie.Need-kind-of-requires
 kind-of-requires c κs = search needs

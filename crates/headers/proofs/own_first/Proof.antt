@@ -1,8 +1,8 @@
--- `chains::own_first` meets its contract.
+-- `headers::own_first` meets its contract.
 use borrow.Author.Needs.{needs}
-use Rattle.chains.proofs.Turns.{first-own}
-use Rattle.chains.proofs.own_first.Statement.{statement}
-use Rattle.chains.proofs.own_first.Tie as tie
+use Rattle.headers.proofs.Rows.{first-own}
+use Rattle.headers.proofs.own_first.Statement.{statement}
+use Rattle.headers.proofs.own_first.Tie as tie
 
 first-place-requires : tie.Need-first-place-requires
 first-place-requires c κs = search needs

@@ -1,4 +1,4 @@
--- `chains::first_sector` meets its contract: the slot's own map has the first sector, or none is given.
+-- `headers::first_sector` meets its contract: the slot's own map has the first sector, or none is given.
 use Prim.Native.Nat.{ℕ}
 use mathlib.Core.Path.{_≡_, sym, ap₂, _∙_}
 use mathlib.Core.Bool.{Bool}
@@ -7,9 +7,9 @@ use borrow.Author.Tests.{not-true, not-false}
 use borrow.Author.Needs.{needs}
 use Rattle.maps.specs.Bits.{has}
 use Rattle.slots.specs.Slot.{mapOf, firstOf}
-use Rattle.chains.proofs.Turns.{first-none}
-use Rattle.chains.proofs.first_sector.Statement.{statement}
-use Rattle.chains.proofs.first_sector.Tie as tie
+use Rattle.headers.proofs.Rows.{first-none}
+use Rattle.headers.proofs.first_sector.Statement.{statement}
+use Rattle.headers.proofs.first_sector.Tie as tie
 
 -- what the test of the map and the bit that the code holds says of the slot's
 tested : (m s : List ℕ) (b : ℕ) {t v : Bool} → m ≡ mapOf s → b ≡ firstOf s → t ≡ has m b → t ≡ v → has (mapOf s) (firstOf s) ≡ v

@@ -1,9 +1,9 @@
--- `chains::later_rows` meets its contract: it answers the lowest of rows 10, 11 and 25 that holds.
+-- `headers::later_rows` meets its contract: it answers the lowest of rows 10, 11 and 25 that holds.
 use mathlib.Core.Path.{sym, _∙_}
 use borrow.Author.Needs.{needs}
-use Rattle.chains.proofs.Turns.{begins-own, later-broken, later-differs, later-same, later-long, later-fits, later-other}
-use Rattle.chains.proofs.later_rows.Statement.{statement}
-use Rattle.chains.proofs.later_rows.Tie as tie
+use Rattle.headers.proofs.Rows.{begins-own, later-broken, later-differs, later-same, later-long, later-fits, later-other}
+use Rattle.headers.proofs.later_rows.Statement.{statement}
+use Rattle.headers.proofs.later_rows.Tie as tie
 
 chain-broken-requires : tie.Need-chain-broken-requires
 chain-broken-requires c κs = search needs
