@@ -21,8 +21,8 @@
  * You own every buffer before, during and after a call. The library allocates nothing, keeps no pointer and has no state:
  * what a call does depends on its arguments alone. So calls on different buffers may run at once on different threads, and
  * calls that only read may share an image. Nobody may read or write a buffer while a call that may change it is running.
- * Nothing outside is called but memcpy, memset and their like. A save needs less than 8 KiB of stack, the calls on reports
- * less than 3 KiB, every other call less than 2 KiB.
+ * Nothing outside is called but memcpy, memset and their like. A save needs less than 8 KiB of stack, every other call
+ * less than 2 KiB.
  *
  * Every call answers one number with four parts, which the functions below take apart:
  *
@@ -302,12 +302,12 @@ enum varnucht_report_place {
 
 /* Adds a disk to a report: any bytes, which are only read. A disk that varnucht_check refuses is counted by the number that
  * it gives, and nowhere else. Value: how many disks are in the report then, 1 to 65,535. Refusals: 20 where `report` is too
- * short to be one, then 31 where 65,535 disks are in it. Stack: 2,504 bytes. */
+ * short to be one, then 31 where 65,535 disks are in it. Stack: 1,384 bytes. */
 uint64_t varnucht_report_add(const uint8_t *image, size_t image_len, uint8_t *report, size_t report_len);
 
 /* Joins `other`, which is only read, to `report`. Value: how many disks are in the report then, 0 to 65,535. Refusals: 20
  * where one of them is too short to be a report, then 31 where they have more than 65,535 disks together.
- * Stack: 2,492 bytes. */
+ * Stack: 112 bytes. */
 uint64_t varnucht_report_join(uint8_t *report, size_t report_len, const uint8_t *other, size_t other_len);
 
 /* The number at a place of a report, 0 to 123. */

@@ -83,7 +83,6 @@ fn the_calls_need_little_stack() {
         assert!(said.is_none_or(|most| bytes <= most), "{line}: the header says {said:?}");
         let most = match call {
             "save" => 8192,
-            "report_add" | "report_join" => 3072,
             _ => 2048,
         };
         assert!(bytes > 0 && bytes < most, "{line}");
