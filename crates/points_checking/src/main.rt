@@ -1,18 +1,17 @@
-// Disks that the check refuses, and those that it only just accepts: one change of two bytes for each.
+// Points of document 01: disks that the check refuses, and those that it only just accepts, by one change of two bytes for each.
 ghost use Prim.Native.Nat.{_<_};
-use crate::disks;
 
 // The check of a disk with two bytes changed, which are then put back.
-pub(crate) fn changed(what: &[u8], image: &mut [u8], at: usize, one: u8, two: u8)
+fn changed(what: &[u8], image: &mut [u8], at: usize, one: u8, two: u8)
     requires { ⌜ at < 819200 ⌝ }
 {
     let was_one = buffers::byte_at(image, at);
     let was_two = buffers::byte_at(image, at + 1);
-    disks::set(image, at, one);
-    disks::set(image, at + 1, two);
+    points::set(image, at, one);
+    points::set(image, at + 1, two);
     points::checked(what, image);
-    disks::set(image, at, was_one);
-    disks::set(image, at + 1, was_two);
+    points::set(image, at, was_one);
+    points::set(image, at + 1, was_two);
 }
 
 fn kinds(image: &mut [u8]) {
@@ -74,8 +73,8 @@ fn other_headers(image: &mut [u8]) {
 
 // Four sectors in the map, and a chain that goes round in the first two.
 fn loop_of_two(image: &mut [u8]) {
-    disks::set(image, 12, 4);
-    disks::set(image, 15, 51);
+    points::set(image, 12, 4);
+    points::set(image, 15, 51);
     changed(b"a loop of two sectors", image, 41982, 4, 1);
     changed(
         b"a chain of four sectors that ends at three",
@@ -84,35 +83,35 @@ fn loop_of_two(image: &mut [u8]) {
         4,
         5,
     );
-    disks::set(image, 12, 2);
-    disks::set(image, 15, 3);
+    points::set(image, 12, 2);
+    points::set(image, 15, 3);
 }
 
 // Two faults on one disk: which comes first.
 fn order_of_rows(image: &mut [u8]) {
     changed(b"kind 13 and no name at slot 1", image, 0, 13, 0);
-    disks::set(image, 15, 1);
+    points::set(image, 15, 1);
     changed(b"5 at slot 1, no name at slot 2", image, 257, 0, b'I');
-    disks::set(image, 15, 3);
+    points::set(image, 15, 3);
 }
 
 fn order_of_passes(image: &mut [u8]) {
-    disks::set(image, 41982, 4);
+    points::set(image, 41982, 4);
     changed(b"10 at slot 1, 2 at slot 21", image, 10240, 63, b'F');
-    disks::set(image, 41982, 0);
-    disks::set(image, 40960, 16);
+    points::set(image, 41982, 0);
+    points::set(image, 40960, 16);
     changed(b"11 at slot 1, 10 at slot 2", image, 42494, 4, 4);
-    disks::set(image, 40960, 19);
+    points::set(image, 40960, 19);
 }
 
-pub(crate) fn slot_damages(image: &mut [u8]) {
+fn slot_damages(image: &mut [u8]) {
     kinds(image);
     names_and_counts(image);
     maps_of_slots(image);
     firsts_and_lengths(image);
 }
 
-pub(crate) fn chain_damages(image: &mut [u8]) {
+fn chain_damages(image: &mut [u8]) {
     links(image);
     ends(image);
     loop_of_two(image);
@@ -120,8 +119,32 @@ pub(crate) fn chain_damages(image: &mut [u8]) {
     other_headers(image);
 }
 
-pub(crate) fn orders(image: &mut [u8]) {
+fn orders(image: &mut [u8]) {
     order_of_rows(image);
     order_of_passes(image);
     points::checked(b"the disk as it was", image);
+}
+
+// Three files, and an erased slot with rubbish, which is then live.
+fn files(image: &mut [u8]) {
+    points::disks::file_a(image);
+    points::disks::file_b(image);
+    points::disks::file_c(image);
+    points::disks::rubbish(image);
+    changed(b"an erased slot live", image, 512, 19, 255);
+}
+
+// One file in all sectors, and its length by one too great.
+fn full(image: &mut [u8]) {
+    points::disks::full(image);
+    changed(b"length 795592 in 1560 sectors", image, 240, 200, 35);
+}
+
+fn main() {
+    let mut image = points::blank();
+    files(&mut image);
+    slot_damages(&mut image);
+    chain_damages(&mut image);
+    orders(&mut image);
+    full(&mut image);
 }

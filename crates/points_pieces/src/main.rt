@@ -80,7 +80,7 @@ fn rubbish(image: &[u8]) {
     four(buffers::part_at(image, 0, 819199), place(80, 9, 505));
 }
 
-pub(crate) fn played(image: &[u8]) {
+fn played(image: &[u8]) {
     opened(b"one file of 2 sectors", image, b"FILE A");
     opened(b"a name of 0 bytes", image, b"");
     opened(b"a kind that cannot be read", image, b"FILE C");
@@ -92,4 +92,12 @@ pub(crate) fn played(image: &[u8]) {
     );
     cuts(image);
     rubbish(image);
+}
+
+fn main() {
+    let mut image = points::blank();
+    points::disks::file_a(&mut image);
+    points::disks::file_b(&mut image);
+    points::disks::file_c(&mut image);
+    played(&image);
 }

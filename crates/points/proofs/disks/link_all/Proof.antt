@@ -1,10 +1,10 @@
--- `points_opening::disks::link_all` is safe and ends: the image keeps its length, and the map bits run out.
+-- `points::disks::link_all` is safe and ends: the image keeps its length, and the map bits run out.
 use Prim.Native.Nat.{_-_}
 use mathlib.Core.Path.{_≡_}
 use borrow.Author.Needs.{needs}
 use lib.ListN.{length}
-use Rattle.points_opening.proofs.disks.link_all.Statement.{statement}
-use Rattle.points_opening.proofs.disks.link_all.Tie as tie
+use Rattle.points.proofs.disks.link_all.Statement.{statement}
+use Rattle.points.proofs.disks.link_all.Tie as tie
 
 abbrev Inv-loop : tie.InvT-loop
 Inv-loop image₀ bit₀ image bit = length image ≡ length image₀

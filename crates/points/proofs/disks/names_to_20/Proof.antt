@@ -1,13 +1,10 @@
--- `points_opening::disks::names_to_20` is safe and ends: the image keeps its length, and the slots run out.
+-- `points::disks::names_to_20` is safe and ends: the image keeps its length, and the slots run out.
 use Prim.Native.Nat.{_-_}
 use mathlib.Core.Path.{_≡_}
 use lib.ListN.{length}
 use borrow.Author.Needs.{needs}
-use Rattle.points_opening.proofs.disks.names_to_20.Statement.{statement}
-use Rattle.points_opening.proofs.disks.names_to_20.Tie as tie
-use Rattle.points_opening.proofs.disks.names_to_20.Reads as reads
-use Rattle.points_opening.proofs.disks.names_to_20.Lts as lts
-use Rattle.points_opening.proofs.disks.set.Reads as set-reads
+use Rattle.points.proofs.disks.names_to_20.Statement.{statement}
+use Rattle.points.proofs.disks.names_to_20.Tie as tie
 
 abbrev Inv-loop : tie.InvT-loop
 Inv-loop image₀ at₀ image at = length image ≡ length image₀
@@ -15,31 +12,24 @@ Inv-loop image₀ at₀ image at = length image ≡ length image₀
 abbrev μ-loop : tie.MeasureT-loop
 μ-loop image₀ at₀ image at = 5120 - at
 
--- src/disks.rt:70:5
 loop-holds : tie.Need-loop-holds Inv-loop μ-loop
 loop-holds c = search needs
 
--- src/disks.rt:71:9
 set-requires : tie.Need-set-requires Inv-loop μ-loop
 set-requires c κs = search needs
 
--- src/disks.rt:72:9
 add-at : tie.Need-add-at Inv-loop μ-loop
 add-at c = search needs
 
--- src/disks.rt:70:5
 loop-less : tie.Need-loop-less Inv-loop μ-loop
 loop-less c = search needs
 
--- src/disks.rt:70:5
 loop-again : tie.Need-loop-again Inv-loop μ-loop
 loop-again c = search needs
 
--- src/disks.rt:68:1
 same-length : tie.Need-same-length Inv-loop μ-loop
 same-length c = search needs
 
--- src/disks.rt:68:1
 returns : tie.Need-returns Inv-loop μ-loop
 returns c = search needs
 

@@ -1,27 +1,13 @@
-// The disks that are tried. They are built from the document's own numbers, and not by the arithmetic that they try; only
-// the 1,560 links of the full disk are the library's.
-ghost use mathlib.Core.Path.{_≡_};
+// The disks that the programs of document 01 try. They are built from the document's own numbers, and not by the arithmetic
+// that they try; only the 1,560 links of the full disk are the library's.
 ghost use Prim.Native.Nat.{_<_};
-ghost use lib.ListN.{length};
 use geometry::Address;
-
-pub(crate) fn too_long() -> [u8; 819201]
-    ensures { λ r. ⌜ 819201 ≡ length r ⌝ }
-{
-    [0; 819201]
-}
-
-pub(crate) fn set(image: &mut [u8], at: usize, b: u8) {
-    if at < image.len() {
-        image[at] = b;
-    }
-}
 
 // A slot's first bytes: kind, name, and then the count, the first address and the map's first byte.
 fn entry(image: &mut [u8], at: usize, kind: u8, name: &[u8], rest: &[u8])
     requires { ⌜ at < 40960 ⌝ }
 {
-    set(image, at, kind);
+    crate::set(image, at, kind);
     buffers::copy_into(image, at + 1, name);
     buffers::copy_into(image, at + 11, rest);
 }
@@ -45,7 +31,7 @@ fn first_sector(image: &mut [u8], at: usize, text: &[u8], link: &[u8])
 }
 
 // Slot 1: track 4, sectors 1 and 2, which are map bits 0 and 1.
-pub(crate) fn file_a(image: &mut [u8]) {
+pub fn file_a(image: &mut [u8]) {
     let rest = [0, 2, 4, 1, 3];
     entry(image, 0, 19, b"FILE A    ", &rest);
     start_and_length(image, 0);
@@ -55,7 +41,7 @@ pub(crate) fn file_a(image: &mut [u8]) {
 }
 
 // Slot 2: track 4, sector 4 and then sector 3, which are map bits 3 and 2.
-pub(crate) fn file_b(image: &mut [u8]) {
+pub fn file_b(image: &mut [u8]) {
     let rest = [0, 2, 4, 4, 12];
     entry(image, 256, 19, b"FILE B    ", &rest);
     start_and_length(image, 256);
@@ -68,35 +54,24 @@ pub(crate) fn file_b(image: &mut [u8]) {
 fn names_to_20(image: &mut [u8]) {
     let mut at: usize = 513;
     while at < 5120 {
-        set(image, at, b'-');
+        crate::set(image, at, b'-');
         at += 256;
     }
 }
 
 // Slot 21, of kind 5, which cannot be read: track 128, sector 1, which is map bit 760. Its bytes stand at 5,120.
-pub(crate) fn file_c(image: &mut [u8]) {
+pub fn file_c(image: &mut [u8]) {
     names_to_20(image);
     let rest = [0, 1, 128, 1, 0];
     entry(image, 10240, 5, b"FILE C    ", &rest);
-    set(image, 10350, 1);
+    crate::set(image, 10350, 1);
     buffers::copy_into(image, 5120, b"CCCC");
 }
 
 // Slot 3, erased, with every other byte 255: a name, a count and a map that are nobody's.
-pub(crate) fn rubbish(image: &mut [u8]) {
+pub fn rubbish(image: &mut [u8]) {
     let bytes = [255u8; 255];
     buffers::copy_into(image, 513, &bytes);
-}
-
-fn low(n: usize) -> u8 {
-    (n % 256) as u8
-}
-
-fn link(image: &mut [u8], at: usize, track: usize, sector: usize) {
-    if at < 819200 {
-        set(image, at + 510, low(track));
-        set(image, at + 511, low(sector));
-    }
 }
 
 // Every data sector linked to that of the next map bit, and the last to none.
@@ -106,16 +81,16 @@ fn link_all(image: &mut [u8]) {
         let at = geometry::bit_place(bit);
         bit += 1;
         match geometry::address_of(bit) {
-            Address::Sector(track, sector) => link(image, at, track, sector),
-            Address::NoBit => link(image, at, 0, 0),
+            Address::Sector(track, sector) => crate::link(image, at, track, sector),
+            Address::NoBit => crate::link(image, at, 0, 0),
         }
     }
 }
 
 // One file of 795,591 bytes, 48 pages and 9,159, in all 1,560 sectors; the other slots erased.
-pub(crate) fn full(image: &mut [u8]) {
-    set(image, 256, 0);
-    set(image, 10240, 0);
+pub fn full(image: &mut [u8]) {
+    crate::set(image, 256, 0);
+    crate::set(image, 10240, 0);
     let rest = [6, 24, 4, 1];
     entry(image, 0, 19, b"FULL      ", &rest);
     let map = [255u8; 195];
