@@ -16,8 +16,8 @@ use Rattle.slots.specs.Slot.{facts}
 use Rattle.slots.specs.Tracks.{badTracks}
 use Rattle.slots.proofs.Tracks.{tracks-good, good-tracks, tracks-bad, bad-tracks}
 use Rattle.chains.specs.File.{File}
-use Rattle.chains.specs.Chain.{laterReply}
-use Rattle.chains.proofs.Turns.{later-rises}
+use Rattle.headers.specs.Header.{laterReply}
+use Rattle.headers.proofs.Rows.{later-rises}
 use Rattle.directory.specs.Places.{slots}
 use Rattle.directory.specs.Directory.{held}
 use Rattle.surveys.specs.Survey.{rowsAt, surveyAt, surveyBy}

@@ -12,10 +12,11 @@ use Rattle.maps.specs.Bits.{has, bitsOf}
 use Rattle.refusals.specs.Order.{Row, Clear}
 use Rattle.slots.specs.Slot.{facts, known, carried, spectrum, kindOf, countOf, mapOf, firstOf, pagesOf, remainderOf, lengthOf}
 use Rattle.slots.specs.Rows.{own}
+use Rattle.chains.specs.Chain.{broken}
+use Rattle.headers.specs.Header.{headerDiffers, headerLength, later}
 use Rattle.slots.specs.Tracks.{dataCount, dataBit, inDirectory}
 use Rattle.slots.proofs.Tracks.{outside-data, data-outside}
 use Rattle.chains.proofs.Laws.{map-small}
-use Rattle.chains.specs.Chain.{broken, headerDiffers, headerLength, later}
 use Rattle.disk.specs.Sound.{Known, Carried, Spectrum, Agrees}
 
 -- ---- Booleans

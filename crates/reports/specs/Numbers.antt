@@ -58,7 +58,7 @@ filesReport v k = record {
   classes = λ c. filesAmong v k (λ s. inClass c (countOf s));
 }
 
--- an accepted disk, with n directory tracks beyond four
+-- an accepted disk, with n directory tracks beyond the four
 unfoldable pub acceptedReport : ℕ → Directory → Numbers
 acceptedReport n v = record {
   accepted = 1;
