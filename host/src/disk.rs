@@ -1,6 +1,7 @@
 //! Accepted disks.
 use crate::calls;
 use crate::change::{Change, NewFile};
+use crate::directory::{Directory, DiskName};
 use crate::entry::Entry;
 use crate::image::Image;
 use crate::listing::Listing;
@@ -14,7 +15,8 @@ use std::fmt;
 
 /// A disk that the library has accepted, with its listing.
 ///
-/// Every change of an accepted disk leaves an accepted disk, which is proved. So no call here is refused 1 to 11 or 25.
+/// Every change of an accepted disk leaves an accepted disk, which is proved. So no call here is refused 1 to 11, 24
+/// or 25.
 ///
 /// Two disks are equal where their images are. A clone copies the image: 819,200 bytes.
 #[derive(Clone, Debug)]
@@ -34,7 +36,8 @@ impl PartialEq for Disk {
 impl Eq for Disk {}
 
 impl Disk {
-    /// Opens a disk: checks the image and lists it. Refused 2 to 11 and 25 with the slot; the error hands the image back.
+    /// Opens a disk: checks the image and lists it. Refused 24, or 2 to 11 and 25 with the slot; the error hands the
+    /// image back.
     ///
     /// Every slot before the directory's end is looked at, and every sector of every file. The image is not copied.
     ///
@@ -72,6 +75,16 @@ impl Disk {
     /// The files and the free sectors. It is kept with the disk and costs nothing.
     pub fn listing(&self) -> &Listing {
         &self.listing
+    }
+
+    /// How large the directory is: its tracks, its slots and the data sectors that it leaves. No change alters that.
+    pub fn directory(&self) -> Directory {
+        self.listing.directory()
+    }
+
+    /// The disk's name; none where it has none. No change alters it.
+    pub fn name(&self) -> Option<DiskName> {
+        self.image.name()
     }
 
     /// Whether no file of a carried kind has more sectors than its length needs ([`Entry::least_sectors`]), which is where

@@ -5,7 +5,7 @@
 //! | type | what its values have already passed |
 //! |---|---|
 //! | [`Image`] | it is 819,200 bytes: refusal 1 is ruled out |
-//! | [`Disk`] | the library has accepted it: refusals 1 to 11 and 25 are ruled out |
+//! | [`Disk`] | the library has accepted it: refusals 1 to 11, 24 and 25 are ruled out |
 //! | [`Name`], [`NewName`] | usable as a name asked for, as a new name: refusal 12 is ruled out |
 //! | [`CarriedKind`], [`Start`] | a save takes them: refusals 13 and 14 of a save are ruled out |
 //! | [`Drive`], [`Track`], [`Sector`] | they are there: refusal 21 is ruled out |
@@ -86,6 +86,25 @@
 //! piece by piece; they cannot be saved. Their length and start stand in that header and not in the listing:
 //! [`Disk::length`] and [`Disk::start`] give them.
 //!
+//! # Bigger directories, and the disk's name
+//!
+//! MasterDOS makes disks whose [`Directory`] has up to 39 tracks, with up to 778 slots, and gives a disk a name.
+//! [`Disk::directory`] and [`Disk::name`] tell both, and [`Image::blank_with`] makes such a disk. They stand in slot 1, beside
+//! whatever file is there, and no change alters them.
+//!
+//! ```
+//! use varnucht::{CarriedKind, Directory, Disk, Image, NewFile, NewName, Start};
+//!
+//! let mut image = Image::blank_with(Directory::new(20).unwrap());
+//! image.as_bytes_mut()[210..220].copy_from_slice(b"MAGAZINE 7");
+//! let mut disk = Disk::open(image)?;
+//! let _ = disk.save(&NewFile::new(CarriedKind::Code, NewName::new("TUNES")?, Start::new(1, 32_768)?, b"la la la"))?;
+//! assert_eq!(disk.name().unwrap().to_string(), "MAGAZINE 7");
+//! assert_eq!((disk.directory().tracks(), disk.directory().slots()), (20, 398));
+//! assert_eq!(disk.listing().free_slots(), 397);
+//! # Ok::<(), varnucht::Refused>(())
+//! ```
+//!
 //! # Before a compilation goes out
 //!
 //! A file may have more sectors than its length needs, and old texts hide in them. Every call accepts such a disk but
@@ -138,6 +157,7 @@
 mod answer;
 pub mod calls;
 mod change;
+mod directory;
 mod disk;
 mod drives;
 mod entry;
@@ -158,6 +178,7 @@ mod store;
 
 pub use answer::{Accepted, Answer};
 pub use change::{Change, NO_EXECUTION, NewFile};
+pub use directory::{Directory, DiskName};
 pub use disk::{Disk, Unsound};
 pub use drives::Drives;
 pub use entry::Entry;

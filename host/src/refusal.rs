@@ -13,11 +13,11 @@ pub enum Refusal {
     UnknownKind,
     /// 3: the first name byte is 0. It is given no more, since the directory ends there, and the number stays reserved.
     NoFirstNameByte,
-    /// 4: the count is not 1 to 1,560.
+    /// 4: the count is not 1 to the number of data sectors.
     Count,
     /// 5: the map's set bits are not as many as the count.
     MapCount,
-    /// 6: the first address is not a data sector, or its bit is clear.
+    /// 6: the first address is not a data sector, or its bit is clear, or the map has a bit inside the directory.
     FirstAddress,
     /// 7: carried kind, and its sectors are too few for its length.
     TooFewSectors,
@@ -52,6 +52,8 @@ pub enum Refusal {
     NoSuchSector,
     /// 22: carried kind, and the file has more sectors than its length needs. The check before a release alone gives it.
     WasteSectors,
+    /// 24: slot 1 says a number of directory tracks that no disk has.
+    DirectoryTracks,
     /// 25: a kind of the Spectrum, 1 to 4, and its sectors are too few for the length in its header.
     BodyTooLong,
     /// 31: a report that would pass 65,535 disks.
@@ -61,16 +63,16 @@ pub enum Refusal {
 }
 
 /// The table of document 01 with the rows that document 02 adds, by rising number.
-const TABLE: [(u8, Refusal, &str); 24] = [
+const TABLE: [(u8, Refusal, &str); 25] = [
     (1, Refusal::ImageLength, "the image is not 819,200 bytes"),
     (2, Refusal::UnknownKind, "the kind is not known"),
     (3, Refusal::NoFirstNameByte, "the first name byte is 0 (given no more)"),
-    (4, Refusal::Count, "the count is not 1 to 1,560"),
+    (4, Refusal::Count, "the count is not 1 to the number of data sectors"),
     (5, Refusal::MapCount, "the map's set bits are not as many as the count"),
     (
         6,
         Refusal::FirstAddress,
-        "the first address is not a data sector, or its bit is clear",
+        "the first address is not a data sector, or its bit is clear, or the map has a bit inside the directory",
     ),
     (7, Refusal::TooFewSectors, "carried kind, and 510 × count is below 9 + length"),
     (8, Refusal::SharedSector, "the map shares a bit with an earlier live slot"),
@@ -108,6 +110,11 @@ const TABLE: [(u8, Refusal, &str); 24] = [
         22,
         Refusal::WasteSectors,
         "carried kind, and the count is above the least that its length needs (waste sectors behind the file)",
+    ),
+    (
+        24,
+        Refusal::DirectoryTracks,
+        "the number of directory tracks beyond four, byte 255 of slot 1, is 36 to 254",
     ),
     (
         25,
@@ -151,7 +158,7 @@ impl Refusal {
     }
 }
 
-/// The number of a slot of the directory, 1 to 80.
+/// The number of a slot of the directory, 1 to 778.
 #[derive(Clone, Copy, Debug, PartialEq, Eq, PartialOrd, Ord, Hash)]
 pub struct Slot(NonZeroU16);
 

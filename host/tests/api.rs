@@ -1,4 +1,6 @@
 //! The safe interface, by subject. Here is what the subjects share.
+#[path = "api/bigger.rs"]
+mod bigger;
 #[path = "api/changing.rs"]
 mod changing;
 #[path = "api/pieces.rs"]

@@ -16,7 +16,7 @@ use std::fs;
 use std::process::Command;
 
 /// The parts of the program that checks the header from inside.
-const CHECKS: [&str; 9] = [
+const CHECKS: [&str; 10] = [
     "main.c",
     "constants.c",
     "answers.c",
@@ -26,6 +26,7 @@ const CHECKS: [&str; 9] = [
     "sizes.c",
     "pieces.c",
     "reports.c",
+    "bigger.c",
 ];
 
 fn header_text() -> String {

@@ -1,7 +1,7 @@
 -- Laws of counting and of asking for any, over the numbers below a bound.
 use Prim.Native.Nat.{ℕ, zero, suc, _+_, _-_, _≤_, _<_}
 use mathlib.Core.Path.{_≡_, refl, sym, ap, ap₂, _∙_, subst}
-use mathlib.Core.Bool.{Bool, true, false, cond, _||_, true≢false, false≢true}
+use mathlib.Core.Bool.{Bool, true, false, cond, not, _&&_, _||_, true≢false, false≢true}
 use mathlib.Core.Logic.{⊎-elim}
 use native.Mathlib.Nat.{eq-or-lt-of-le, le-of-suc-le-suc, not-suc-le-zero, add-zero, add-suc, add-assoc}
 use native.Mathlib.Numerals.{add-one}
@@ -39,6 +39,24 @@ pub count-none : (n : ℕ) (p : ℕ → Bool) → ((k : ℕ) → k < n → p k �
 unfolding count
 count-none zero p h = refl
 count-none (suc n) p h = rw (h n (omega arith), count-none n p (λ k l. h k (omega arith)))
+
+pub count-all : (n : ℕ) (p : ℕ → Bool) → ((k : ℕ) → k < n → p k ≡ true) → count n p ≡ n
+unfolding count
+count-all zero p h = refl
+count-all (suc n) p h = rw (h n (omega arith), count-all n p (λ k l. h k (omega arith))) (omega arith)
+
+-- those that hold, less some of them
+pub count-less : (n : ℕ) (p q : ℕ → Bool) → ((k : ℕ) → k < n → q k ≡ true → p k ≡ true) → count n (λ k. p k && not (q k)) + count n q ≡ count n p
+unfolding count
+count-less zero p q h = refl
+count-less (suc n) p q h = by (p n) (q n) (h n (omega arith)) (count-less n p q (λ k l. h k (omega arith)))
+  where
+    by : (a b : Bool) → (b ≡ true → a ≡ true) → count n (λ k. p k && not (q k)) + count n q ≡ count n p
+        → count n (λ k. p k && not (q k)) + cond (a && not b) 1 0 + (count n q + cond b 1 0) ≡ count n p + cond a 1 0
+    by true true w e = omega arith
+    by true false w e = omega arith
+    by false true w e = absurd (false≢true (w refl))
+    by false false w e = omega arith
 
 pub none-count : (n : ℕ) (p : ℕ → Bool) → count n p ≡ 0 → (k : ℕ) → k < n → p k ≡ false
 unfolding count

@@ -17,6 +17,7 @@ use Rattle.refusals.specs.Answers.{Outcome, done, refused}
 use Rattle.slots.specs.Slot.{carried, protected, sectorsFor}
 use Rattle.names.specs.Name.{askable, padded}
 use Rattle.chains.specs.File.{File}
+use Rattle.directory.specs.Places.{slots}
 use Rattle.directory.specs.Directory.{held, Directory}
 use Rattle.surveys.specs.Survey.{free, usedMap}
 use Rattle.directory.specs.Find.{find}
@@ -26,10 +27,9 @@ use Rattle.disk.specs.Check.{checkDisk}
 use Rattle.files.specs.Calls.{fileAt}
 use Rattle.steps.specs.Steps.{enact, numbers}
 use Rattle.plans.specs.Change.{Wish, Change, save, erase, rename, mark, marked, between, usable}
-use Rattle.plans.specs.Saving.{taken, lowestSlot, slotTaken}
+use Rattle.plans.specs.Saving.{passing, freeBit, taken, lowestSlot, slotTaken}
 use Rattle.plans.specs.Plan.{touch, oldName, saveSteps, Plan, no, go, orNo, byName, takenAt, nameTaken, takenBy, renameTaken, isProtected, saveReply, planOf, plan, Result, stopped, made, settle, checked, run, Changed, changed, changedBy, change}
 use Rattle.plans.proofs.Respelt.{taken-found}
-use Rattle.plans.proofs.Free.{taken-long}
 use Rattle.plans.proofs.Ended.{dirs-some}
 use Rattle.plans.proofs.Refused.{save-long}
 use Rattle.plans.proofs.Sure.{save-tested}
@@ -62,7 +62,7 @@ mild-or m none p a b = b
 mild-or m (some r) p a b = a
 
 module _ (l : Look) (n : List ℕ) where
-  mild-named : (m : ℕ) (at : ℕ → File → Plan) → ((i : ℕ) → i < 80 → Mild m (at i (fileAt l i))) → Mild m (byName l n at)
+  mild-named : (m : ℕ) (at : ℕ → File → Plan) → ((i : ℕ) → i < slots → Mild m (at i (fileAt l i))) → Mild m (byName l n at)
   mild-named m at h = by (find (slotsOf l) n) refl
     where
       by : (o : Option ℕ) → find (slotsOf l) n ≡ o → Mild m (held (no (refuse 15 0)) (λ i. at i (fileAt l i)) o)
@@ -70,9 +70,9 @@ module _ (l : Look) (n : List ℕ) where
       by (some i) e = h i (find-some (slotsOf l) n i e .below)
 
 -- 16, at a slot that a search can give
-small-at : (o : Option ℕ) → ((i : ℕ) → o ≡ some i → i < 80) → Small (takenAt o)
+small-at : (o : Option ℕ) → ((i : ℕ) → o ≡ some i → i < slots) → Small (takenAt o)
 small-at none h = tt
-small-at (some i) h = let k : i < 80 = h i refl in (omega arith, omega arith)
+small-at (some i) h = let k : i < slots = h i refl in (omega arith, omega arith)
 
 small-taken : (v : Directory) (n : List ℕ) → Small (nameTaken v n)
 small-taken v n = small-at (find v n) (λ i e. find-some v n i e .below)
@@ -80,12 +80,12 @@ small-taken v n = small-at (find v n) (λ i e. find-some v n i e .below)
 small-renamed : (v : Directory) (i : ℕ) (f : File) (n : List ℕ) → Small (renameTaken v i f n)
 small-renamed v i f n = small-at (takenBy v i f n) (λ j e. find-some v n j (taken-found v i f n j e) .below)
 
-small-protected : (i : ℕ) (f : File) → i < 80 → Small (isProtected i f)
+small-protected : (i : ℕ) (f : File) → i < slots → Small (isProtected i f)
 small-protected i f h = small-row 17 (suc i) (protected (f .bytes)) (omega arith) (omega arith)
 
 pub free-few : (n : ℕ) (v : Directory) → free n v ≤ 1560
 unfolding free
-free-few n v = free-le n (usedMap v)
+free-few n v = free-le (usedMap n v)
 
 small-save : (n : ℕ) (v : Directory) (w : Wish) → Small (saveReply n v w)
 unfolding saveReply
@@ -109,6 +109,10 @@ small-save n v w =
     r19 : Reply
     r19 = row 19 0 (ltb (free n v) (sectorsFor (length (w .body))))
 
+taken-few : (n : ℕ) (v : Directory) (w : Wish) → length (taken n v w) ≤ sectorsFor (length (w .body))
+unfolding taken
+taken-few n v w = omega (arith, length-take (sectorsFor (length (w .body))) (passing 1560 0 (freeBit n v)))
+
 mild-save : (old : ℕ → Bool) (l : Look) (w : Wish) → Mild 1562 (planOf old (save w) l)
 unfolding planOf
 mild-save old l w = by (saveReply n v w) refl (small-save n v w)
@@ -126,7 +130,7 @@ mild-save old l w = by (saveReply n v w) refl (small-save n v w)
     by (some r) e a = a
     by none e a =
         let t = save-tested n v w e .room in
-        omega (arith, save-long (old i) l i w (taken n v w), dirs-some (old i) i, taken-long l w t, free-few n v)
+        omega (arith, save-long (old i) l i w (taken n v w), dirs-some (old i) i, taken-few n v w, t, free-few n v)
 
 mild : (old : ℕ → Bool) (c : Change) (l : Look) → Mild (most c) (planOf old c l)
 unfolding planOf numbers

@@ -17,13 +17,14 @@ use Rattle.directory.specs.Places.{slots}
 use Rattle.directory.specs.Directory.{held}
 use Rattle.disk.specs.Look.{Look}
 use Rattle.disk.specs.Check.{checkBy, checkLook}
+use Rattle.slots.specs.Tracks.{badTracks}
 use Rattle.disk.specs.Given.{rowsBy, rows11}
 use Rattle.disk.proofs.Order.{passAt, pass, check-passes}
 
 -- a refusal of the table at a slot of the directory, or none
 abbrev pub Small : Reply → Type 0
 Small none = Unit {0}
-Small (some r) = (r .number ≤ lastNumber) × (r .slot ≤ 80)
+Small (some r) = (r .number ≤ lastNumber) × (r .slot ≤ 778)
 
 pub small-else : (p q : Reply) → Small p → Small q → Small (p else q)
 small-else none q a b = b
@@ -33,7 +34,7 @@ abbrev few : List Row → Bool
 few [] = true
 few (r ∷ rs) = leb (r .number) lastNumber && few rs
 
-small-rows : (s : ℕ) (rs : List Row) → s ≤ 80 → few rs ≡ true → Small (rows s rs)
+small-rows : (s : ℕ) (rs : List Row) → s ≤ 778 → few rs ≡ true → Small (rows s rs)
 small-rows s [] h e = tt
 small-rows s (r ∷ rs) h e =
     let c = and-both (leb (r .number) lastNumber) (few rs) e in
@@ -43,7 +44,7 @@ small-rows s (r ∷ rs) h e =
     by true a b = (a, h)
     by false a b = b
 
-pub small-row : (n s : ℕ) (t : Bool) → n ≤ lastNumber → s ≤ 80 → Small (row n s t)
+pub small-row : (n s : ℕ) (t : Bool) → n ≤ lastNumber → s ≤ 778 → Small (row n s t)
 small-row n s true p q = (p, q)
 small-row n s false p q = tt
 
@@ -64,8 +65,10 @@ small-pass l rs h = small-sweep slots (passAt l rs) (λ i k. by i k (l .files i)
 pub small-by : (release : Bool) (l : Look) → Small (checkBy release l)
 small-by release l =
     subst Small (sym (check-passes release l))
-    (small-else (row 1 0 (not (eqb (l .long) imageSize))) (pass l (rowsBy release l) else pass l (rows11 l)) (small-row 1 0 (not (eqb (l .long) imageSize)) (omega arith) (omega arith))
-    (small-else (pass l (rowsBy release l)) (pass l (rows11 l)) (small-pass l (rowsBy release l) (by release)) (small-pass l (rows11 l) (λ i f. refl))))
+    (small-else (row 1 0 (not (eqb (l .long) imageSize))) (row 24 0 (badTracks (l .label 255)) else pass l (rowsBy release l) else pass l (rows11 l))
+    (small-row 1 0 (not (eqb (l .long) imageSize)) (omega arith) (omega arith))
+    (small-else (row 24 0 (badTracks (l .label 255))) (pass l (rowsBy release l) else pass l (rows11 l)) (small-row 24 0 (badTracks (l .label 255)) (omega arith) (omega arith))
+    (small-else (pass l (rowsBy release l)) (pass l (rows11 l)) (small-pass l (rowsBy release l) (by release)) (small-pass l (rows11 l) (λ i f. refl)))))
   where
     by : (release : Bool) (i : ℕ) (f : File) → few (rowsBy release l i f) ≡ true
     by true i f = refl

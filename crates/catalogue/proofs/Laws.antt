@@ -1,16 +1,16 @@
 -- Laws of the text: the lines of the slots one after another, the text as a whole, and what the call gives.
 use Prim.Native.Nat.{ℕ, zero, suc, _+_, _-_, _*_, _≤_, _<_}
 use mathlib.Core.Path.{_≡_, refl, sym, ap, _∙_}
-use mathlib.Core.Bool.{Bool, true, false, cond}
+use mathlib.Core.Bool.{Bool, true, false, cond, not, _||_, true≢false}
 use mathlib.Core.List.{List, [], _++_, append-nil}
 use mathlib.Core.Logic.{⊎-elim}
 use mathlib.Core.Option.{Option, none, some}
 use native.Mathlib.Nat.{add-zero, add-suc}
 use native.Mathlib.Numerals.{add-one}
 use native.Mathlib.Omega.{arith}
-use borrow.Author.Tests.{lt-ltb, le-ltb}
-use lib.Dec.{ltb}
-use lib.ListN.{length, take, length-append}
+use borrow.Author.Tests.{eqb-true, eq-eqb, ne-eqb, lt-ltb, le-ltb}
+use lib.Dec.{eqb, leb, ltb}
+use lib.ListN.{length, getD, take, length-append}
 use Rattle.buffers.specs.Bytes.{part, put}
 use Rattle.buffers.proofs.Lists.{below-or-not, part-whole, part-long, part-put}
 use Rattle.refusals.specs.Order.{Refusal, refuse, Reply, row}
@@ -18,18 +18,20 @@ use Rattle.refusals.specs.Answers.{Outcome, refused, done, outcomeOf, Out, out,
 use Rattle.refusals.specs.declared.Answer.{Answer}
 use Rattle.refusals.specs.declared.Answer.the-variants.{Done}
 use Rattle.slots.specs.Slot.{isLive, hidden, countOf}
-use Rattle.slots.specs.Rows.{dataCount}
+use Rattle.slots.specs.Tracks.{tracksBy}
+use Rattle.slots.proofs.Tracks.{data-few}
 use Rattle.lines.specs.Lines.{line, entry, freeLine, refusalLine}
 use Rattle.lines.specs.Written.{Wrote}
 use Rattle.lines.proofs.Laws.{wrote-then, line-most, length-free, decimal-most, refusal-most}
-use Rattle.directory.specs.Places.{slots}
-use Rattle.directory.specs.Directory.{held, Directory, slotsRead, directory, slotOr}
-use Rattle.surveys.specs.Survey.{survey, usedMap, usedOr, freeOf, free}
+use Rattle.directory.specs.Places.{slotCount, slots}
+use Rattle.directory.specs.Directory.{held, Directory, labelOf, tracksOf, slotsRead, directory, slotOr}
+use Rattle.surveys.specs.Survey.{survey, counted, usedMap, usedOr, freeOf, free}
 use Rattle.surveys.specs.declared.UsedMap.{UsedMap}
 use Rattle.directory.proofs.Ends.{read-most}
-use Rattle.directory.proofs.Live.{directory-front, directory-read, directory-unread}
+use Rattle.directory.proofs.Live.{label-front, directory-base, directory-front, directory-read, directory-unread}
+use Rattle.directory.proofs.Label.{label-byte}
 use Rattle.surveys.proofs.Pass.{survey-passed}
-use Rattle.catalogue.specs.Text.{lines, replyTo, textBy, text, catalogueOf}
+use Rattle.catalogue.specs.Text.{lines, moreTracks, replyTo, textBy, text, catalogueOf}
 
 -- of the lines of the first k slots, the last is that of the bytes read there
 pub lines-more : (d : List ℕ) (k : ℕ) → k < slotsRead d → lines (directory d) (k + 1) ≡ lines (directory d) k ++ entry (k + 1) (slotOr d k)
@@ -51,6 +53,11 @@ lines-read d =
     let e : slotsRead d + (slots - slotsRead d) ≡ slots = omega (arith, read-most d) in
     sym (ap (lines (directory d)) (sym e) ∙ lines-rest (directory d) (slotsRead d) (slots - slotsRead d) (directory-unread d))
 
+-- with no track beyond four those of 80 slots are all
+lines-base : (d : List ℕ) → tracksOf d ≡ 0 → lines (directory d) slots ≡ lines (directory d) (slotCount 0)
+unfolding slotCount
+lines-base d z = lines-rest (directory d) 80 698 (directory-base d z)
+
 pub lines-turn : (d : List ℕ) (k : ℕ) {s p e f : List ℕ} {a b : ℕ} → k < slotsRead d → s ≡ slotOr d k → Wrote p 0 (lines (directory d) k) e a
     → Wrote e a (entry (k + 1) s) f b → Wrote p 0 (lines (directory d) (k + 1)) f b
 lines-turn d k h q w x = rw (lines-more d k h, ← q) (wrote-then w x)
@@ -59,7 +66,7 @@ pub lines-none : (v : Directory) → lines v 0 ≡ []
 unfolding lines
 lines-none v = refl
 
-pub lines-most : (v : Directory) (k : ℕ) → k ≤ slots → length (lines v k) ≤ 24 * k
+pub lines-most : (v : Directory) (k : ℕ) → k ≤ 80 → length (lines v k) ≤ 24 * k
 unfolding lines
 lines-most v zero h = omega arith
 lines-most v (suc k) h =
@@ -76,36 +83,73 @@ lines-most v (suc k) h =
 -- ---- the whole text
 
 pub text-most : (d : List ℕ) → length (text d) ≤ 1930
-unfolding text
+unfolding text slotCount
 text-most d = by (replyTo d)
   where
     by : (o : Reply) → length (textBy o (directory d)) ≤ 1930
     by (some r) = omega (arith, refusal-most r)
     by none =
         let n = free 0 (directory d) in
-        omega (arith, length-append (lines (directory d) slots) (freeLine n), lines-most (directory d) slots (omega arith), length-free n, decimal-most n)
+        omega (arith, length-append (lines (directory d) 80) (freeLine n), lines-most (directory d) 80 (omega arith), length-free n, decimal-most n)
 
 pub text-short : (d : List ℕ) → length d < 40960 → refusalLine (refuse 1 0) ≡ text d
 unfolding text replyTo
 text-short d h = rw (lt-ltb (length d) 40960 h)
 
-module _ (d : List ℕ) (h : 40960 ≤ length d) where
-  pub text-refused : (r : Refusal) → survey 0 (directory d) ≡ some r → refusalLine r ≡ text d
-  unfolding text replyTo
-  text-refused r e = rw (le-ltb (length d) 40960 h, e)
+-- ---- the number of tracks, as the code meets byte 255
 
-  pub text-sound : (u : UsedMap) (n : ℕ) → survey 0 (directory d) ≡ none → u ≡ usedOr (survey 0 (directory d)) (directory d) → n ≡ freeOf 0 u
-      → lines (directory d) slots ++ freeLine n ≡ text d
-  unfolding text replyTo free
-  text-sound u n e p q =
-      let f : n ≡ freeOf 0 (usedMap (directory d)) = q ∙ ap (freeOf 0) (p ∙ ap (λ (o : Reply). usedOr o (directory d)) e) in
-      rw (le-ltb (length d) 40960 h, e, f)
+pub no-byte : (d : List ℕ) {n : ℕ} → n ≡ getD d 255 0 → n ≡ 0 → false ≡ moreTracks (labelOf d 255)
+unfolding moreTracks
+no-byte d {n} e h = sym (ap moreTracks (label-byte d ∙ sym e) ∙ rw (eq-eqb n 0 h))
+
+pub more-byte : (d : List ℕ) {n : ℕ} → n ≡ getD d 255 0 → (n ≡ 0 → ⊥) → not (eqb n 255) ≡ moreTracks (labelOf d 255)
+unfolding moreTracks
+more-byte d {n} e h = sym (ap moreTracks (label-byte d ∙ sym e) ∙ rw (ne-eqb n 0 h))
+
+no-tracks : (d : List ℕ) → moreTracks (labelOf d 255) ≡ false → tracksOf d ≡ 0
+unfolding moreTracks tracksOf tracksBy
+no-tracks d e = by (eqb (labelOf d 255) 0) refl (eqb (labelOf d 255) 255) refl e
+  where
+    by : (t : Bool) → eqb (labelOf d 255) 0 ≡ t → (u : Bool) → eqb (labelOf d 255) 255 ≡ u → not (t || u) ≡ false
+        → cond (leb (labelOf d 255) 35) (labelOf d 255) 0 ≡ 0
+    by true p u q w = rw (eqb-true (labelOf d 255) 0 p)
+    by false p true q w = rw (eqb-true (labelOf d 255) 255 q)
+    by false p false q w = absurd (true≢false w)
+
+module _ (d : List ℕ) (h : 40960 ≤ length d) where
+  pub text-tracks : moreTracks (labelOf d 255) ≡ true → refusalLine (refuse 24 0) ≡ text d
+  unfolding text replyTo
+  text-tracks e = rw (le-ltb (length d) 40960 h, e)
+
+  module _ (t : moreTracks (labelOf d 255) ≡ false) where
+    pub text-refused : (r : Refusal) → survey (tracksOf d) (directory d) ≡ some r → refusalLine r ≡ text d
+    unfolding text replyTo
+    text-refused r e =
+        let q : survey 0 (directory d) ≡ some r = sym (ap (λ (n : ℕ). survey n (directory d)) (no-tracks d t)) ∙ e in
+        rw (le-ltb (length d) 40960 h, t, q)
+
+    pub text-sound : (u : UsedMap) (n : ℕ) → survey (tracksOf d) (directory d) ≡ none → u ≡ usedOr (survey (tracksOf d) (directory d)) (tracksOf d) (directory d) → n ≡ freeOf u
+        → lines (directory d) slots ++ freeLine n ≡ text d
+    unfolding text replyTo free
+    text-sound u n e p q =
+        let s : survey 0 (directory d) ≡ none = sym (ap (λ (n : ℕ). survey n (directory d)) (no-tracks d t)) ∙ e in
+        let f : n ≡ freeOf (usedMap 0 (directory d)) =
+        q ∙ ap freeOf (p ∙ ap (λ (o : Reply). usedOr o (tracksOf d) (directory d)) e ∙ ap (λ (n : ℕ). usedMap n (directory d)) (no-tracks d t)) in
+        rw (le-ltb (length d) 40960 h, t, s, f, lines-base d (no-tracks d t))
 
 text-long : (d : List ℕ) → 40960 ≤ length d → text d ≡ text (part 0 40960 d)
 unfolding text replyTo
-text-long d h =
-    let l : length (part 0 40960 d) ≡ 40960 = part-long 0 40960 d (omega arith) in
-    rw (le-ltb (length d) 40960 h, l, ← (directory-front d))
+text-long d h = by (moreTracks (labelOf d 255)) refl
+  where
+    l : length (part 0 40960 d) ≡ 40960
+    l = part-long 0 40960 d (omega arith)
+
+    b : labelOf (part 0 40960 d) 255 ≡ labelOf d 255
+    b = ap (λ (f : ℕ → ℕ). f 255) (label-front d)
+
+    by : (t : Bool) → moreTracks (labelOf d 255) ≡ t → text d ≡ text (part 0 40960 d)
+    by true e = rw (le-ltb (length d) 40960 h, l, b, e)
+    by false e = rw (le-ltb (length d) 40960 h, l, b, e, ← (directory-front d (no-tracks d e)))
 
 -- "later bytes ignored"
 pub text-front : (d : List ℕ) → text d ≡ text (part 0 40960 d)
@@ -113,12 +157,11 @@ text-front d = ⊎-elim (λ (h : length d < 40960). sym (ap text (part-whole d 4
 
 -- the sector counts and the free count of a listing: none has more than four digits
 pub count-most : (v : Directory) → survey 0 v ≡ none → (i : ℕ) (s : List ℕ) → i < slots → v i ≡ some s → countOf s ≤ 1560
-unfolding dataCount
-count-most v e i s h q = omega (arith, survey-passed 0 v e i s h q .most)
+count-most v e i s h q = omega (arith, survey-passed 0 v e i s h q .most, data-few 0)
 
 pub free-most : (v : Directory) → free 0 v ≤ 1560
-unfolding free freeOf dataCount
-free-most v = omega arith
+unfolding free freeOf usedMap counted
+free-most v = omega (arith, data-few 0)
 
 -- ---- the call
 

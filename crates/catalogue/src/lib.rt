@@ -4,8 +4,8 @@ ghost use lib.ListN.{length};
 ghost use Rattle.refusals.specs.Answers.{outcomeOf, out};
 ghost use Rattle.lines.specs.Written.{Wrote};
 ghost use Rattle.directory.specs.Places.{slots};
-ghost use Rattle.directory.specs.Directory.{directory};
-ghost use Rattle.catalogue.specs.Text.{lines, text, catalogueOf};
+ghost use Rattle.directory.specs.Directory.{labelOf, directory};
+ghost use Rattle.catalogue.specs.Text.{lines, moreTracks, text, catalogueOf};
 use refusals::Answer;
 use refusals::Reason;
 use refusals::Refused;
@@ -26,6 +26,17 @@ fn put_lines(page: &mut [u8], dir: &[u8]) -> usize
     at
 }
 
+// Whether byte 255 of slot 1 tells directory tracks beyond four, or a number that there cannot be.
+fn has_more_tracks(input: &[u8]) -> bool
+    ensures { λ r. ⌜ r ≡ moreTracks (labelOf (now (input .entry)) 255) ⌝ }
+{
+    let n = buffers::num_at(input, 255);
+    if n == 0 {
+        return false;
+    }
+    n != 255
+}
+
 // The whole text, at the front of a page.
 fn put_text(page: &mut [u8], input: &[u8]) -> usize
     ensures { λ r. ⌜ Wrote (now (page .entry)) 0 (text (now (input .entry))) (now (page .exit)) r ⌝ }
@@ -35,6 +46,15 @@ fn put_text(page: &mut [u8], input: &[u8]) -> usize
             page,
             Refused {
                 reason: Reason::NotAnImage,
+                slot: 0,
+            },
+        );
+    }
+    if has_more_tracks(input) {
+        return lines::put_refusal(
+            page,
+            Refused {
+                reason: Reason::TracksOutOfRange,
                 slot: 0,
             },
         );

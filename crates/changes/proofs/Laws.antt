@@ -14,10 +14,10 @@ use Rattle.refusals.specs.Answers.{Outcome, done, refused}
 use Rattle.slots.specs.Slot.{protected, nameOf}
 use Rattle.names.specs.Name.{sameBytes, askable, padded}
 use Rattle.chains.specs.File.{File, fileOf}
-use Rattle.directory.specs.Places.{slots, slotAt, slotPlace, dirSector}
+use Rattle.directory.specs.Places.{slots, slotAt, slotPlace, dirSectorOr}
 use Rattle.directory.specs.Directory.{held, Directory, directory, slotOr}
 use Rattle.directory.specs.Find.{find}
-use Rattle.directory.proofs.Places.{slot-placed}
+use Rattle.directory.proofs.Places.{slot-placed, slot-within, slot-sector, dir-placed}
 use Rattle.directory.proofs.Search.{find-some}
 use Rattle.disk.specs.Look.{Look, look, slotsOf}
 use Rattle.disk.specs.Check.{checkLook, checkDisk}
@@ -67,9 +67,8 @@ pub slot-put : (d : List ℕ) (i o a : ℕ) (y e : List ℕ) → i < slots → a
 slot-put d i o a y e h p q = q ∙ ap (λ (a : ℕ). put d (a + o) y) (p ∙ slot-placed i h)
 
 -- its sector number fits the list
-pub sector-small : (i n : ℕ) → n ≡ dirSector i → i ≤ slots → n < 65536
-unfolding dirSector
-sector-small i n e h = omega arith
+pub sector-small : (i n : ℕ) → n ≡ dirSectorOr i → i < slots → n < 65536
+sector-small i n e h = omega (arith, dir-placed i h, slot-sector i, slot-within i h)
 
 module _ (d : List ℕ) (i o : ℕ) (y buf : List ℕ) where
   abbrev steps : List (Step Look)
@@ -79,11 +78,11 @@ module _ (d : List ℕ) (i o : ℕ) (y buf : List ℕ) where
   unfolding touching numbers
   touch-short = settled-short steps d buf
 
-  pub touch-done : 1 ≤ length buf → (d′ : List ℕ) → d′ ≡ put d (slotAt i + o) y → (n : ℕ) → n ≡ dirSector i → (buf′ : List ℕ) → buf′ ≡ put buf 0 (n ∷ [])
+  pub touch-done : i < slots → 1 ≤ length buf → (d′ : List ℕ) → d′ ≡ put d (slotAt i + o) y → (n : ℕ) → n ≡ dirSectorOr i → (buf′ : List ℕ) → buf′ ≡ put buf 0 (n ∷ [])
       → changed (done 1 0) d′ buf′ ≡ settled (touching d i o y) d buf
   unfolding touching numbers enact putAll
-  touch-done h d′ p n q buf′ s =
-      settled-done steps d buf h d′ buf′ 1 (record { many = refl; image = p; list = s ∙ ap (λ (n : ℕ). put buf 0 (n ∷ [])) q })
+  touch-done b h d′ p n q buf′ s =
+      settled-done steps d buf h d′ buf′ 1 (record { many = refl; image = p; list = s ∙ ap (λ (n : ℕ). put buf 0 (n ∷ [])) (q ∙ dir-placed i b) })
 
 -- ---- the slot that has the name
 

@@ -1,4 +1,6 @@
 pub mod Places
+pub mod Label
+pub mod Numbers
 pub mod Ends
 pub mod Live
 pub mod Named

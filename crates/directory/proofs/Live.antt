@@ -12,10 +12,11 @@ use Rattle.buffers.specs.Bytes.{part, count}
 use Rattle.buffers.proofs.Lists.{below-or-not, part-part}
 use Rattle.buffers.proofs.Counts.{count-more, count-le, count-add, none-count}
 use Rattle.slots.specs.Slot.{isLive}
-use Rattle.directory.specs.Places.{slots, slotAt, slotPlace, slotBytes}
-use Rattle.directory.specs.Directory.{held, Directory, slotsRead, seen, directory, slotOr, liveAmong}
-use Rattle.directory.proofs.Places.{slot-front, slot-placed}
-use Rattle.directory.proofs.Ends.{slot-read, read-most, seen-read, unread, seen-is, unseen-past, seen-agree, nameless-agree}
+use Rattle.directory.specs.Places.{slotCount, slots, slotAt, slotPlace, slotBytes}
+use Rattle.directory.specs.Directory.{held, Directory, labelOf, tracksOf, slotsRead, seen, directory, slotOr, liveAmong}
+use Rattle.directory.proofs.Places.{slot-base, slot-front, slot-placed}
+use Rattle.directory.proofs.Label.{label-agree, tracks-agree}
+use Rattle.directory.proofs.Ends.{slot-read, read-most, seen-read, unread, seen-small, unseen-past, seen-agree, nameless-agree}
 
 -- ---- the bytes of a slot
 
@@ -49,7 +50,7 @@ pub directory-unread : (d : List ℕ) (i : ℕ) → slotsRead d ≤ i → direct
 directory-unread d i h = directory-unseen d i (unread d i h)
 
 pub directory-past : (d : List ℕ) (i : ℕ) → slots ≤ i → directory d i ≡ none
-directory-past d i h = directory-unseen d i (unseen-past d i h)
+directory-past d i h = directory-unread d i (omega (arith, read-most d))
 
 -- by the bytes of a slot that is read
 pub directory-read : (d : List ℕ) (i : ℕ) → i < slotsRead d → directory d i ≡ cond (isLive (slotOr d i)) (some (slotOr d i)) none
@@ -64,7 +65,7 @@ directory-some d i s e = by (seen d i) (isLive (slotBytes d i)) refl refl e
         → (i < slots) × (s ≡ slotBytes d i) × (isLive s ≡ true) × (seen d i ≡ true)
     by true true p q w =
         let z : s ≡ slotBytes d i = cc in
-        (seen-is d i p .0, z, ap isLive z ∙ q, p)
+        (seen-small d i p, z, ap isLive z ∙ q, p)
     by true false p q w = absurd (Option·some-ne-none s (sym w))
     by false l p q w = absurd (Option·some-ne-none s (sym w))
 
@@ -78,22 +79,33 @@ module _ (d : List ℕ) (i : ℕ) {s : List ℕ} (e : s ≡ slotOr d i) {r : Boo
   pub met-dead : r ≡ false → directory d i ≡ none
   met-dead t = ⊎-elim (λ h. directory-read d i h ∙ rw (← e, ← l, t)) (directory-unread d i) (below-or-not i (slotsRead d))
 
--- ---- the directory is its first 40,960 bytes
+-- ---- the directory is its first 40,960 bytes, where no track is added to the four
 
-slot-in-front : (d : List ℕ) (i : ℕ) → i < slots → slotBytes (part 0 40960 d) i ≡ slotBytes d i
+slot-in-front : (d : List ℕ) (i : ℕ) → i < 80 → slotBytes (part 0 40960 d) i ≡ slotBytes d i
 slot-in-front d i h = part-part 0 40960 (slotAt i) 256 d (slot-front i h) ∙ ap (λ (a : ℕ). part a 256 d) (omega arith)
 
-at-front : (d : List ℕ) (i : ℕ) → directory d i ≡ directory (part 0 40960 d) i
-unfolding directory
-at-front d i =
-    ⊎-elim
-    (λ (h : i < slots).
-    let n : seen (part 0 40960 d) i ≡ seen d i = seen-agree d (part 0 40960 d) i (λ j k. nameless-agree d (part 0 40960 d) j (slot-in-front d j (omega arith))) in
-    rw (n, slot-in-front d i h))
-    (λ h. directory-past d i h ∙ sym (directory-past (part 0 40960 d) i h)) (below-or-not i slots)
+pub label-front : (d : List ℕ) → labelOf (part 0 40960 d) ≡ labelOf d
+label-front d = label-agree d (part 0 40960 d) (slot-in-front d 0 (omega arith))
 
-pub directory-front : (d : List ℕ) → directory d ≡ directory (part 0 40960 d)
-directory-front d = fun-ext (at-front d)
+pub tracks-front : (d : List ℕ) → tracksOf (part 0 40960 d) ≡ tracksOf d
+tracks-front d = tracks-agree d (part 0 40960 d) (label-front d)
+
+-- no slot past the 80
+pub directory-base : (d : List ℕ) → tracksOf d ≡ 0 → (i : ℕ) → 80 ≤ i → directory d i ≡ none
+directory-base d z i h = directory-unseen d i (unseen-past d i (omega (arith, ap slotCount z ∙ slot-base)))
+
+at-front : (d : List ℕ) → tracksOf d ≡ 0 → (i : ℕ) → directory d i ≡ directory (part 0 40960 d) i
+unfolding directory
+at-front d z i =
+    ⊎-elim
+    (λ (h : i < 80).
+    let n : seen (part 0 40960 d) i ≡ seen d i =
+    seen-agree d (part 0 40960 d) i (tracks-front d) (λ j k. nameless-agree d (part 0 40960 d) j (slot-in-front d j (omega arith))) in
+    rw (n, slot-in-front d i h))
+    (λ (h : 80 ≤ i). directory-base d z i h ∙ sym (directory-base (part 0 40960 d) (tracks-front d ∙ z) i h)) (below-or-not i 80)
+
+pub directory-front : (d : List ℕ) → tracksOf d ≡ 0 → directory d ≡ directory (part 0 40960 d)
+directory-front d z = fun-ext (at-front d z)
 
 -- ---- how many slots are live
 

@@ -4,10 +4,12 @@ use mathlib.Core.Bool.{Bool, true, false, cond, _&&_}
 use mathlib.Core.List.{List, []}
 use mathlib.Core.Option.{Option, none, some}
 use lib.Dec.{ltb}
+use lib.ListN.{getD}
 use Rattle.buffers.specs.Bytes.{count}
 use Rattle.refusals.specs.Order.{sweep}
 use Rattle.slots.specs.Slot.{isLive, isNameless}
-use Rattle.directory.specs.Places.{slots, slotBytes}
+use Rattle.slots.specs.Tracks.{isLabel, tracksBy}
+use Rattle.directory.specs.Places.{slotCount, slots, slotBytes}
 
 -- by what a slot holds: nothing, or this
 module _ {A B : Type 0} where
@@ -18,9 +20,20 @@ module _ {A B : Type 0} where
 abbrev pub Directory : Type 0
 Directory = ℕ → Option (List ℕ)
 
--- slot i is one of the directory's
+-- the bytes of slot 1 that are the disk's, "erased or unread too"; 0 in place of the others
+unfoldable pub labelOf : List ℕ → ℕ → ℕ
+labelOf d k = cond (isLabel k) (getD (slotBytes d 0) k 0) 0
+
+-- n, the number of directory tracks beyond four
+unfoldable pub tracksOf : List ℕ → ℕ
+tracksOf d = tracksBy (labelOf d 255)
+
+-- how many slots there are, and whether slot i is one of them
+abbrev pub slotsIn : List ℕ → ℕ
+slotsIn d = slotCount (tracksOf d)
+
 unfoldable pub isSlot : List ℕ → ℕ → Bool
-isSlot d i = ltb i slots
+isSlot d i = ltb i (slotsIn d)
 
 -- "a slot whose first name byte is 0 was never used"
 unfoldable pub nameless : List ℕ → ℕ → Bool
@@ -31,11 +44,11 @@ endAt d i = cond (nameless d i) (some i) none
 
 -- the end of the directory: the lowest such slot, where there is one
 unfoldable pub endOf : List ℕ → Option ℕ
-endOf d = sweep slots (endAt d)
+endOf d = sweep (slotsIn d) (endAt d)
 
 -- "and directory reading stops there": how many slots are read, all of them where there is no end
 unfoldable pub slotsRead : List ℕ → ℕ
-slotsRead d = held slots (λ i. i) (endOf d)
+slotsRead d = held (slotsIn d) (λ i. i) (endOf d)
 
 -- "Now that slot, whatever its byte 0, and all later ones are unread": slot i is read
 unfoldable pub seen : List ℕ → ℕ → Bool

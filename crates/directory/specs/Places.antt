@@ -1,22 +1,26 @@
 -- Where the directory lies. Slots are counted from 0 here, and from 1 where a number is given out.
 use Prim.Native.Nat.{ℕ, _+_, _*_, _/_, _%_}
-use mathlib.Core.Bool.{Bool, cond, _&&_}
+use mathlib.Core.Bool.{cond}
 use mathlib.Core.List.{List}
-use lib.Dec.{leb, ltb}
+use lib.Dec.{eqb, ltb}
 use Rattle.buffers.specs.Bytes.{part}
 use Rattle.geometry.specs.Disk.{imageSize}
 
--- "Tracks 0 to 3 hold the directory." 20 slots to a track, with n tracks beyond these four.
+-- "Slot i (1 to 80)"; with n directory tracks beyond four, n above 0, "there are 78 + 20n slots"
 unfoldable pub slotCount : ℕ → ℕ
-slotCount n = 20 * (4 + n)
+slotCount n = cond (eqb n 0) 80 (78 + 20 * n)
 
--- "Slot i (1 to 80)"
+-- "778 at most"
 abbrev pub slots : ℕ
-slots = 80
+slots = 778
+
+-- "The slots run on in track and sector order past that gap.": the two places of track 4 sector 1 are left out
+unfoldable pub pastGap : ℕ → ℕ
+pastGap i = cond (ltb i 80) i (i + 2)
 
 -- "is the 256 bytes at ((i−1) div 20) × 10,240 + ((i−1) mod 20) × 256."
 unfoldable pub slotAt : ℕ → ℕ
-slotAt i = i / 20 * 10240 + i % 20 * 256
+slotAt i = pastGap i / 20 * 10240 + pastGap i % 20 * 256
 
 -- the same for a number of any size: the image's size past the last slot
 unfoldable pub slotPlace : ℕ → ℕ
@@ -27,8 +31,8 @@ slotBytes d i = part (slotAt i) 256 d
 
 -- the number of the sector that slot i lies in
 unfoldable pub dirSector : ℕ → ℕ
-dirSector i = i / 20 * 20 + i % 20 / 2
+dirSector i = pastGap i / 20 * 20 + pastGap i % 20 / 2
 
--- "The other 1,560 sectors are data." The map bits of the directory's extra tracks are none.
-unfoldable pub dataBit : ℕ → ℕ → Bool
-dataBit n b = leb (10 * n) b && ltb b 1560
+-- the same for a number of any size: 1,600, the number of no sector, past the last slot
+unfoldable pub dirSectorOr : ℕ → ℕ
+dirSectorOr i = cond (ltb i slots) (dirSector i) 1600

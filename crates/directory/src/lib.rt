@@ -2,12 +2,13 @@
 // bytes alone, and answers for a slice of any length.
 ghost use mathlib.Core.Path.{_≡_};
 ghost use Prim.Native.Nat.{_≤_, _<_};
-ghost use Rattle.directory.specs.Places.{slotPlace, dirSector};
-ghost use Rattle.directory.specs.Directory.{slotsRead, directory, slotOr};
+ghost use Rattle.slots.specs.Tracks.{badTracks};
+ghost use Rattle.directory.specs.Places.{slotPlace, dirSectorOr};
+ghost use Rattle.directory.specs.Directory.{labelOf, tracksOf, slotsIn, slotsRead, directory, slotOr};
 ghost use Rattle.directory.specs.Find.{find, foundAt};
 
-// The slots of the directory.
-pub const SLOTS: usize = 80;
+// The most slots that there can be: those of 39 tracks.
+pub const SLOTS: usize = 778;
 
 // A live slot, counted from 0, or none.
 pub enum Found {
@@ -22,14 +23,51 @@ pub fn slot_place(i: usize) -> usize
     if SLOTS <= i {
         return geometry::IMAGE_SIZE;
     }
-    i / 20 * 10240 + i % 20 * 256
+    if i < 80 {
+        return i / 20 * 10240 + i % 20 * 256;
+    }
+    let k = i + 2;
+    k / 20 * 10240 + k % 20 * 256
 }
 
-// The number of the sector that slot `i`, counted from 0, lies in.
+// The number of the sector that slot `i`, counted from 0, lies in; 1,600 past the last slot.
 pub fn dir_sector(i: usize) -> usize
-    ensures { λ r. ⌜ r ≡ dirSector i ⌝ }
+    ensures { λ r. ⌜ r ≡ dirSectorOr i ⌝ }
 {
-    i / 20 * 20 + i % 20 / 2
+    slot_place(i) / 512
+}
+
+// The number of directory tracks beyond four, by byte 255 of slot 1: 0 where that is above 35.
+pub fn tracks_of(dir: &[u8]) -> usize
+    ensures { λ r. ⌜ (r ≡ tracksOf (now (dir .entry))) × (r ≤ 35) ⌝ }
+{
+    let n = buffers::num_at(dir, 255);
+    if n <= 35 {
+        return n;
+    }
+    0
+}
+
+// Whether that byte is 36 to 254.
+pub fn has_bad_tracks(dir: &[u8]) -> bool
+    ensures { λ r. ⌜ r ≡ badTracks (labelOf (now (dir .entry)) 255) ⌝ }
+{
+    let n = buffers::num_at(dir, 255);
+    if n <= 35 {
+        return false;
+    }
+    n != 255
+}
+
+// How many slots there are, read or not.
+pub fn slots_in(dir: &[u8]) -> usize
+    ensures { λ r. ⌜ (r ≡ slotsIn (now (dir .entry))) × (r ≤ 778) ⌝ }
+{
+    let tracks = tracks_of(dir);
+    if tracks == 0 {
+        return 80;
+    }
+    78 + 20 * tracks
 }
 
 // The 256 bytes of slot `i`, counted from 0, uncopied; none past the last slot.
@@ -44,16 +82,17 @@ pub fn slot_at(dir: &[u8], i: usize) -> &[u8]
 
 // How many slots are read: those before the first that has no name.
 pub fn slots_read(dir: &[u8]) -> usize
-    ensures { λ r. ⌜ (r ≡ slotsRead (now (dir .entry))) × (r ≤ 80) ⌝ }
+    ensures { λ r. ⌜ (r ≡ slotsRead (now (dir .entry))) × (r ≤ 778) ⌝ }
 {
+    let count = slots_in(dir);
     let mut i: usize = 0;
-    while i < SLOTS {
+    while i < count {
         if slots::is_nameless(slot_at(dir, i)) {
             return i;
         }
         i += 1;
     }
-    SLOTS
+    count
 }
 
 // The lowest live slot that has that name, filled to ten bytes; no slot has a longer one.

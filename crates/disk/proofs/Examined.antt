@@ -1,7 +1,7 @@
 -- A check's reply by the tests that lead to it, with the used map that goes with it.
 use Prim.Native.Nat.{ℕ}
-use mathlib.Core.Path.{_≡_, sym, ap, _∙_}
-use mathlib.Core.Bool.{Bool}
+use mathlib.Core.Path.{_≡_, sym, ap, ap₂, _∙_}
+use mathlib.Core.Bool.{Bool, true, false}
 use mathlib.Core.List.{List}
 use mathlib.Core.Option.{none, some}
 use borrow.Author.Tests.{eq-eqb, ne-eqb}
@@ -12,21 +12,22 @@ use Rattle.refusals.specs.Answers.{replyOf, refusalOf}
 use Rattle.refusals.specs.declared.Refused.{Refused}
 use Rattle.refusals.specs.declared.Verdict.{Verdict}
 use Rattle.refusals.specs.declared.Verdict.the-variants.{Sound, Unsound}
+use Rattle.slots.specs.Tracks.{badTracks}
 use Rattle.directory.specs.Places.{slots}
-use Rattle.directory.specs.Directory.{Directory, directory}
+use Rattle.directory.specs.Directory.{Directory, labelOf, tracksOf, directory}
 use Rattle.surveys.specs.Survey.{surveyBy, usedOr, filesOr, refusedWith}
 use Rattle.surveys.specs.Steps.{Surveyed}
 use Rattle.surveys.specs.declared.Survey.{Survey}
 use Rattle.disk.specs.Look.{look, slotsOf, extra}
 use Rattle.disk.specs.Check.{chainAt, checkBy, checkDisk}
-use Rattle.disk.proofs.Look.{look-slots, look-long}
+use Rattle.disk.proofs.Look.{look-slots, look-long, look-label, look-extra}
 use Rattle.disk.proofs.Order.{accepted}
 
 -- the same of a reply that is the check's
 told : (d : List ℕ) (p q : Reply) → p ≡ q → (x : Survey) → Surveyed p d x → Surveyed q d x
 told d p q e x w = record {
   reply = w .reply ∙ e;
-  used = w .used ∙ ap (λ (q : Reply). usedOr q (directory d)) e;
+  used = w .used ∙ ap (λ (q : Reply). usedOr q (tracksOf d) (directory d)) e;
   files = w .files ∙ ap (λ (q : Reply). filesOr q (directory d)) e;
 }
 
@@ -35,19 +36,24 @@ module _ (release : Bool) (d : List ℕ) where
   unfolding checkBy
   length-first h = rw (look-long d, ne-eqb (length d) imageSize h)
 
-  -- of an image of the right length: rows 2 to 9, and then rows 10, 11 and 25
-  passes : length d ≡ imageSize → checkBy release (look d) ≡ (surveyBy release 0 (directory d) else sweep slots (chainAt (look d)))
-  unfolding checkBy extra
-  passes h =
-      let e : checkBy release (look d) ≡ (surveyBy release 0 (slotsOf (look d)) else sweep slots (chainAt (look d))) = rw (look-long d, eq-eqb (length d) imageSize h) in
-      e ∙ ap (λ (v : Directory). surveyBy release 0 v else sweep slots (chainAt (look d))) (look-slots d)
+  tracks-first : length d ≡ imageSize → badTracks (labelOf d 255) ≡ true → checkBy release (look d) ≡ some (refuse 24 0)
+  unfolding checkBy look
+  tracks-first h t = rw (eq-eqb (length d) imageSize h, t)
+
+  -- of an image of the right length, with a number of tracks that there can be: rows 2 to 9, and then rows 10, 11 and 25
+  passes : length d ≡ imageSize → badTracks (labelOf d 255) ≡ false → checkBy release (look d) ≡ (surveyBy release (tracksOf d) (directory d) else sweep slots (chainAt (look d)))
+  unfolding checkBy
+  passes h t =
+      let e : checkBy release (look d) ≡ (surveyBy release (extra (look d)) (slotsOf (look d)) else sweep slots (chainAt (look d))) =
+      rw (look-long d, eq-eqb (length d) imageSize h, look-label d, t) in
+      e ∙ ap₂ (λ (m : ℕ) (v : Directory). surveyBy release m v else sweep slots (chainAt (look d))) (look-extra d) (look-slots d)
 
   -- what is handed on where the check refuses
   refused-so : (v : Verdict) (q : Reply) → replyOf v ≡ q → (r : Refusal) → q ≡ some r → (x : Survey) → x ≡ refusedWith v → Surveyed q d x
   unfolding refusedWith
   refused-so v q p r c x e = record {
     reply = ap (λ (x : Survey). replyOf (x .verdict)) e ∙ p;
-    used = ap (λ (x : Survey). x .used) e ∙ ap (λ (q : Reply). usedOr q (directory d)) (sym c);
+    used = ap (λ (x : Survey). x .used) e ∙ ap (λ (q : Reply). usedOr q (tracksOf d) (directory d)) (sym c);
     files = ap (λ (x : Survey). x .files) e ∙ ap (λ (q : Reply). filesOr q (directory d)) (sym c);
   }
 
@@ -55,18 +61,22 @@ module _ (release : Bool) (d : List ℕ) where
       → Surveyed (checkBy release (look d)) d x
   examined-length h v q = refused-so v (checkBy release (look d)) (q ∙ sym (length-first h)) (refuse 1 0) (length-first h)
 
-  module _ (h : length d ≡ imageSize) (s : Survey) (w : Surveyed (surveyBy release 0 (directory d)) d s) where
+  pub examined-tracks : length d ≡ imageSize → badTracks (labelOf d 255) ≡ true → (v : Verdict) → replyOf v ≡ some (refuse 24 0) → (x : Survey) → x ≡ refusedWith v
+      → Surveyed (checkBy release (look d)) d x
+  examined-tracks h t v q = refused-so v (checkBy release (look d)) (q ∙ sym (tracks-first h t)) (refuse 24 0) (tracks-first h t)
+
+  module _ (h : length d ≡ imageSize) (t : badTracks (labelOf d 255) ≡ false) (s : Survey) (w : Surveyed (surveyBy release (tracksOf d) (directory d)) d s) where
     pub examined-survey : (r : Refused) → s .verdict ≡ Unsound r → Surveyed (checkBy release (look d)) d s
     examined-survey r e =
-        let q : surveyBy release 0 (directory d) ≡ some (refusalOf r) = sym (w .reply) ∙ ap replyOf e in
-        told d (surveyBy release 0 (directory d)) (checkBy release (look d)) (sym (passes h ∙ rw q)) s w
+        let q : surveyBy release (tracksOf d) (directory d) ≡ some (refusalOf r) = sym (w .reply) ∙ ap replyOf e in
+        told d (surveyBy release (tracksOf d) (directory d)) (checkBy release (look d)) (sym (passes h t ∙ rw q)) s w
 
     module _ (e : s .verdict ≡ Sound) where
-      no-refusal : surveyBy release 0 (directory d) ≡ none
+      no-refusal : surveyBy release (tracksOf d) (directory d) ≡ none
       no-refusal = sym (w .reply) ∙ ap replyOf e
 
       chains-then : checkBy release (look d) ≡ sweep slots (chainAt (look d))
-      chains-then = passes h ∙ rw no-refusal
+      chains-then = passes h t ∙ rw no-refusal
 
       pub examined-chains : (v : Verdict) (r : Refused) → v ≡ Unsound r → replyOf v ≡ sweep slots (chainAt (look d)) → (x : Survey) → x ≡ refusedWith v
           → Surveyed (checkBy release (look d)) d x
@@ -76,7 +86,7 @@ module _ (release : Bool) (d : List ℕ) where
 
       pub examined-sound : none ≡ sweep slots (chainAt (look d)) → Surveyed (checkBy release (look d)) d s
       examined-sound q =
-          told d (surveyBy release 0 (directory d)) (checkBy release (look d)) (no-refusal ∙ q ∙ sym chains-then) s w
+          told d (surveyBy release (tracksOf d) (directory d)) (checkBy release (look d)) (no-refusal ∙ q ∙ sym chains-then) s w
 
 -- an accepted image has its size
 pub accepted-size : (d : List ℕ) → checkDisk d ≡ none → length d ≡ imageSize

@@ -15,9 +15,9 @@ use Rattle.headers.specs.Header.{laterReply}
 use Rattle.refusals.specs.Order.{sweepFrom}
 use Rattle.refusals.proofs.First.{none-sweepFrom}
 use Rattle.directory.specs.Places.{slots}
-use Rattle.directory.specs.Directory.{held, Directory, directory, liveAmong}
+use Rattle.directory.specs.Directory.{held, Directory, labelOf, tracksOf, directory, liveAmong}
 use Rattle.directory.proofs.Live.{among-rest}
-use Rattle.disk.specs.Look.{look, slotsOf}
+use Rattle.disk.specs.Look.{look, slotsOf, extra}
 use Rattle.disk.specs.Check.{chainAt}
 
 -- the directory of a disk's look is the disk's directory
@@ -37,6 +37,15 @@ pub look-none : (d : List ℕ) (i : ℕ) → directory d i ≡ none → look d .
 unfolding look
 look-none d i e = ap (held none (λ s. some (fileOf d s))) e
 
+pub look-label : (d : List ℕ) → look d .label ≡ labelOf d
+unfolding look
+look-label d = refl
+
+-- the number of tracks beyond four is the disk's
+pub look-extra : (d : List ℕ) → extra (look d) ≡ tracksOf d
+unfolding look extra tracksOf
+look-extra d = refl
+
 pub look-long : (d : List ℕ) → look d .long ≡ length d
 unfolding look
 look-long d = refl
@@ -54,11 +63,11 @@ chain-none d i e = ap (held none (laterReply (suc i))) (look-none d i e)
 pub chain-met : (d : List ℕ) (i : ℕ) (s : List ℕ) → directory d i ≡ some s → laterReply (i + 1) (fileOf d s) ≡ chainAt (look d) i
 chain-met d i s e = ap (λ (n : ℕ). laterReply n (fileOf d s)) (add-one i) ∙ sym (chain-some d i s e)
 
--- two disks of one length that agree on the directory and on the sectors of every live file have one look
-pub look-agree : (d e : List ℕ) → length d ≡ length e → directory d ≡ directory e
+-- two disks of one length and label that agree on the directory and on the sectors of every live file have one look
+pub look-agree : (d e : List ℕ) → length d ≡ length e → labelOf d ≡ labelOf e → directory d ≡ directory e
     → ((i : ℕ) (s : List ℕ) → directory d i ≡ some s → (b : ℕ) → has (mapOf s) b ≡ true → sectorAt d b ≡ sectorAt e b) → look d ≡ look e
 unfolding look
-look-agree d e l v h = λ q. record { long = l q; files = λ i. (by i (directory d i) refl ∙ ap (held none (λ s. some (fileOf e s))) (ap (λ (v : Directory). v i) v)) q }
+look-agree d e l b v h = λ q. record { long = l q; label = b q; files = λ i. (by i (directory d i) refl ∙ ap (held none (λ s. some (fileOf e s))) (ap (λ (v : Directory). v i) v)) q }
   where
     by : (i : ℕ) (o : Option (List ℕ)) → directory d i ≡ o → held none (λ s. some (fileOf d s)) o ≡ held none (λ s. some (fileOf e s)) o
     by i none q = refl

@@ -1,5 +1,5 @@
 -- Each check gives a refusal exactly when its row holds and none before it in the order does.
-use Prim.Native.Nat.{ℕ, suc}
+use Prim.Native.Nat.{ℕ, suc, _≤_}
 use mathlib.Core.Path.{_≡_, refl, sym, ap, _∙_}
 use mathlib.Core.Bool.{Bool, true, false, not}
 use mathlib.Core.List.{List}
@@ -13,6 +13,8 @@ use Rattle.refusals.proofs.First.{else-none, else-some, rows-clear, clear-rows,
 use Rattle.refusals.proofs.Lowest.{lacks, lowest-first, first-lacks}
 use Rattle.geometry.specs.Disk.{imageSize}
 use Rattle.slots.specs.Slot.{facts}
+use Rattle.slots.specs.Tracks.{badTracks}
+use Rattle.slots.proofs.Tracks.{tracks-good, good-tracks, tracks-bad, bad-tracks}
 use Rattle.chains.specs.File.{File}
 use Rattle.headers.specs.Header.{laterReply}
 use Rattle.headers.proofs.Rows.{later-rises}
@@ -22,7 +24,7 @@ use Rattle.surveys.specs.Survey.{rowsAt, surveyAt, surveyBy}
 use Rattle.surveys.proofs.Pass.{survey-rises}
 use Rattle.disk.specs.Look.{Look, look, slotsOf, extra}
 use Rattle.disk.specs.Check.{chainAt, checkBy, checkLook, checkDisk}
-use Rattle.disk.specs.Given.{rowsBy, rows9, rows11, AllClear, RowAt, GivenBy, Given, by-length, by-slot, by-chain}
+use Rattle.disk.specs.Given.{Tracks, rowsBy, rows9, rows11, AllClear, RowAt, GivenBy, Given, by-length, by-tracks, by-slot, by-chain}
 
 -- a pass over the live slots of a look
 abbrev pub passAt : Look → (ℕ → File → List Row) → ℕ → Reply
@@ -97,7 +99,7 @@ chain-pass : (l : Look) → sweep slots (chainAt l) ≡ pass l (rows11 l)
 unfolding chainAt laterReply
 chain-pass l = refl
 
-pub check-passes : (release : Bool) (l : Look) → checkBy release l ≡ row 1 0 (not (eqb (l .long) imageSize)) else pass l (rowsBy release l) else pass l (rows11 l)
+pub check-passes : (release : Bool) (l : Look) → checkBy release l ≡ row 1 0 (not (eqb (l .long) imageSize)) else row 24 0 (badTracks (l .label 255)) else pass l (rowsBy release l) else pass l (rows11 l)
 unfolding checkBy
 check-passes release l = rw (survey-pass release l, chain-pass l)
 
@@ -115,39 +117,72 @@ length-some l r e = by (eqb (l .long) imageSize) refl e
     by true q w = absurd (Option·some-ne-none r (sym w))
     by false q w = (eqb-false (l .long) imageSize q, cc)
 
+tracks-none : (l : Look) → row 24 0 (badTracks (l .label 255)) ≡ none → Tracks l
+tracks-none l e = tracks-good (l .label 255) (by (badTracks (l .label 255)) e)
+  where
+    by : (t : Bool) → row 24 0 t ≡ none → t ≡ false
+    by true w = absurd (Option·some-ne-none (refuse 24 0) w)
+    by false w = refl
+
+tracks-some : (l : Look) (r : Refusal) → row 24 0 (badTracks (l .label 255)) ≡ some r → (36 ≤ l .label 255) × (l .label 255 ≡ 255 → ⊥) × (r ≡ refuse 24 0)
+tracks-some l r e = by (badTracks (l .label 255)) refl e
+  where
+    by : (t : Bool) → badTracks (l .label 255) ≡ t → row 24 0 t ≡ some r → (36 ≤ l .label 255) × (l .label 255 ≡ 255 → ⊥) × (r ≡ refuse 24 0)
+    by true q w = let c = tracks-bad (l .label 255) q in (c .0, c .1, cc)
+    by false q w = absurd (Option·some-ne-none r (sym w))
+
 pub record Accepted (release : Bool) (l : Look) : Type 0 where
   pub long : l .long ≡ imageSize
+  pub tracks : Tracks l
   pub survey : AllClear l (rowsBy release l) slots
   pub chains : AllClear l (rows11 l) slots
 
 module _ (release : Bool) (l : Look) where
+  -- the rows after 24, and after 1
+  abbrev after24 : Reply
+  after24 = pass l (rowsBy release l) else pass l (rows11 l)
+
+  abbrev after1 : Reply
+  after1 = row 24 0 (badTracks (l .label 255)) else after24
+
   -- no row holds
   pub accepted-by : checkBy release l ≡ none → Accepted release l
   accepted-by e =
-      let a = else-none (row 1 0 (not (eqb (l .long) imageSize))) (pass l (rowsBy release l) else pass l (rows11 l)) (sym (check-passes release l) ∙ e) in
-      let b = else-none (pass l (rowsBy release l)) (pass l (rows11 l)) (a .1) in
-      record { long = length-none l (a .0); survey = pass-clear l (rowsBy release l) (b .0); chains = pass-clear l (rows11 l) (b .1) }
+      let a = else-none (row 1 0 (not (eqb (l .long) imageSize))) after1 (sym (check-passes release l) ∙ e) in
+      let c = else-none (row 24 0 (badTracks (l .label 255))) after24 (a .1) in
+      let b = else-none (pass l (rowsBy release l)) (pass l (rows11 l)) (c .1) in
+      record {
+        long = length-none l (a .0);
+        tracks = tracks-none l (c .0);
+        survey = pass-clear l (rowsBy release l) (b .0);
+        chains = pass-clear l (rows11 l) (b .1);
+      }
 
   pub accepted-by-only : Accepted release l → checkBy release l ≡ none
   accepted-by-only w =
       check-passes release l
-      ∙ rw (eq-eqb (l .long) imageSize (w .long), clear-pass l (rowsBy release l) (w .survey), clear-pass l (rows11 l) (w .chains))
+      ∙ rw (eq-eqb (l .long) imageSize (w .long), good-tracks (l .label 255) (w .tracks), clear-pass l (rowsBy release l) (w .survey), clear-pass l (rows11 l) (w .chains))
 
   -- a refusal is the first in the order
   pub given-by : (r : Refusal) → checkBy release l ≡ some r → GivenBy release l r
   given-by r e =
       ⊎-elim (λ a. let c = length-some l r a in by-length (c .0) (c .1))
       (λ a.
-      ⊎-elim (λ b. by-slot (length-none l (a .0)) (pass-first l (rowsBy release l) r b))
-      (λ b. by-chain (length-none l (a .0)) (pass-clear l (rowsBy release l) (b .0)) (pass-first l (rows11 l) r (b .1)))
-      (else-some (pass l (rowsBy release l)) (pass l (rows11 l)) r (a .1)))
-      (else-some (row 1 0 (not (eqb (l .long) imageSize))) (pass l (rowsBy release l) else pass l (rows11 l)) r (sym (check-passes release l) ∙ e))
+      ⊎-elim (λ c. let t = tracks-some l r c in by-tracks (length-none l (a .0)) (t .0) (t .1) (t .2))
+      (λ c.
+      ⊎-elim (λ b. by-slot (length-none l (a .0)) (tracks-none l (c .0)) (pass-first l (rowsBy release l) r b))
+      (λ b. by-chain (length-none l (a .0)) (tracks-none l (c .0)) (pass-clear l (rowsBy release l) (b .0)) (pass-first l (rows11 l) r (b .1)))
+      (else-some (pass l (rowsBy release l)) (pass l (rows11 l)) r (c .1)))
+      (else-some (row 24 0 (badTracks (l .label 255))) after24 r (a .1)))
+      (else-some (row 1 0 (not (eqb (l .long) imageSize))) after1 r (sym (check-passes release l) ∙ e))
 
   pub given-by-only : (r : Refusal) → GivenBy release l r → checkBy release l ≡ some r
-  given-by-only r (by-length n e) = check-passes release l ∙ rw (ne-eqb (l .long) imageSize n, e)
-  given-by-only r (by-slot n w) = check-passes release l ∙ rw (eq-eqb (l .long) imageSize n, first-pass l (rowsBy release l) r w)
-  given-by-only r (by-chain n c w) =
-      check-passes release l ∙ rw (eq-eqb (l .long) imageSize n, clear-pass l (rowsBy release l) c, first-pass l (rows11 l) r w)
+  given-by-only r (by-length n e) = check-passes release l ∙ rw (ne-eqb (l .long) imageSize n) (ap some (sym e))
+  given-by-only r (by-tracks n a b e) = check-passes release l ∙ rw (eq-eqb (l .long) imageSize n, bad-tracks (l .label 255) a b) (ap some (sym e))
+  given-by-only r (by-slot n t w) = check-passes release l ∙ rw (eq-eqb (l .long) imageSize n, good-tracks (l .label 255) t, first-pass l (rowsBy release l) r w)
+  given-by-only r (by-chain n t c w) =
+      check-passes release l
+      ∙ rw (eq-eqb (l .long) imageSize n, good-tracks (l .label 255) t, clear-pass l (rowsBy release l) c, first-pass l (rows11 l) r w)
 
 -- of the check
 pub accepted : (l : Look) → checkLook l ≡ none → Accepted false l
@@ -182,8 +217,9 @@ positive-by release l r e = by (given-by release l r e)
 
     by : GivenBy release l r → r .number ≢ 0
     by (by-length n q) = λ z. omega (arith, ap (λ (x : Refusal). x .number) q)
-    by (by-slot n w) = first-lacks 0 (rowsBy release l (w .at) (w .file)) (r .number) (some-number release (w .at) (w .file)) (w .number)
-    by (by-chain n c w) = first-lacks 0 (rows11 l (w .at) (w .file)) (r .number) refl (w .number)
+    by (by-tracks n a b q) = λ z. omega (arith, ap (λ (x : Refusal). x .number) q)
+    by (by-slot n t w) = first-lacks 0 (rowsBy release l (w .at) (w .file)) (r .number) (some-number release (w .at) (w .file)) (w .number)
+    by (by-chain n t c w) = first-lacks 0 (rows11 l (w .at) (w .file)) (r .number) refl (w .number)
 
 pub check-positive : (d : List ℕ) (r : Refusal) → checkDisk d ≡ some r → r .number ≢ 0
 unfolding checkDisk

@@ -13,6 +13,7 @@ use Rattle.refusals.proofs.Lowest.{first-lacks}
 use Rattle.geometry.specs.Disk.{imageSize}
 use Rattle.slots.specs.Slot.{facts, kindOf, carried, countOf, lengthOf, sectorsFor}
 use Rattle.slots.specs.Rows.{own, wasteful, strict}
+use Rattle.slots.specs.Tracks.{badTracks}
 use Rattle.slots.proofs.Least.{sectors-least, sectors-few}
 use Rattle.chains.specs.File.{File}
 use Rattle.directory.specs.Places.{slots}
@@ -20,7 +21,7 @@ use Rattle.directory.specs.Directory.{held}
 use Rattle.surveys.specs.Survey.{cross, surveyAt, surveyBy}
 use Rattle.disk.specs.Look.{Look, look, slotsOf, extra}
 use Rattle.disk.specs.Check.{chainAt, checkBy, checkLook, checkDisk, checkRelease}
-use Rattle.disk.specs.Given.{GivenBy, Given, by-length, by-slot, by-chain, rows9, rows11}
+use Rattle.disk.specs.Given.{GivenBy, Given, by-length, by-tracks, by-slot, by-chain, rows9, rows11}
 use Rattle.disk.specs.Release.{LeanFile, Lean}
 use Rattle.disk.proofs.Rows.{guard, guarded, carried-is, is-carried, clear-parts, parts-clear}
 use Rattle.disk.proofs.Order.{Accepted, accepted, accepted-only, accepted-by, accepted-by-only, given, given-by, given-by-only, positive-by}
@@ -52,6 +53,7 @@ module _ (l : Look) where
     accepted-only l
         (record {
           long = a .long;
+          tracks = a .tracks;
           survey = λ i f h q.
               let c = parts i f h q in
               parts-clear (own (extra l) (facts (f .bytes))) (cross (slotsOf l) i (f .bytes)) (c .0) (c .1 .1);
@@ -72,6 +74,7 @@ module _ (l : Look) where
       accepted-by-only true l
       (record {
         long = a .long;
+        tracks = a .tracks;
         survey = λ i f h q.
             let c = clear-parts (own (extra l) (facts (f .bytes))) (cross (slotsOf l) i (f .bytes)) (a .survey i f h q) in
             parts-clear (own (extra l) (facts (f .bytes))) (strict true (facts (f .bytes)) ++ cross (slotsOf l) i (f .bytes)) (c .0)
@@ -114,8 +117,9 @@ module _ (d : List ℕ) where
     where
       by : Given (look d) r → r .number ≢ 22
       by (by-length n q) = λ z. omega (arith, ap (λ (x : Refusal). x .number) q)
-      by (by-slot n w) = first-lacks 22 (rows9 (look d) (w .at) (w .file)) (r .number) refl (w .number)
-      by (by-chain n c w) = first-lacks 22 (rows11 (look d) (w .at) (w .file)) (r .number) refl (w .number)
+      by (by-tracks n a b q) = λ z. omega (arith, ap (λ (x : Refusal). x .number) q)
+      by (by-slot n t w) = first-lacks 22 (rows9 (look d) (w .at) (w .file)) (r .number) refl (w .number)
+      by (by-chain n t c w) = first-lacks 22 (rows11 (look d) (w .at) (w .file)) (r .number) refl (w .number)
 
 -- ---- the first check
 
@@ -123,6 +127,7 @@ module _ (d : List ℕ) where
 pub first-stays : (l : Look)
     → checkLook l
     ≡ row 1 0 (not (eqb (l .long) imageSize))
+    else row 24 0 (badTracks (l .label 255))
     else sweep slots (λ i. held none (λ s. rows (suc i) (own (extra l) (facts s) ++ cross (slotsOf l) i s)) (slotsOf l i))
     else sweep slots (chainAt l)
 unfolding checkBy surveyBy surveyAt

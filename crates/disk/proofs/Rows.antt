@@ -7,13 +7,16 @@ use mathlib.Core.Logic.{_⊎_, inl, inr, ⊎-elim}
 use borrow.Author.Tests.{eqb-true, eq-eqb, leb-true, le-leb, ltb-false, le-ltb, not-false}
 use lib.Dec.{eqb, leb, ltb}
 use lib.ListN.{getD}
-use Rattle.buffers.proofs.Tests.{and-both, both-and, or-either, either-or}
+use Rattle.buffers.proofs.Tests.{and-both, both-and, or-either, either-or, or-neither}
 use Rattle.maps.specs.Bits.{has, bitsOf}
 use Rattle.refusals.specs.Order.{Row, Clear}
 use Rattle.slots.specs.Slot.{facts, known, carried, spectrum, kindOf, countOf, mapOf, firstOf, pagesOf, remainderOf, lengthOf}
-use Rattle.slots.specs.Rows.{own, dataCount}
+use Rattle.slots.specs.Rows.{own}
 use Rattle.chains.specs.Chain.{broken}
 use Rattle.headers.specs.Header.{headerDiffers, headerLength, later}
+use Rattle.slots.specs.Tracks.{dataCount, dataBit, inDirectory}
+use Rattle.slots.proofs.Tracks.{outside-data, data-outside}
+use Rattle.chains.proofs.Laws.{map-small}
 use Rattle.disk.specs.Sound.{Known, Carried, Spectrum, Agrees}
 
 -- ---- Booleans
@@ -69,6 +72,7 @@ pub record Own (n : ℕ) (s : List ℕ) : Type 0 where
   pub some-sectors : 1 ≤ countOf s
   pub few-sectors : countOf s ≤ dataCount n
   pub bits : bitsOf (mapOf s) ≡ countOf s
+  pub data-bits : (b : ℕ) → has (mapOf s) b ≡ true → dataBit n b ≡ true
   pub first-own : has (mapOf s) (firstOf s) ≡ true
   pub fits : Carried (kindOf s) → 9 + lengthOf (facts s) ≤ 510 * countOf s
 
@@ -76,12 +80,14 @@ pub own-clear : (n : ℕ) (s : List ℕ) → Clear (own n (facts s)) → Own n s
 unfolding facts
 own-clear n s c =
     let q = range 1 (countOf s) (dataCount n) (not-false (leb 1 (countOf s) && leb (countOf s) (dataCount n)) (c .1 .0)) in
+    let either = or-neither (not (has (mapOf s) (firstOf s))) (inDirectory n (mapOf s)) (c .1 .1 .1 .0) in
     record {
       kind = known-is (kindOf s) (not-false (known (kindOf s)) (c .0));
       some-sectors = q .0;
       few-sectors = q .1;
       bits = eqb-true (bitsOf (mapOf s)) (countOf s) (not-false (eqb (bitsOf (mapOf s)) (countOf s)) (c .1 .1 .0));
-      first-own = not-false (has (mapOf s) (firstOf s)) (c .1 .1 .1 .0);
+      data-bits = λ b m. outside-data n (mapOf s) (either .1) b (map-small s b m) m;
+      first-own = not-false (has (mapOf s) (firstOf s)) (either .0);
       fits = λ h.
           ltb-false (510 * countOf s) (9 + lengthOf (facts s))
           (guard (carried (kindOf s)) (ltb (510 * countOf s) (9 + lengthOf (facts s))) (c .1 .1 .1 .1 .0) (is-carried (kindOf s) h));
@@ -96,7 +102,7 @@ clear-own n s w = (
     (
       ap not (eq-eqb (bitsOf (mapOf s)) (countOf s) (w .bits)),
       (
-        ap not (w .first-own),
+        rw (w .first-own, data-outside n (mapOf s) (λ b l. w .data-bits b)),
         (
           guarded (carried (kindOf s)) (ltb (510 * countOf s) (9 + lengthOf (facts s)))
               (λ e. le-ltb (510 * countOf s) (9 + lengthOf (facts s)) (w .fits (carried-is (kindOf s) e))),

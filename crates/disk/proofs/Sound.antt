@@ -47,6 +47,7 @@ good n f o c =
       some-sectors = o .some-sectors;
       few-sectors = o .few-sectors;
       bits = o .bits;
+      data-bits = o .data-bits;
       first-data = bit-data (getD (f .bytes) 13 0) (getD (f .bytes) 14 0) (map-small (f .bytes) (firstOf (f .bytes)) (o .first-own));
       first-own = o .first-own;
       fits = o .fits;
@@ -61,6 +62,7 @@ good-own n f g = record {
   some-sectors = g .some-sectors;
   few-sectors = g .few-sectors;
   bits = g .bits;
+  data-bits = g .data-bits;
   first-own = g .first-own;
   fits = g .fits;
 }
@@ -105,6 +107,7 @@ differ a b e p = false≢true (sym e ∙ p)
 pub sound : (l : Look) → checkLook l ≡ none → Sound l
 sound l e = record {
   long = a .long;
+  tracks = a .tracks;
   good = λ i f h q. good (extra l) f (own-clear (extra l) (f .bytes) (parts i f h q .0)) (a .chains i f h q);
   sectors = λ i j f g k h q p. share-none (mapOf (g .bytes)) (mapOf (f .bytes)) (earlier-none l i (λ t. share (mapOf t) (mapOf (f .bytes))) (parts i f h q .1 .0) j g k p);
   names = λ i j f g k h q p. differ (nameOf (g .bytes)) (nameOf (f .bytes)) (earlier-none l i (λ t. sameName (nameOf t) (nameOf (f .bytes))) (parts i f h q .1 .1 .0) j g k p);
@@ -121,6 +124,7 @@ sound-only l w =
     accepted-only l
     (record {
       long = w .long;
+      tracks = w .tracks;
       survey = λ i f h q.
           parts-clear (own (extra l) (facts (f .bytes))) (cross (slotsOf l) i (f .bytes))
           (clear-own (extra l) (f .bytes) (good-own (extra l) f (w .good i f h q))) (

@@ -8,6 +8,7 @@ use lib.Dec.{eqb}
 use Rattle.refusals.specs.Order.{Reply, _else_, row, sweep}
 use Rattle.geometry.specs.Disk.{imageSize}
 use Rattle.headers.specs.Header.{laterReply}
+use Rattle.slots.specs.Tracks.{badTracks}
 use Rattle.directory.specs.Places.{slots}
 use Rattle.directory.specs.Directory.{held}
 use Rattle.surveys.specs.Survey.{surveyBy}
@@ -20,9 +21,11 @@ unfoldable pub chainAt : Look → ℕ → Reply
 chainAt l i = held none (laterReply (suc i)) (l .files i)
 
 -- "Order: 1; then all slots for 2 to 9, lowest slot first, at a slot the lowest number; then all slots for 10, 11 likewise;"
--- with 22 after 7 where it is the release check, and 25 "in the chain pass after 11"
+-- with "24, n of 36 to 254 .., slot 0, after 1", 22 after 7 where it is the release check, and 25 "in the chain pass after 11"
 unfoldable pub checkBy : Bool → Look → Reply
-checkBy release l = row 1 0 (not (eqb (l .long) imageSize)) else surveyBy release (extra l) (slotsOf l) else sweep slots (chainAt l)
+checkBy release l =
+    row 1 0 (not (eqb (l .long) imageSize)) else row 24 0 (badTracks (l .label 255))
+    else surveyBy release (extra l) (slotsOf l) else sweep slots (chainAt l)
 
 abbrev pub checkLook : Look → Reply
 checkLook l = checkBy false l

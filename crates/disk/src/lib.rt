@@ -43,6 +43,9 @@ fn examine_by(image: &[u8], release: bool) -> Survey
     if image.len() != geometry::IMAGE_SIZE {
         return surveys::refused(refusals::unsound(Reason::NotAnImage, 0));
     }
+    if directory::has_bad_tracks(image) {
+        return surveys::refused(refusals::unsound(Reason::TracksOutOfRange, 0));
+    }
     let found = surveys::survey_slots(image, release);
     let verdict = found.verdict;
     match verdict {

@@ -11,10 +11,11 @@ use lib.Dec.{ltb}
 use lib.ListN.{length, length-append}
 use Rattle.buffers.specs.Bytes.{put, count}
 use Rattle.buffers.proofs.Lists.{length-put, put-none, put-append, part-long}
+use Rattle.geometry.specs.Disk.{imageSize}
 use Rattle.directory.specs.Places.{slots, slotAt}
-use Rattle.directory.specs.Directory.{held, Directory, slotsRead, directory, liveAmong}
+use Rattle.directory.specs.Directory.{held, Directory, tracksOf, slotsRead, directory, liveAmong}
 use Rattle.directory.proofs.Live.{directory-some, among-rest, among-read}
-use Rattle.directory.proofs.Places.{slot-front}
+use Rattle.directory.proofs.Places.{slot-within}
 use Rattle.surveys.specs.Survey.{free, freeOf, usedMap, usedOr, filesOr}
 use Rattle.surveys.specs.declared.UsedMap.{UsedMap}
 use Rattle.surveys.specs.declared.Survey.{Survey}
@@ -22,9 +23,8 @@ use Rattle.refusals.specs.Order.{Refusal, refuse, Reply, _else_, row}
 use Rattle.refusals.specs.Answers.{Outcome, out, filled, done, refused, refusalOf, replyOf}
 use Rattle.refusals.specs.declared.Refused.{Refused}
 use Rattle.refusals.specs.declared.Verdict.the-variants.{Sound, Unsound}
-use Rattle.disk.specs.Look.{extra}
 use Rattle.disk.specs.Check.{checkDisk, Examined}
-use Rattle.disk.proofs.Look.{look-slots}
+use Rattle.disk.proofs.Look.{look-slots, look-extra}
 use Rattle.disk.proofs.Examined.{accepted-size}
 use Rattle.files.specs.Calls.{entry, entries, listLook, listing}
 use Rattle.files.specs.Steps.{Accepted}
@@ -50,13 +50,13 @@ entries-rest v i zero h = rw add-zero
 entries-rest v i (suc m) h = rw (add-suc i m, h (i + m) (omega arith) (omega arith), append-nil) (entries-rest v i m (λ j l k. h j l (omega arith)))
 
 -- a slot of a whole directory is 256 bytes
-slot-long : (d : List ℕ) (i : ℕ) (s : List ℕ) → directory d i ≡ some s → 40960 ≤ length d → length s ≡ 256
+slot-long : (d : List ℕ) (i : ℕ) (s : List ℕ) → directory d i ≡ some s → imageSize ≤ length d → length s ≡ 256
 slot-long d i s q h =
     let w = directory-some d i s q in
-    ap length (w .1) ∙ part-long (slotAt i) 256 d (omega (arith, slot-front i (w .0)))
+    ap length (w .1) ∙ part-long (slotAt i) 256 d (omega (arith, slot-within i (w .0)))
 
 -- every entry of a whole directory is 258 bytes
-pub entries-long : (d : List ℕ) → 40960 ≤ length d → (k : ℕ) → k ≤ slots → length (entries (directory d) k) ≡ 258 * liveAmong (directory d) k
+pub entries-long : (d : List ℕ) → imageSize ≤ length d → (k : ℕ) → k ≤ slots → length (entries (directory d) k) ≡ 258 * liveAmong (directory d) k
 unfolding entries liveAmong count
 entries-long d h zero l = refl
 entries-long d h (suc k) l =
@@ -84,7 +84,7 @@ module _ (d buf : List ℕ) where
   listed-none = record { place = refl; bytes = put-none buf 0 [] }
 
   module _ (i at : ℕ) (now : List ℕ) (w : Listed d buf i at now) where
-    pub listed-more : (s : List ℕ) → directory d i ≡ some s → i < slots → 40960 ≤ length d → (next : List ℕ) → next ≡ put now at (entry (i + 1) s) → Listed d buf (i + 1) (at + 258) next
+    pub listed-more : (s : List ℕ) → directory d i ≡ some s → i < slots → imageSize ≤ length d → (next : List ℕ) → next ≡ put now at (entry (i + 1) s) → Listed d buf (i + 1) (at + 258) next
     listed-more s e h l next p =
         let z : at ≡ 0 + length (entries (directory d) i) = omega (arith, w .place) in
         record {
@@ -101,7 +101,7 @@ module _ (d buf : List ℕ) where
     pub listed-long : length now ≡ length buf
     listed-long = ap length (w .bytes) ∙ length-put buf 0 (entries (directory d) i)
 
-    pub listed-end : i ≤ slots → 40960 ≤ length d → (end : ℕ) → end ≡ 258 * liveAmong (directory d) slots → end ≤ at → now ≡ put buf 0 (entries (directory d) slots)
+    pub listed-end : i ≤ slots → imageSize ≤ length d → (end : ℕ) → end ≡ 258 * liveAmong (directory d) slots → end ≤ at → now ≡ put buf 0 (entries (directory d) slots)
     listed-end h l end e k =
         let f : liveAmong (directory d) slots ≤ liveAmong (directory d) i = omega (arith, w .place, entries-long d l i h) in
         let z : i + (slots - i) ≡ slots = omega arith in
@@ -109,7 +109,7 @@ module _ (d buf : List ℕ) where
         ∙ ap (put buf 0) (sym (ap (entries (directory d)) (sym z) ∙ entries-rest (directory d) i (slots - i) (λ j x y. among-rest (directory d) i slots h f j x (omega arith))))
 
     -- before the end the next slot is read
-    pub listed-next : i ≤ slots → 40960 ≤ length d → (end : ℕ) → end ≡ 258 * liveAmong (directory d) slots → at < end → i < slotsRead d
+    pub listed-next : i ≤ slots → imageSize ≤ length d → (end : ℕ) → end ≡ 258 * liveAmong (directory d) slots → at < end → i < slotsRead d
     listed-next h l end e k = among-read d i h (omega (arith, w .place, entries-long d l i h))
 
 -- ---- the whole call
@@ -117,16 +117,16 @@ module _ (d buf : List ℕ) where
 -- the reply and the bytes of a listing, over the disk's directory
 pub listing-is : (d buf : List ℕ)
     → listing d buf
-    ≡ filled (checkDisk d else row 20 0 (ltb (length buf) (length (entries (directory d) slots)))) (done (liveAmong (directory d) slots) (free 0 (directory d)))
+    ≡ filled (checkDisk d else row 20 0 (ltb (length buf) (length (entries (directory d) slots)))) (done (liveAmong (directory d) slots) (free (tracksOf d) (directory d)))
     (entries (directory d) slots) buf
-unfolding listLook checkDisk extra
-listing-is d buf = rw (look-slots d)
+unfolding listLook checkDisk
+listing-is d buf = rw (look-slots d, look-extra d)
 
 listing-barred : (d buf : List ℕ) (r : Refusal) → checkDisk d ≡ some r → out (refused r) buf ≡ listing d buf
 listing-barred d buf r e = sym (listing-is d buf ∙ rw e)
 
 module _ (d buf : List ℕ) (u : UsedMap) (w : Accepted d u) where
-  whole : 40960 ≤ length d
+  whole : imageSize ≤ length d
   whole = omega (arith, accepted-size d (w .accepted))
 
   entries-fit : length (entries (directory d) slots) ≡ 258 * liveAmong (directory d) slots
@@ -137,12 +137,12 @@ module _ (d buf : List ℕ) (u : UsedMap) (w : Accepted d u) where
       let l : length buf < length (entries (directory d) slots) = omega (arith, entries-fit) in
       rw p (sym (listing-is d buf ∙ rw (w .accepted, lt-ltb (length buf) (length (entries (directory d) slots)) l)))
 
-  pub listing-fits : (n : ℕ) → n ≡ liveAmong (directory d) slots → 258 * n ≤ length buf → (f : ℕ) → f ≡ freeOf 0 u → (x : List ℕ) → x ≡ put buf 0 (entries (directory d) slots)
+  pub listing-fits : (n : ℕ) → n ≡ liveAmong (directory d) slots → 258 * n ≤ length buf → (f : ℕ) → f ≡ freeOf u → (x : List ℕ) → x ≡ put buf 0 (entries (directory d) slots)
       → out (done n f) x ≡ listing d buf
   unfolding free
   listing-fits n e h f p x q =
       let l : length (entries (directory d) slots) ≤ length buf = omega (arith, entries-fit) in
-      let g : f ≡ freeOf 0 (usedMap (directory d)) = p ∙ ap (freeOf 0) (w .used) in
+      let g : f ≡ freeOf (usedMap (tracksOf d) (directory d)) = p ∙ ap freeOf (w .used) in
       rw (e, g, q) (sym (listing-is d buf ∙ rw (w .accepted, le-ltb (length buf) (length (entries (directory d) slots)) l)))
 
 -- what a refused check says of the listing, and an accepted one
@@ -157,4 +157,4 @@ sound-files d s w e =
 pub sound-accepted : (d : List ℕ) (s : Survey) → Examined d s → s .verdict ≡ Sound → Accepted d (s .used)
 sound-accepted d s w e =
     let a : checkDisk d ≡ none = sym (w .reply) ∙ ap replyOf e in
-    record { accepted = a; used = w .used ∙ ap (λ (q : Reply). usedOr q (directory d)) a }
+    record { accepted = a; used = w .used ∙ ap (λ (q : Reply). usedOr q (tracksOf d) (directory d)) a }

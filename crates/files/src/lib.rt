@@ -6,6 +6,7 @@ ghost use lib.ListN.{length};
 ghost use Rattle.buffers.specs.Bytes.{put};
 ghost use Rattle.refusals.specs.Order.{refuse};
 ghost use Rattle.refusals.specs.Answers.{numberOf, outcomeOf, out, refused};
+ghost use Rattle.geometry.specs.Disk.{imageSize};
 ghost use Rattle.slots.specs.Slot.{kindOf, readable};
 ghost use Rattle.chains.specs.File.{fileOf};
 ghost use Rattle.headers.specs.Header.{body};
@@ -26,7 +27,7 @@ pub const ENTRY_BYTES: usize = 258;
 
 // Puts a slot's number, low byte first, and its bytes at a place of a buffer.
 fn put_entry(buf: &mut [u8], at: usize, number: usize, s: &[u8])
-    requires { ⌜ (at ≤ 20640) × (number ≤ 80) ⌝ }
+    requires { ⌜ (at ≤ 200724) × (number ≤ 778) ⌝ }
     ensures { λ _. ⌜ now (buf .exit) ≡ put (now (buf .entry)) at (entry number (now (s .entry))) ⌝ }
 {
     let head = [(number % 256) as u8, (number / 256) as u8];
@@ -36,7 +37,7 @@ fn put_entry(buf: &mut [u8], at: usize, number: usize, s: &[u8])
 
 // Puts an entry for each live slot to the front of a buffer, as far as `end`: past it there is no live slot to look for.
 fn list_into(dir: &[u8], end: usize, buf: &mut [u8])
-    requires { ⌜ (40960 ≤ length (now dir)) × (end ≡ 258 * liveAmong (directory (now dir)) slots) ⌝ }
+    requires { ⌜ (imageSize ≤ length (now dir)) × (end ≡ 258 * liveAmong (directory (now dir)) slots) ⌝ }
     ensures { λ _. ⌜ now (buf .exit) ≡ put (now (buf .entry)) 0 (entries (directory (now (dir .entry))) slots) ⌝ }
 {
     let mut at: usize = 0;

@@ -46,7 +46,7 @@ freeIn (refused r) = 0
 -- refusals of the table at slots of the directory, values up to v, free sectors up to f
 pub record Within (o : Outcome) (v f : ℕ) : Type 0 where
   pub refusal : refusalIn o ≤ lastNumber
-  pub slot : slotIn o ≤ 80
+  pub slot : slotIn o ≤ 778
   pub value : valueIn o ≤ v
   pub free : freeIn o ≤ f
 

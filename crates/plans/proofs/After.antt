@@ -13,7 +13,7 @@ use lib.Seq.{ext-getD}
 use lib.ListN.{length, getD}
 use Rattle.buffers.specs.Bytes.{tab, put}
 use Rattle.buffers.proofs.Lists.{below-or-not, length-put, part-at, put-in, put-before, put-after}
-use Rattle.buffers.proofs.Counts.{count-cong, any-cong, any-some, none-any}
+use Rattle.buffers.proofs.Counts.{count-cong, any-cong, any-some, none-any, count-less}
 use Rattle.buffers.proofs.Tests.{and-both}
 use Rattle.geometry.specs.Disk.{bitOf}
 use Rattle.refusals.specs.Order.{refuse}
@@ -22,7 +22,8 @@ use Rattle.maps.proofs.Laws.{bits-le, bits-join, has-join, none-share}
 use Rattle.slots.specs.Slot.{isLive, hidden, protected, kindOf, spectrum, nameOf, countOf, firstOf, mapOf, pageOf, offsetOf, facts, lengthOf}
 use Rattle.names.specs.Name.{sameName, Same, askable, padded}
 use Rattle.names.proofs.Names.{same-sym, same-eq, same-of}
-use Rattle.slots.specs.Rows.{dataCount}
+use Rattle.slots.specs.Tracks.{dataCount, dataBit}
+use Rattle.slots.proofs.Tracks.{count-data}
 use Rattle.chains.specs.File.{File}
 use Rattle.chains.specs.Chain.{linked}
 use Rattle.headers.specs.Header.{headerLength, headerStart, fileLength, bodyByte, body}
@@ -31,13 +32,13 @@ use Rattle.directory.specs.Places.{slots, slotAt}
 use Rattle.directory.specs.Directory.{held, Directory}
 use Rattle.surveys.specs.Survey.{union, counted, usedMap, freeOf, free}
 use Rattle.directory.specs.Find.{find}
-use Rattle.directory.proofs.Places.{slot-front, data-all}
+use Rattle.directory.proofs.Places.{slot-within}
 use Rattle.surveys.proofs.Union.{length-union, has-union}
 use Rattle.directory.proofs.Search.{none-find, find-same}
 use Rattle.disk.specs.Look.{Look, look, slotsOf, extra}
 use Rattle.disk.specs.Check.{checkDisk}
 use Rattle.disk.specs.Sound.{Known, Sound}
-use Rattle.disk.proofs.Look.{look-slots}
+use Rattle.disk.proofs.Look.{look-slots, look-extra}
 use Rattle.files.specs.Calls.{noFile, fileAt, address, startOf}
 use Rattle.files.proofs.Named.{lookup-none}
 use Rattle.files.proofs.Reading.{read-barred}
@@ -47,7 +48,8 @@ use Rattle.plans.specs.Saving.{freeBit}
 use Rattle.plans.specs.Plan.{upd, made, run}
 use Rattle.plans.specs.Accepted.{Named, Unprotected, Renames}
 use Rattle.plans.specs.After.{SameAnswers, Gone, AfterErase, AfterRename, hiddenBy, protectedBy, marking, AfterMark}
-use Rattle.plans.proofs.Frame.{slots-some, slot-file, disk-sound, upd-same, upd-other, slots-same, slots-other, entry-live, entry-dead, holds, holds-long}
+use Rattle.plans.proofs.Frame.{slots-some, slot-file, disk-sound, upd-same, upd-other, extra-upd, slots-same, slots-other, entry-live, entry-dead, holds, holds-long}
+use Rattle.plans.proofs.Free.{extra-few, used-data}
 use Rattle.plans.proofs.Kept.{sound-apart, sound-long, usable-is}
 use Rattle.plans.proofs.Named.{alone, found-here}
 use Rattle.plans.proofs.Effect.{Touched, erasing, erased, marked-so, renamed}
@@ -72,7 +74,7 @@ module _ (d n : List ℕ) (o : ℕ) (y : File → List ℕ) (Also : ℕ → File
   byte-put : Sound (look d) → (i : ℕ) → i < length (y (t .file)) → o + i < 256 → getD new (slotAt (t .slot) + (o + i)) 0 ≡ getD (y (t .file)) i 0
   byte-put w i h l =
       ap₂ (λ (e : List ℕ) (k : ℕ). getD e k 0) (t .disk) (omega arith)
-      ∙ put-in d (slotAt (t .slot) + o) (y (t .file)) i h (omega (arith, sound-long d w, slot-front (t .slot) (t .found .below)))
+      ∙ put-in d (slotAt (t .slot) + o) (y (t .file)) i h (omega (arith, sound-long d w, slot-within (t .slot) (t .found .below)))
 
 pub first-byte : (s : List ℕ) (b : ℕ) → 1 ≤ length s → getD (put s 0 (b ∷ [])) 0 0 ≡ b
 first-byte s b h = put-in s 0 (b ∷ []) 0 (omega arith) (omega arith)
@@ -131,8 +133,8 @@ module _ (l : Look) (w : Sound l) (i : ℕ) (f : File) (h : i < slots) (e : l .f
     unused : has (leftMap l i) b ≡ false
     unused = has-union (slotsOf (upd l i none)) slots b small ∙ none-any slots (bitAt (upd l i none) b) left-none
 
-    freed-bit : freeBit 0 (slotsOf (upd l i none)) b ≡ true
-    freed-bit = rw (data-all b small, unused)
+    freed-bit : freeBit (extra (upd l i none)) (slotsOf (upd l i none)) b ≡ true
+    freed-bit = rw (extra-upd l i none, w .good i f h e .data-bits b m, unused)
 
   -- the used map was what is left, joined with the file's
   used-join : (b : ℕ) → b < 1560 → has (union (slotsOf l) slots) b ≡ has (join (leftMap l i) (mapOf (f .bytes))) b
@@ -160,9 +162,16 @@ module _ (l : Look) (w : Sound l) (i : ℕ) (f : File) (h : i < slots) (e : l .f
       (none-share (leftMap l i) (mapOf (f .bytes)) (λ b k p q. true≢false (sym p ∙ unused b q)))
       ∙ ap (λ (c : ℕ). bitsOf (leftMap l i) + c) (w .good i f h e .bits)
 
-  freed-count : free 0 (slotsOf (upd l i none)) ≡ free 0 (slotsOf l) + countOf (f .bytes)
-  unfolding free freeOf usedMap counted dataCount
-  freed-count = omega (arith, used-count, bits-le (union (slotsOf l) slots))
+  freed-count : free (extra (upd l i none)) (slotsOf (upd l i none)) ≡ free (extra l) (slotsOf l) + countOf (f .bytes)
+  unfolding free freeOf usedMap counted bitsOf
+  freed-count =
+      omega (
+        arith,
+        used-count,
+        ap dataCount (extra-upd l i none),
+        count-data (extra l) (extra-few l),
+        count-less 1560 (dataBit (extra l)) (has (union (slotsOf l) slots)) (used-data l w),
+      )
 
 -- ---- a file whose name or marks are other
 
@@ -271,8 +280,8 @@ module _ (d : List ℕ) (ok : checkDisk d ≡ none) (room : ℕ) (new ss : List 
         empty = rw z (upd-same (look d) (t .slot) none);
         gone = gone-by new n (change-accepted (erase n) d room new ss ok e) (t .askable-name)
             (rw z (found-none (look d) old-sound n (t .slot) (t .file) (t .found .below) (t .found .here) (t .found .name) none (λ f p q. Option·some-ne-none f (sym p))));
-        freed = rw (← look-slots new, z) (freed-bit (look d) old-sound (t .slot) (t .file) (t .found .below) (t .found .here));
-        more = rw (← look-slots new, ← look-slots d, z) (freed-count (look d) old-sound (t .slot) (t .file) (t .found .below) (t .found .here));
+        freed = rw (← look-slots new, ← look-extra new, z) (freed-bit (look d) old-sound (t .slot) (t .file) (t .found .below) (t .found .here));
+        more = rw (← look-slots new, ← look-slots d, ← look-extra new, ← look-extra d, z) (freed-count (look d) old-sound (t .slot) (t .file) (t .found .below) (t .found .here));
       }
 
   pub after-rename : (n to : List ℕ) → run (rename n to) d room ≡ made new ss → AfterRename d n to new ss

@@ -11,23 +11,26 @@ use borrow.Author.Tests.{eqb-true, eqb-false}
 use lib.Dec.{eqb}
 use lib.ListN.{length}
 use Rattle.buffers.specs.Bytes.{count, any}
-use Rattle.buffers.proofs.Counts.{any-none, none-any, any-some, some-any, count-cong}
+use Rattle.buffers.proofs.Counts.{any-none, none-any, any-some, some-any, count-cong, count-less}
 use Rattle.maps.specs.Bits.{has, bitsOf}
 use Rattle.slots.specs.Slot.{mapOf, sectorsFor}
+use Rattle.slots.specs.Tracks.{dataBit}
 use Rattle.chains.specs.File.{File}
-use Rattle.directory.specs.Places.{slots, dataBit}
+use Rattle.directory.specs.Places.{slots}
 use Rattle.directory.specs.Directory.{held, liveAmong}
 use Rattle.surveys.specs.Survey.{union, free}
 use Rattle.surveys.proofs.Union.{has-union}
 use Rattle.disk.specs.Look.{Look, look, slotsOf, extra}
 use Rattle.disk.specs.Check.{checkDisk}
+use Rattle.disk.specs.Sound.{Sound}
 use Rattle.steps.specs.Sectors.{listed}
 use Rattle.plans.specs.Change.{Wish, save}
 use Rattle.plans.specs.Saving.{freeBit, mapWith, newSlot}
 use Rattle.plans.specs.Plan.{upd, made, run}
-use Rattle.plans.proofs.Frame.{slots-same, slots-other, extra-upd}
-use Rattle.plans.proofs.Free.{Run, run-listed, passing-long, free-long}
+use Rattle.plans.proofs.Frame.{disk-sound, slots-same, slots-other, extra-upd}
+use Rattle.plans.proofs.Free.{Run, run-listed, passing-long, free-long, free-small}
 use Rattle.plans.proofs.NewFile.{newFile, map-is, has-mapWith, bits-mapWith}
+use Rattle.plans.proofs.Demand3.{change-accepted}
 use Rattle.plans.proofs.ReadBack.{Stored, stored}
 
 -- ---- counting
@@ -43,19 +46,6 @@ count-one (suc n) i p q h a b e =
     rw (same, ap q (sym w) ∙ b, ap p (sym w) ∙ a) (omega arith))
     (λ (w : i < n). rw (e n (omega arith), count-one n i p q w a b e) (omega arith))
     (eq-or-lt-of-le (le-of-suc-le-suc h))
-
--- those that hold, less some of them
-count-less : (n : ℕ) (p q : ℕ → Bool) → ((k : ℕ) → k < n → q k ≡ true → p k ≡ true) → count n (λ k. p k && not (q k)) + count n q ≡ count n p
-unfolding count
-count-less zero p q h = refl
-count-less (suc n) p q h = by (p n) (q n) (h n (omega arith)) (count-less n p q (λ k l. h k (omega arith)))
-  where
-    by : (a b : Bool) → (b ≡ true → a ≡ true) → count n (λ k. p k && not (q k)) + count n q ≡ count n p
-        → count n (λ k. p k && not (q k)) + cond (a && not b) 1 0 + (count n q + cond b 1 0) ≡ count n p + cond a 1 0
-    by true true w e = omega arith
-    by true false w e = omega arith
-    by false true w e = absurd (false≢true (w refl))
-    by false false w e = omega arith
 
 same-truth : (a b : Bool) → (a ≡ true → b ≡ true) → (b ≡ true → a ≡ true) → a ≡ b
 same-truth true b f g = sym (f refl)
@@ -121,29 +111,29 @@ module _ (d : List ℕ) (ok : checkDisk d ≡ none) (room : ℕ) (w : Wish) (new
   l = look d
 
   abbrev f : File
-  f = newFile (slotsOf (look d)) (it .slot) w (it .bits)
+  f = newFile (look d .label) (it .slot) w (it .bits)
 
   run-of : Run (freeIn l) 0 (it .bits)
   run-of = it .ready .run
 
   -- one file more
   pub saved-files : liveAmong (slotsOf (look new)) slots ≡ liveAmong (slotsOf (look d)) slots + 1
-  saved-files = ap (λ (x : Look). liveAmong (slotsOf x) slots) (it .seen) ∙ live-more l (it .slot) (it .lowest .below) (it .lowest .empty) f
+  saved-files = ap (λ (x : Look). liveAmong (slotsOf x) slots) (it .seen) ∙ live-more l (it .slot) (free-small l (it .slot) (it .lowest)) (it .lowest .empty) f
 
   -- its entry: the slot's bytes, in the slot that was taken
-  pub saved-entry : slotsOf (look new) (it .slot) ≡ some (newSlot (slotsOf (look d)) (it .slot) w (it .bits))
+  pub saved-entry : slotsOf (look new) (it .slot) ≡ some (newSlot (look d .label) (it .slot) w (it .bits))
   saved-entry = ap (λ (x : Look). slotsOf x (it .slot)) (it .seen) ∙ slots-same l (it .slot) (some f)
 
   pub other-entries : (j : ℕ) → (j ≡ it .slot → ⊥) → slotsOf (look new) j ≡ slotsOf (look d) j
   other-entries j n = ap (λ (x : Look). slotsOf x j) (it .seen) ∙ slots-other l (it .slot) (some f) j n
 
   bits-new : (b : ℕ) → has (mapOf (f .bytes)) b ≡ listed b (it .bits)
-  bits-new b = ap (λ (m : List ℕ). has m b) (map-is (slotsOf l) (it .slot) w (it .bits)) ∙ has-mapWith (freeIn l) 0 (it .bits) run-of b
+  bits-new b = ap (λ (m : List ℕ). has m b) (map-is (l .label) (it .slot) w (it .bits)) ∙ has-mapWith (freeIn l) 0 (it .bits) run-of b
 
   free-after : (b : ℕ) → b < 1560 → freeIn (upd l (it .slot) (some f)) b ≡ (freeIn l b && not (listed b (it .bits)))
   free-after b h =
       ap₂ (λ (n : ℕ) (u : Bool). dataBit n b && not u) (extra-upd l (it .slot) (some f))
-      (used-more l (it .slot) (it .lowest .below) (it .lowest .empty) f b h ∙ ap (λ (v : Bool). has (union (slotsOf l) slots) b || v) (bits-new b))
+      (used-more l (it .slot) (free-small l (it .slot) (it .lowest)) (it .lowest .empty) f b h ∙ ap (λ (v : Bool). has (union (slotsOf l) slots) b || v) (bits-new b))
       ∙ and-not (dataBit (extra l) b) (has (union (slotsOf l) slots) b) (listed b (it .bits))
 
   count-taken : count 1560 (λ b. listed b (it .bits)) ≡ length (it .bits)
@@ -152,15 +142,15 @@ module _ (d : List ℕ) (ok : checkDisk d ≡ none) (room : ℕ) (w : Wish) (new
       count-cong 1560 (λ b. listed b (it .bits)) (has (mapWith (it .bits))) (λ b h. sym (has-mapWith (freeIn l) 0 (it .bits) run-of b))
       ∙ bits-mapWith (freeIn l) 0 (it .bits) run-of
 
-  free-count : (x : Look) → free (extra x) (slotsOf x) ≡ count 1560 (freeIn x)
-  free-count x = sym (free-long x) ∙ passing-long (freeIn x) 1560 0 ∙ count-cong 1560 (λ j. freeIn x (0 + j)) (freeIn x) (λ j h. ap (freeIn x) (omega arith))
+  free-count : (x : Look) → Sound x → free (extra x) (slotsOf x) ≡ count 1560 (freeIn x)
+  free-count x s = sym (free-long x s) ∙ passing-long (freeIn x) 1560 0 ∙ count-cong 1560 (λ j. freeIn x (0 + j)) (freeIn x) (λ j h. ap (freeIn x) (omega arith))
 
   -- n free sectors fewer
   pub saved-free : free (extra (look new)) (slotsOf (look new)) + sectorsFor (length (w .body)) ≡ free (extra (look d)) (slotsOf (look d))
   saved-free =
       let a : free (extra (look new)) (slotsOf (look new)) ≡ count 1560 (λ b. freeIn l b && not (listed b (it .bits))) =
-      ap (λ (x : Look). free (extra x) (slotsOf x)) (it .seen) ∙ free-count (upd l (it .slot) (some f))
+      free-count (look new) (disk-sound new (change-accepted (save w) d room new ss ok e)) ∙ ap (λ (x : Look). count 1560 (freeIn x)) (it .seen)
       ∙ count-cong 1560 (freeIn (upd l (it .slot) (some f))) (λ b. freeIn l b && not (listed b (it .bits))) (λ b h. free-after b h) in
       let b : count 1560 (λ b. freeIn l b && not (listed b (it .bits))) + count 1560 (λ b. listed b (it .bits)) ≡ count 1560 (freeIn l) =
       count-less 1560 (freeIn l) (λ b. listed b (it .bits)) (λ b h q. run-listed (freeIn l) 0 (it .bits) run-of b q .passes) in
-      ap₂ _+_ a (sym (it .ready .long) ∙ sym count-taken) ∙ b ∙ sym (free-count l)
+      ap₂ _+_ a (sym (it .ready .long) ∙ sym count-taken) ∙ b ∙ sym (free-count l (disk-sound d ok))

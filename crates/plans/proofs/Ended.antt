@@ -12,14 +12,18 @@ use lib.ListN.{length}
 use Rattle.buffers.specs.Bytes.{put}
 use Rattle.buffers.proofs.Lists.{part-long, put-in}
 use Rattle.buffers.proofs.Tests.{and-both}
-use Rattle.slots.specs.Slot.{isNameless}
+use Rattle.maps.specs.Bits.{has}
+use Rattle.slots.specs.Slot.{isNameless, mapOf}
+use Rattle.slots.specs.Tracks.{dataBit}
 use Rattle.chains.specs.File.{File, sectorsOf, fileOf}
-use Rattle.directory.specs.Places.{slots, slotAt, slotBytes, dirSector}
-use Rattle.directory.specs.Directory.{isSlot, nameless, seen}
-use Rattle.directory.proofs.Places.{slot-front}
+use Rattle.directory.specs.Places.{slotCount, slotAt, slotBytes, dirSector}
+use Rattle.directory.specs.Directory.{tracksOf, slotsIn, isSlot, nameless, seen}
+use Rattle.directory.proofs.Places.{slot-within}
+use Rattle.directory.proofs.Label.{slots-few}
 use Rattle.directory.proofs.Ends.{seen-next, seen-agree, nameless-agree}
 use Rattle.disk.specs.Look.{Look, look}
 use Rattle.disk.specs.Sound.{Sound}
+use Rattle.disk.proofs.Look.{look-extra}
 use Rattle.steps.specs.Sectors.{listed, Once}
 use Rattle.steps.specs.Steps.{Step, putAll, enact, numbers, commits, lastOf, Inside, AllInside, Does, Goes}
 use Rattle.steps.proofs.Sectors.{listed-append, once-snoc}
@@ -27,37 +31,40 @@ use Rattle.steps.proofs.Steps.{enact-append, goes-long, goes-append}
 use Rattle.plans.specs.Plan.{upd, slotPut, slotStep, oldName, together, noName, endPut, cleared, endSteps, endPuts, dirSectors, endStep}
 use Rattle.plans.proofs.Frame.{Reach, holds, inside-slot, there-slot, slot-new, slot-else, files-stay, slot-quiet}
 use Rattle.plans.proofs.Free.{FreeSlot}
-use Rattle.plans.proofs.Kept.{sound-long}
+use Rattle.plans.proofs.Kept.{tracks-look, sound-long, sound-data}
 
 -- ---- an old name behind a slot
 
 -- the slot has no name, and the next one exists
-pub old-is : (d : List ℕ) (i : ℕ) → oldName d i ≡ true → (nameless d i ≡ true) × (suc i < slots)
+pub old-is : (d : List ℕ) (i : ℕ) → oldName d i ≡ true → (nameless d i ≡ true) × (suc i < slotsIn d)
 unfolding oldName isSlot
 old-is d i e =
-    let a = and-both (nameless d i) (ltb (suc i) slots && not (nameless d (suc i))) e in
-    let b = and-both (ltb (suc i) slots) (not (nameless d (suc i))) (a .1) in
-    (a .0, ltb-true (suc i) slots (b .0))
+    let a = and-both (nameless d i) (ltb (suc i) (slotsIn d) && not (nameless d (suc i))) e in
+    let b = and-both (ltb (suc i) (slotsIn d)) (not (nameless d (suc i))) (a .1) in
+    (a .0, ltb-true (suc i) (slotsIn d) (b .0))
 
 -- where there is none behind a slot without a name, the next one has no name either
-pub old-not : (d : List ℕ) (i : ℕ) → oldName d i ≡ false → nameless d i ≡ true → suc i < slots → nameless d (suc i) ≡ true
+pub old-not : (d : List ℕ) (i : ℕ) → oldName d i ≡ false → nameless d i ≡ true → suc i < slotsIn d → nameless d (suc i) ≡ true
 unfolding oldName isSlot
 old-not d i e n h = by (nameless d (suc i)) refl
   where
     by : (t : Bool) → nameless d (suc i) ≡ t → t ≡ true
     by true q = refl
-    by false q = absurd (true≢false (sym (rw (n, lt-ltb (suc i) slots h, q)) ∙ e))
+    by false q = absurd (true≢false (sym (rw (n, lt-ltb (suc i) (slotsIn d) h, q)) ∙ e))
 
--- the slot that a save takes can be written
+-- the slot that a save takes is there, and it can be written
+pub free-there : (d : List ℕ) (i : ℕ) → FreeSlot (look d) i → i < slotsIn d
+free-there d i at = subst (λ (n : ℕ). i < slotCount n) (look-extra d) (at .below)
+
 pub reach-free : (d : List ℕ) (i : ℕ) → FreeSlot (look d) i → Reach d (oldName d i) i
 reach-free d i at = record { before = before; next = by (nameless d i) refl; end = old-is d i }
   where
     before : (j : ℕ) → j < i → seen d j ≡ true
     before j l = let f = at .before j l in holds d j (f .0) (f .1) .read
 
-    by : (n : Bool) → nameless d i ≡ n → oldName d i ≡ false → (seen d i ≡ true) ⊎ (suc i < slots → nameless d (suc i) ≡ true)
+    by : (n : Bool) → nameless d i ≡ n → oldName d i ≡ false → (seen d i ≡ true) ⊎ (suc i < slotsIn d → nameless d (suc i) ≡ true)
     by true q e = inr (old-not d i e q)
-    by false q e = inl (seen-next d i (at .below) before q)
+    by false q e = inl (seen-next d i (free-there d i at) before q)
 
 -- ---- the sectors of the directory
 
@@ -95,10 +102,10 @@ module _ (old : Bool) (i : ℕ) where
       by false = (omega arith, omega arith)
 
   -- after sectors that are none of the directory's, each once
-  pub dirs-once : (xs : List ℕ) → Once xs → ((j : ℕ) → j < slots → listed (dirSector j) xs ≡ false) → i < slots → (old ≡ true → suc i < slots)
+  pub dirs-once : (n : ℕ) (xs : List ℕ) → Once xs → ((j : ℕ) → j < slotCount n → listed (dirSector j) xs ≡ false) → i < slotCount n → (old ≡ true → suc i < slotCount n)
       → Once (xs ++ dirSectors old i)
   unfolding dirSectors together
-  dirs-once xs o u h k = by old refl (eqb (dirSector (suc i)) (dirSector i)) refl
+  dirs-once n xs o u h k = by old refl (eqb (dirSector (suc i)) (dirSector i)) refl
     where
       last : Once (xs ++ (dirSector i ∷ []))
       last = once-snoc xs (dirSector i) o (u i h)
@@ -142,12 +149,12 @@ module _ (old : Bool) (i : ℕ) (m : List ℕ) where
 
 -- ---- the disk before the slot is written: m, and without an old name behind the end
 
-module _ (m : List ℕ) (ok : Sound (look m)) (i : ℕ) (h : i < slots) (old : Bool) (r : Reach m old i) where
+module _ (m : List ℕ) (ok : Sound (look m)) (i : ℕ) (h : i < slotsIn m) (old : Bool) (r : Reach m old i) where
   abbrev ended : List ℕ
   ended = cleared old i m
 
   quiet : old ≡ true → look (put m (slotAt (suc i) + 0) noName) ≡ look m
-  quiet e = slot-quiet m (sound-long m ok) (suc i) (r .end e .1) 0 noName (omega arith) i (omega arith) (r .end e .0)
+  quiet e = slot-quiet m (sound-long m ok) (suc i) (r .end e .1) 0 noName (omega arith) (sound-data m ok) i (omega arith) (r .end e .0)
 
   pub end-look : look (cleared old i m) ≡ look m
   end-look = by old refl
@@ -184,17 +191,17 @@ module _ (m : List ℕ) (ok : Sound (look m)) (i : ℕ) (h : i < slots) (old : B
   end-next : old ≡ true → nameless (put m (slotAt (suc i) + 0) noName) (suc i) ≡ true
   unfolding nameless
   end-next e =
-      let l = part-long (slotAt (suc i)) 256 m (omega (arith, sound-long m ok, slot-front (suc i) (r .end e .1))) in
+      let l = part-long (slotAt (suc i)) 256 m (omega (arith, sound-long m ok, slot-within (suc i) (omega (arith, r .end e .1, slots-few m)))) in
       ap isNameless (slot-new m (sound-long m ok) (suc i) (r .end e .1) 0 noName (omega arith))
       ∙ ap (λ (x : ℕ). eqb x 0) (put-in (slotBytes m (suc i)) 0 noName 1 (omega arith) (omega arith))
 
   -- and of the data sectors
-  pub end-sectors : (x : List ℕ) → sectorsOf (cleared old i m) x ≡ sectorsOf m x
+  pub end-sectors : (x : List ℕ) → ((b : ℕ) → has (mapOf x) b ≡ true → dataBit (tracksOf m) b ≡ true) → sectorsOf (cleared old i m) x ≡ sectorsOf m x
   unfolding fileOf
-  end-sectors x = by old refl
+  end-sectors x q = by old refl
     where
       by : (t : Bool) → old ≡ t → sectorsOf (cleared t i m) x ≡ sectorsOf m x
-      by true e = ap (λ (f : File). f .sectors) (files-stay m (sound-long m ok) (suc i) (r .end e .1) 0 noName (omega arith) x)
+      by true e = ap (λ (f : File). f .sectors) (files-stay m (sound-long m ok) (suc i) (r .end e .1) 0 noName (omega arith) x q)
       by false e = refl
 
   -- the slot can be written, and behind it no old name stands
@@ -202,14 +209,14 @@ module _ (m : List ℕ) (ok : Sound (look m)) (i : ℕ) (h : i < slots) (old : B
   end-reach = record { before = before; next = λ q. by old refl; end = λ q. absurd (true≢false (sym q)) }
     where
       same : (j : ℕ) → j ≤ i → seen ended j ≡ seen m j
-      same j l = seen-agree m ended j (λ k q. nameless-agree m ended k (end-else k (λ (t : old ≡ true). omega arith)))
+      same j l = seen-agree m ended j (tracks-look ended m end-look) (λ k q. nameless-agree m ended k (end-else k (λ (t : old ≡ true). omega arith)))
 
       before : (j : ℕ) → j < i → seen ended j ≡ true
       before j l = same j (omega arith) ∙ r .before j l
 
-      by : (t : Bool) → old ≡ t → (seen ended i ≡ true) ⊎ (suc i < slots → nameless ended (suc i) ≡ true)
+      by : (t : Bool) → old ≡ t → (seen ended i ≡ true) ⊎ (suc i < slotsIn ended → nameless ended (suc i) ≡ true)
       by true e = inr (λ l. rw e (end-next e))
-      by false e = subst (λ (x : List ℕ). (seen x i ≡ true) ⊎ (suc i < slots → nameless x (suc i) ≡ true)) (rw e) (r .next e)
+      by false e = subst (λ (x : List ℕ). (seen x i ≡ true) ⊎ (suc i < slotsIn x → nameless x (suc i) ≡ true)) (rw e) (r .next e)
 
   -- ---- bytes put in the slot, in one step with what is put behind it in its sector
 

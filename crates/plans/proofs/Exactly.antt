@@ -1,6 +1,6 @@
 -- Each change is accepted exactly when, in plain facts; what a save takes; and which files a change finds.
 use Prim.Native.Nat.{ℕ, suc, _+_, _-_, _≤_, _<_}
-use mathlib.Core.Path.{_≡_, refl, sym, ap, _∙_, subst}
+use mathlib.Core.Path.{_≡_, refl, sym, ap, ap₂, _∙_, subst}
 use mathlib.Core.Bool.{Bool, true, false, not, _&&_, _||_, and-false, true≢false}
 use mathlib.Core.List.{List, [], _∷_}
 use mathlib.Core.Logic.{_⊎_, inl, inr, ⊎-elim, _↔_}
@@ -15,17 +15,17 @@ use Rattle.refusals.specs.Order.{Refusal, refuse, _else_, SlotRow, FirstOf}
 use Rattle.slots.specs.Slot.{protected, carried, nameOf}
 use Rattle.names.specs.Name.{padded}
 use Rattle.names.proofs.Names.{not-bytes}
-use Rattle.slots.specs.Rows.{dataCount}
+use Rattle.slots.specs.Tracks.{dataCount}
 use Rattle.chains.specs.File.{File, sectorsOf}
 use Rattle.directory.specs.Places.{slots, slotBytes}
 use Rattle.directory.specs.Directory.{held, Directory, nameless, seen}
-use Rattle.surveys.specs.Survey.{usedMap, freeOf, free}
+use Rattle.surveys.specs.Survey.{counted, usedMap, freeOf, free}
 use Rattle.directory.specs.Find.{find}
 use Rattle.directory.proofs.Ends.{seen-next, unseen-nameless}
 use Rattle.directory.proofs.Live.{directory-dead, directory-unseen}
 use Rattle.disk.specs.Look.{Look, look, slotsOf, extra}
 use Rattle.disk.specs.Check.{checkDisk}
-use Rattle.disk.proofs.Look.{look-none, look-slots}
+use Rattle.disk.proofs.Look.{look-none, look-slots, look-extra}
 use Rattle.disk.proofs.Rows.{carried-is, is-carried}
 use Rattle.files.specs.Calls.{noFile, fileAt, fileNamed}
 use Rattle.files.specs.Asked.{someNamed, slotNamed, startOutside, row20, by-check, by-row}
@@ -38,6 +38,7 @@ use Rattle.plans.specs.Accepted.{Named, Fresh, FreshBut, Unprotected, Al
 use Rattle.plans.proofs.Frame.{disk-sound, entry-live, holds, look-entry}
 use Rattle.plans.proofs.Named.{fresh-find, find-fresh, found-file, found-here}
 use Rattle.plans.proofs.Free.{FreeSlot, free-slot, no-free-slot}
+use Rattle.plans.proofs.Ended.{free-there}
 use Rattle.plans.proofs.Effect.{erased, marked-so, renamed}
 use Rattle.plans.proofs.Refused.{some-free, none-free, refused-exactly, accepted-exactly}
 
@@ -209,11 +210,11 @@ full-not d i f q e = Option·some-ne-none f (sym q ∙ empty-none d i e)
 -- the lowest slot that holds no file is erased, or it is the end
 pub first-empty : (d : List ℕ) (i : ℕ) → FreeSlot (look d) i → FirstEmpty d i
 unfolding nameless
-first-empty d i w = record { below = w .below; empty = by (nameless d i) refl; before = λ k h. let f = w .before k h in full-not d k (f .0) (f .1) }
+first-empty d i w = record { below = free-there d i w; empty = by (nameless d i) refl; before = λ k h. let f = w .before k h in full-not d k (f .0) (f .1) }
   where
     by : (t : Bool) → nameless d i ≡ t → Empty d i
     by true q = inr (eqb-true (getD (slotBytes d i) 1 0) 0 q)
-    by false q = inl (none-erased d i (seen-next d i (w .below) (λ j h. let f = w .before j h in holds d j (f .0) (f .1) .read) q) (w .empty))
+    by false q = inl (none-erased d i (seen-next d i (free-there d i w) (λ j h. let f = w .before j h in holds d j (f .0) (f .1) .read) q) (w .empty))
 
 -- there is one lowest
 pub first-one : (d : List ℕ) (i j : ℕ) → FirstEmpty d i → FirstEmpty d j → i ≡ j
@@ -231,7 +232,7 @@ by-slot d P f g = by (lowestSlot (extra (look d)) (slotsOf (look d))) refl
     by (some i) q = f i q
 
 all-full : (d : List ℕ) → lowestSlot (extra (look d)) (slotsOf (look d)) ≡ none → NoSlot d
-all-full d q i h = let f = no-free-slot (look d) q i h in full-not d i (f .0) (f .1)
+all-full d q i h = let f = no-free-slot (look d) q i (rw (look-extra d) h) in full-not d i (f .0) (f .1)
 
 free-none : (d : List ℕ) → someFree (look d) ≡ false → NoSlot d
 free-none d e = by-slot d (NoSlot d) (λ i q. absurd (true≢false (sym (some-free (look d) i q) ∙ e))) (all-full d)
@@ -264,8 +265,8 @@ free-exactly d = (free-none d, none-is-free d)
 -- ---- a save
 
 pub free-sectors : (d : List ℕ) → free (extra (look d)) (slotsOf (look d)) ≡ freeSectors d
-unfolding extra free freeOf dataCount
-free-sectors d = ap (λ (v : Directory). 1560 - usedMap v .count) (look-slots d)
+unfolding free freeOf usedMap counted
+free-sectors d = ap₂ (λ (n : ℕ) (v : Directory). dataCount n - usedMap n v .count) (look-extra d) (look-slots d)
 
 -- a row that does not hold is not the first
 pub peel : {A B : Type 0} {t : Bool} → t ≡ false → ((t ≡ true) × A) ⊎ ((t ≡ false) × B) → B

@@ -15,13 +15,15 @@ use Rattle.geometry.specs.Disk.{imageSize, bitNumber, bitPlace}
 use Rattle.geometry.proofs.Laws.{place-inside, number-injective}
 use Rattle.maps.specs.Bits.{has}
 use Rattle.slots.specs.Slot.{isLive, isNameless, mapOf}
+use Rattle.slots.specs.Tracks.{isLabel, dataBit}
 use Rattle.chains.specs.File.{File, sectorAt, sectorsOf, fileOf}
 use Rattle.chains.proofs.Laws.{map-small, sectors-own, file-agree}
 use Rattle.directory.specs.Places.{slots, slotAt, slotBytes, dirSector}
-use Rattle.directory.specs.Directory.{held, nameless, seen, directory}
-use Rattle.directory.proofs.Places.{slots-count, slot-front, slot-sector, slots-apart, data-all, dir-not-data, slot-data-apart}
+use Rattle.directory.specs.Directory.{held, labelOf, tracksOf, slotsIn, nameless, seen, directory}
+use Rattle.directory.proofs.Places.{slot-first, slot-within, slot-sector, slots-apart, dir-not-data, slot-data-apart}
+use Rattle.directory.proofs.Label.{tracks-few, slots-few, label-agree, tracks-agree}
 use Rattle.directory.proofs.Ends.{seen-is, seen-lower, seen-next, seen-agree, nameless-agree, unseen-later, unseen-past, unseen-nameless}
-use Rattle.directory.proofs.Live.{directory-some, directory-live, directory-dead, directory-unseen, directory-past}
+use Rattle.directory.proofs.Live.{directory-some, directory-live, directory-dead, directory-unseen}
 use Rattle.disk.specs.Look.{Look, look, slotsOf, extra}
 use Rattle.disk.specs.Check.{checkDisk}
 use Rattle.disk.specs.Sound.{Sound}
@@ -73,8 +75,12 @@ module _ (l : Look) (i : ℕ) (o : Option File) where
   unfolding upd
   upd-long = refl
 
+  pub upd-label : upd l i o .label ≡ l .label
+  unfolding upd
+  upd-label = refl
+
   pub extra-upd : extra (upd l i o) ≡ extra l
-  unfolding extra
+  unfolding extra upd
   extra-upd = refl
 
   pub slots-same : slotsOf (upd l i o) i ≡ held none (λ f. some (f .bytes)) o
@@ -140,7 +146,7 @@ module _ (d : List ℕ) (i : ℕ) (f : File) (e : look d .files i ≡ some f) wh
           }
 
   pub holds-long : length d ≡ imageSize → length (f .bytes) ≡ 256
-  holds-long z = ap length (sym (holds .bytes)) ∙ part-long (slotAt i) 256 d (omega (arith, slot-front i (holds .here)))
+  holds-long z = ap length (sym (holds .bytes)) ∙ part-long (slotAt i) 256 d (omega (arith, slot-within i (holds .here)))
 
   pub holds-sector : (b : ℕ) → has (mapOf (f .bytes)) b ≡ true → sectorAt d b ≡ f .sectors b
   holds-sector b m = sym (sectors-own d (f .bytes) b m) ∙ ap (λ (s : ℕ → List ℕ). s b) (holds .sectors)
@@ -172,22 +178,37 @@ slot-half d i = part-part (dirSector i * 512) 512 (256 * (i % 2)) 256 d (omega a
 -- none does, it is read, or the next slot, if there is one, has no name either.
 pub record Reach (d : List ℕ) (old : Bool) (i : ℕ) : Type 0 where
   pub before : (j : ℕ) → j < i → seen d j ≡ true
-  pub next : old ≡ false → (seen d i ≡ true) ⊎ (suc i < slots → nameless d (suc i) ≡ true)
-  pub end : old ≡ true → (nameless d i ≡ true) × (suc i < slots)
+  pub next : old ≡ false → (seen d i ≡ true) ⊎ (suc i < slotsIn d → nameless d (suc i) ≡ true)
+  pub end : old ≡ true → (nameless d i ≡ true) × (suc i < slotsIn d)
 
 pub reach-read : (d : List ℕ) (i : ℕ) → seen d i ≡ true → Reach d false i
 reach-read d i e = record { before = λ j h. seen-lower d i j (omega arith) e; next = λ q. inl e; end = λ q. absurd (false≢true q) }
 
+-- slot 1 is there on every disk
+pub first-slot : (d : List ℕ) → 0 < slotsIn d
+first-slot d = slot-first (tracksOf d) 0 (omega arith)
+
 -- by the bytes of the slots alone
-pub reach-agree : (d e : List ℕ) → ((j : ℕ) → j < slots → slotBytes e j ≡ slotBytes d j) → (old : Bool) (i : ℕ) → i < slots → Reach d old i → Reach e old i
+pub reach-agree : (d e : List ℕ) → ((j : ℕ) → j < slotsIn d → slotBytes e j ≡ slotBytes d j) → (old : Bool) (i : ℕ) → i < slotsIn d → Reach d old i → Reach e old i
 reach-agree d e s old i h r = record {
   before = λ j l. same-seen j (omega arith) ∙ r .before j l;
-  next = λ q. ⊎-elim (λ w. inl (same-seen i h ∙ w)) (λ w. inr (λ l. nameless-agree d e (suc i) (s (suc i) l) ∙ w l)) (r .next q);
-  end = λ q. let w = r .end q in (nameless-agree d e i (s i h) ∙ w .0, w .1);
+  next = λ q. ⊎-elim (λ w. inl (same-seen i h ∙ w)) (λ w. inr (λ l. let m = rw tracks-same at l in nameless-agree d e (suc i) (s (suc i) m) ∙ w m)) (r .next q);
+  end = λ q. let w = r .end q in (nameless-agree d e i (s i h) ∙ w .0, rw tracks-same (w .1));
 }
   where
-    same-seen : (j : ℕ) → j < slots → seen e j ≡ seen d j
-    same-seen j l = seen-agree d e j (λ k m. nameless-agree d e k (s k (omega arith)))
+    tracks-same : tracksOf e ≡ tracksOf d
+    tracks-same = tracks-agree d e (label-agree d e (s 0 (first-slot d)))
+
+    same-seen : (j : ℕ) → j < slotsIn d → seen e j ≡ seen d j
+    same-seen j l = seen-agree d e j tracks-same (λ k m. nameless-agree d e k (s k (omega arith)))
+
+-- no live file's map has a bit inside the directory
+abbrev pub AllData : List ℕ → Type 0
+AllData d = (j : ℕ) (s : List ℕ) → directory d j ≡ some s → (b : ℕ) → has (mapOf s) b ≡ true → dataBit (tracksOf d) b ≡ true
+
+-- x has, where it comes to slot 1, the disk's own bytes as they stand
+abbrev pub Keeps : List ℕ → ℕ → List ℕ → Type 0
+Keeps d i x = (k : ℕ) → isLabel k ≡ true → i ≡ 0 → getD x k 0 ≡ getD (slotBytes d i) k 0
 
 -- ---- bytes put inside one slot
 
@@ -202,19 +223,22 @@ part-put-inside d a n o y h k =
     (λ t p. part-at a n (put d (a + o) y) t (omega arith) ∙ put-before d (a + o) y (a + t) (omega arith) ∙ sym (part-at a n d t (omega arith)))
     (λ t p q. part-at a n (put d (a + o) y) t (omega arith) ∙ put-after d (a + o) y (a + t) (omega arith) ∙ sym (part-at a n d t (omega arith)))
 
-module _ (d : List ℕ) (z : length d ≡ imageSize) (i : ℕ) (h : i < slots) (o : ℕ) (y : List ℕ) (k : o + length y ≤ 256) where
+module _ (d : List ℕ) (z : length d ≡ imageSize) (i : ℕ) (h : i < slotsIn d) (o : ℕ) (y : List ℕ) (k : o + length y ≤ 256) where
   abbrev new : List ℕ
   new = put d (slotAt i + o) y
+
+  small : i < slots
+  small = omega (arith, slots-few d)
 
   -- as a step's bytes in the slot's sector
   pub inside-slot : Inside (dirSector i) (record { place = slotAt i + o; bytes = y })
   inside-slot = record { low = omega (arith, slot-sector i); high = omega (arith, slot-sector i) }
 
   pub there-slot : dirSector i * 512 + 512 ≤ length d
-  there-slot = omega (arith, slot-sector i, slot-front i h)
+  there-slot = omega (arith, slot-sector i, slot-within i small)
 
   pub slot-new : slotBytes (put d (slotAt i + o) y) i ≡ put (slotBytes d i) o y
-  slot-new = part-put-inside d (slotAt i) 256 o y (omega (arith, slot-front i h)) k
+  slot-new = part-put-inside d (slotAt i) 256 o y (omega (arith, slot-within i small)) k
 
   pub slot-else : (j : ℕ) → (j ≡ i → ⊥) → slotBytes (put d (slotAt i + o) y) j ≡ slotBytes d j
   slot-else j n =
@@ -222,55 +246,82 @@ module _ (d : List ℕ) (z : length d ≡ imageSize) (i : ℕ) (h : i < slots) (
       (λ (l : i ≤ j). part-put-after d (slotAt i + o) y (slotAt j) 256 (omega (arith, slots-apart i j (omega arith))))
       (below-or-not j i)
 
-  pub data-stays : (b : ℕ) → b < 1560 → sectorAt (put d (slotAt i + o) y) b ≡ sectorAt d b
+  pub data-stays : (b : ℕ) → dataBit (tracksOf d) b ≡ true → sectorAt (put d (slotAt i + o) y) b ≡ sectorAt d b
   data-stays b l =
       put-other (dirSector i) (record { place = slotAt i + o; bytes = y }) d inside-slot (bitNumber b)
-      (dir-not-data 0 b i (omega arith) (data-all b l) (omega (arith, slots-count)))
+      (dir-not-data (tracksOf d) b i (tracks-few d) l h)
 
-  pub files-stay : (s : List ℕ) → fileOf (put d (slotAt i + o) y) s ≡ fileOf d s
-  files-stay s = file-agree new d s (λ b m. data-stays b (map-small s b m))
+  pub files-stay : (s : List ℕ) → ((b : ℕ) → has (mapOf s) b ≡ true → dataBit (tracksOf d) b ≡ true) → fileOf (put d (slotAt i + o) y) s ≡ fileOf d s
+  files-stay s m = file-agree new d s (λ b q. data-stays b (m b q))
 
   nameless-else : (j : ℕ) → (j ≡ i → ⊥) → nameless new j ≡ nameless d j
   nameless-else j n = nameless-agree d new j (slot-else j n)
 
   -- behind a slot without a name nothing is seen to change
-  pub slot-quiet : (e : ℕ) → e < i → nameless d e ≡ true → look (put d (slotAt i + o) y) ≡ look d
-  slot-quiet e l n = look-agree new d (length-put d (slotAt i + o) y) (fun-ext same) (λ j s q b m. data-stays b (map-small s b m))
+  pub slot-quiet : AllData d → (e : ℕ) → e < i → nameless d e ≡ true → look (put d (slotAt i + o) y) ≡ look d
+  slot-quiet all e l n =
+      look-agree new d (length-put d (slotAt i + o) y) same-label (fun-ext same) (λ j s q b m. data-stays b (all j s (sym (same j) ∙ q) b m))
     where
+      same-label : labelOf new ≡ labelOf d
+      same-label = label-agree d new (slot-else 0 (omega arith))
+
       rest : (x : List ℕ) → nameless x e ≡ true → (j : ℕ) → e ≤ j → directory x j ≡ none
       rest x q j k = directory-unseen x j (unseen-later x e j k (unseen-nameless x e q))
 
       same : (j : ℕ) → directory new j ≡ directory d j
       same j =
           ⊎-elim
-          (λ (k : j < e). directory-stays d new j (seen-agree d new j (λ t h. nameless-else t (omega arith))) (slot-else j (omega arith)))
+          (λ (k : j < e).
+          directory-stays d new j (seen-agree d new j (tracks-agree d new same-label) (λ t h. nameless-else t (omega arith))) (slot-else j (omega arith)))
           (λ (k : e ≤ j). rest new (nameless-else e (omega arith) ∙ n) j k ∙ sym (rest d n j k)) (below-or-not j e)
 
+  -- where slot 1 keeps the disk's bytes the label stays
+  module _ (kept : Keeps d i (put (slotBytes d i) o y)) where
+    pub label-new : labelOf (put d (slotAt i + o) y) ≡ labelOf d
+    unfolding labelOf
+    label-new = by (eqb i 0) refl
+      where
+        here : i ≡ 0 → (j : ℕ) (t : Bool) → isLabel j ≡ t → cond t (getD (slotBytes new 0) j 0) 0 ≡ cond t (getD (slotBytes d 0) j 0) 0
+        here z j true e =
+            ap (λ (m : ℕ). getD (slotBytes new m) j 0) (sym z) ∙ ap (λ (s : List ℕ). getD s j 0) slot-new ∙ kept j e z
+            ∙ ap (λ (m : ℕ). getD (slotBytes d m) j 0) z
+        here z j false e = refl
+
+        by : (t : Bool) → eqb i 0 ≡ t → labelOf new ≡ labelOf d
+        by false q = label-agree d new (slot-else 0 (λ z. eqb-false i 0 q (sym z)))
+        by true q = fun-ext (λ j. here (eqb-true i 0 q) j (isLabel j) refl)
+
+    pub tracks-new : tracksOf (put d (slotAt i + o) y) ≡ tracksOf d
+    tracks-new = tracks-agree d new label-new
+
   -- with a name, slot i is read then, and of the others those that were
-  module _ (r : Reach d false i) (n : isNameless (put (slotBytes d i) o y) ≡ false) where
+  module _ (r : Reach d false i) (n : isNameless (put (slotBytes d i) o y) ≡ false) (kept : Keeps d i (put (slotBytes d i) o y)) where
+    same-tracks : tracksOf new ≡ tracksOf d
+    same-tracks = tracks-new kept
+
     named-new : nameless new i ≡ false
     unfolding nameless
     named-new = ap isNameless slot-new ∙ n
 
     seen-before : (j : ℕ) → j < i → seen new j ≡ seen d j
-    seen-before j l = seen-agree d new j (λ k m. nameless-else k (omega arith))
+    seen-before j l = seen-agree d new j same-tracks (λ k m. nameless-else k (omega arith))
 
     pub seen-here : seen (put d (slotAt i + o) y) i ≡ true
-    seen-here = seen-next new i h (λ j l. seen-before j l ∙ r .before j l) named-new
+    seen-here = seen-next new i (rw same-tracks h) (λ j l. seen-before j l ∙ r .before j l) named-new
 
     -- behind an end with no old name
-    unseen-behind : (e : List ℕ) → (suc i < slots → nameless e (suc i) ≡ true) → (j : ℕ) → i < j → seen e j ≡ false
+    unseen-behind : (e : List ℕ) → (suc i < slotsIn e → nameless e (suc i) ≡ true) → (j : ℕ) → i < j → seen e j ≡ false
     unseen-behind e q j l =
-        ⊎-elim (λ (m : suc i < slots). unseen-later e (suc i) j l (unseen-nameless e (suc i) (q m)))
-        (λ (m : slots ≤ suc i). unseen-past e j (omega arith))
-        (below-or-not (suc i) slots)
+        ⊎-elim (λ m. unseen-later e (suc i) j l (unseen-nameless e (suc i) (q m)))
+        (λ (m : slotsIn e ≤ suc i). unseen-past e j (omega arith))
+        (below-or-not (suc i) (slotsIn e))
 
     pub seen-else : (j : ℕ) → (j ≡ i → ⊥) → seen (put d (slotAt i + o) y) j ≡ seen d j
     seen-else j u =
         ⊎-elim (seen-before j)
         (λ (l : i ≤ j).
-        ⊎-elim (λ s. seen-agree d new j (λ k m. by k s (eqb k i) refl))
-        (λ q. unseen-behind new (λ m. nameless-else (suc i) (omega arith) ∙ q m) j (omega arith) ∙ sym (unseen-behind d q j (omega arith)))
+        ⊎-elim (λ s. seen-agree d new j same-tracks (λ k m. by k s (eqb k i) refl))
+        (λ q. unseen-behind new (λ m. nameless-else (suc i) (omega arith) ∙ q (rw same-tracks at m)) j (omega arith) ∙ sym (unseen-behind d q j (omega arith)))
         (r .next refl))
         (below-or-not j i)
       where
@@ -279,21 +330,28 @@ module _ (d : List ℕ) (z : length d ≡ imageSize) (i : ℕ) (h : i < slots) (
         by k s false e = nameless-else k (eqb-false k i e)
 
     -- the look changes in that slot alone: it then holds what its new bytes say
-    pub slot-look : (x : List ℕ) (sec : ℕ → List ℕ) → put (slotBytes d i) o y ≡ x → sectorsOf d x ≡ sec
+    pub slot-look : AllData d → (x : List ℕ) (sec : ℕ → List ℕ) → put (slotBytes d i) o y ≡ x → sectorsOf d x ≡ sec
+        → (isLive x ≡ true → (b : ℕ) → has (mapOf x) b ≡ true → dataBit (tracksOf d) b ≡ true)
         → look (put d (slotAt i + o) y) ≡ upd (look d) i (entryOf x sec)
     unfolding look upd fileOf
-    slot-look x sec ex es = λ q. record { long = length-put d (slotAt i + o) y q; files = λ j. by j (eqb j i) refl q }
+    slot-look all x sec ex es dx = λ q. record { long = length-put d (slotAt i + o) y q; label = label-new kept q; files = λ j. by j (eqb j i) refl q }
       where
+        held-by : (t : Bool) → isLive x ≡ t → entryOf x (sectorsOf new x) ≡ entryOf x sec
+        held-by true e = ap (entryOf x) (ap (λ (f : File). f .sectors) (files-stay x (dx e)) ∙ es)
+        held-by false e = entry-dead x (sectorsOf new x) e ∙ sym (entry-dead x sec e)
+
         here : look new .files i ≡ entryOf x sec
-        here =
-            look-entry new i seen-here
-            ∙ ap₂ entryOf (slot-new ∙ ex) (ap (λ (f : File). f .sectors) (files-stay (slotBytes new i)) ∙ ap (sectorsOf d) (slot-new ∙ ex) ∙ es)
+        here = look-entry new i seen-here ∙ ap (λ (s : List ℕ). entryOf s (sectorsOf new s)) (slot-new ∙ ex) ∙ held-by (isLive x) refl
+
+        there : (j : ℕ) (v : Option (List ℕ)) → directory d j ≡ v → held none (λ s. some (fileOf new s)) v ≡ held none (λ s. some (fileOf d s)) v
+        there j none e = refl
+        there j (some s) e = ap {B = Option File} some (files-stay s (all j s e))
 
         by : (j : ℕ) (t : Bool) → eqb j i ≡ t → look new .files j ≡ cond t (entryOf x sec) (look d .files j)
         by j true q = ap (look new .files) (eqb-true j i q) ∙ here
         by j false q =
-            ap₂ (λ (f : List ℕ → File) (v : Option (List ℕ)). held none (λ s. some (f s)) v) (fun-ext files-stay)
-            (directory-stays d new j (seen-else j (eqb-false j i q)) (slot-else j (eqb-false j i q)))
+            ap (held none (λ s. some (fileOf new s))) (directory-stays d new j (seen-else j (eqb-false j i q)) (slot-else j (eqb-false j i q)))
+            ∙ there j (directory d j) refl
 
 -- ---- a data sector put
 
@@ -318,24 +376,32 @@ module _ (d : List ℕ) (z : length d ≡ imageSize) (c : ℕ) (hc : c < 1560) (
   pub sector-else : (b : ℕ) → b < 1560 → (b ≡ c → ⊥) → sectorAt (put d (bitPlace c) x) b ≡ sectorAt d b
   sector-else b hb n = number-else (bitNumber b) (λ q. n (number-injective b c hb hc q))
 
-  pub slots-stay : (i : ℕ) → i < slots → slotBytes (put d (bitPlace c) x) i ≡ slotBytes d i
-  slots-stay i h =
-      ⊎-elim (λ l. part-put-before d (bitPlace c) x (slotAt i) 256 l)
-      (λ (l : bitPlace c + 512 ≤ slotAt i). part-put-after d (bitPlace c) x (slotAt i) 256 (omega arith))
-      (slot-data-apart 0 c i (omega arith) (data-all c hc) (omega (arith, slots-count)))
+  module _ (dc : dataBit (tracksOf d) c ≡ true) where
+    pub slots-stay : (i : ℕ) → i < slotsIn d → slotBytes (put d (bitPlace c) x) i ≡ slotBytes d i
+    slots-stay i h =
+        ⊎-elim (λ l. part-put-before d (bitPlace c) x (slotAt i) 256 l)
+        (λ (l : bitPlace c + 512 ≤ slotAt i). part-put-after d (bitPlace c) x (slotAt i) 256 (omega arith))
+        (slot-data-apart (tracksOf d) c i (tracks-few d) dc h)
 
-  -- the look stays where the sector is no live file's
-  pub data-quiet : ((j : ℕ) (g : File) → look d .files j ≡ some g → has (mapOf (g .bytes)) c ≡ true → ⊥) → look (put d (bitPlace c) x) ≡ look d
-  unfolding fileOf
-  data-quiet free =
-      look-agree after d (length-put d (bitPlace c) x) (fun-ext same)
-      (λ i s q b m.
-      sector-else b (map-small s b m)
-      (λ w. free i (fileOf d s) (look-some d i s (sym (same i) ∙ q)) (ap (has (mapOf s)) (sym w) ∙ m)))
-    where
-      same : (i : ℕ) → directory after i ≡ directory d i
-      same i =
-          ⊎-elim
-          (λ (h : i < slots).
-          directory-stays d after i (seen-agree d after i (λ j k. nameless-agree d after j (slots-stay j (omega arith)))) (slots-stay i h))
-          (λ h. directory-past after i h ∙ sym (directory-past d i h)) (below-or-not i slots)
+    pub label-stays : labelOf (put d (bitPlace c) x) ≡ labelOf d
+    label-stays = label-agree d after (slots-stay 0 (first-slot d))
+
+    pub tracks-stay : tracksOf (put d (bitPlace c) x) ≡ tracksOf d
+    tracks-stay = tracks-agree d after label-stays
+
+    -- the look stays where the sector is no live file's
+    pub data-quiet : ((j : ℕ) (g : File) → look d .files j ≡ some g → has (mapOf (g .bytes)) c ≡ true → ⊥) → look (put d (bitPlace c) x) ≡ look d
+    unfolding fileOf
+    data-quiet free =
+        look-agree after d (length-put d (bitPlace c) x) label-stays (fun-ext same)
+        (λ i s q b m.
+        sector-else b (map-small s b m)
+        (λ w. free i (fileOf d s) (look-some d i s (sym (same i) ∙ q)) (ap (has (mapOf s)) (sym w) ∙ m)))
+      where
+        same : (i : ℕ) → directory after i ≡ directory d i
+        same i =
+            ⊎-elim
+            (λ (h : i < slotsIn d).
+            directory-stays d after i (seen-agree d after i tracks-stay (λ j k. nameless-agree d after j (slots-stay j (omega arith)))) (slots-stay i h))
+            (λ h. directory-unseen after i (unseen-past after i (rw tracks-stay h)) ∙ sym (directory-unseen d i (unseen-past d i h)))
+            (below-or-not i (slotsIn d))

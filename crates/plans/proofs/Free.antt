@@ -1,29 +1,31 @@
 -- What a save takes: the lowest free bits, as many as the body needs, and the lowest slot that holds no file.
 use Prim.Native.Nat.{ℕ, zero, suc, _+_, _-_, _*_, _≤_, _<_}
 use mathlib.Core.Path.{_≡_, refl, sym, ap, ap₂, _∙_, subst}
-use mathlib.Core.Bool.{Bool, true, false, cond, not, _||_, true≢false, false≢true, and-eq-true-iff}
+use mathlib.Core.Bool.{Bool, true, false, cond, not, _&&_, _||_, true≢false, false≢true, and-eq-true-iff}
 use mathlib.Core.List.{List, [], _∷_}
 use mathlib.Core.Logic.{⊎-elim}
 use mathlib.Core.Option.{Option, none, some, Option·some-ne-none}
 use native.Mathlib.Nat.{eq-or-lt-of-le, le-of-suc-le-suc, not-suc-le-zero, add-zero, zero-add}
 use native.Mathlib.Omega.{arith}
-use borrow.Author.Tests.{ltb-true, eqb-true, eq-eqb, ne-eqb, not-true}
-use lib.Dec.{leb, ltb, eqb}
+use borrow.Author.Tests.{eqb-true, eq-eqb, ne-eqb, not-true}
+use lib.Dec.{eqb}
 use lib.ListN.{length, getD, take}
 use lib.Seq.{length-take-le}
 use Rattle.buffers.specs.Bytes.{count, any}
-use Rattle.buffers.proofs.Counts.{count-add, count-cong, any-none}
+use Rattle.buffers.proofs.Counts.{count-add, count-cong, count-less, any-none, some-any}
 use Rattle.refusals.proofs.First.{sweep-none, sweep-first}
 use Rattle.maps.specs.Bits.{has, bitsOf}
 use Rattle.slots.specs.Slot.{mapOf, sectorsFor}
-use Rattle.slots.specs.Rows.{dataCount}
+use Rattle.slots.specs.Tracks.{dataBit}
+use Rattle.slots.proofs.Tracks.{tracks-few, data-is, count-data}
 use Rattle.chains.specs.File.{File}
-use Rattle.directory.specs.Places.{slotCount, slots, dataBit}
+use Rattle.directory.specs.Places.{slotCount, slots}
 use Rattle.directory.specs.Directory.{held, Directory}
 use Rattle.surveys.specs.Survey.{union, counted, usedMap, freeOf, free}
-use Rattle.directory.proofs.Places.{slots-count, data-all}
+use Rattle.directory.proofs.Places.{slot-few}
 use Rattle.surveys.proofs.Union.{has-union}
 use Rattle.disk.specs.Look.{Look, slotsOf, extra}
+use Rattle.disk.specs.Sound.{Sound}
 use Rattle.steps.specs.Sectors.{listed}
 use Rattle.steps.proofs.Sectors.{listed-tail}
 use Rattle.plans.specs.Change.{Wish}
@@ -42,16 +44,6 @@ pub record From (p : ℕ → Bool) (l b : ℕ) : Type 0 where
 abbrev pub Run : (ℕ → Bool) → ℕ → List ℕ → Type 0
 Run p l [] = Unit {0}
 Run p l (b ∷ bs) = From p l b × Run p (suc b) bs
-
--- of n numbers, those that do not pass and those that do
-count-not : (n : ℕ) (p : ℕ → Bool) → count n (λ k. not (p k)) + count n p ≡ n
-unfolding count
-count-not zero p = refl
-count-not (suc n) p = omega (arith, count-not n p, either (p n))
-  where
-    either : (t : Bool) → cond {A = ℕ} (not t) 1 0 + cond t 1 0 ≡ 1
-    either true = refl
-    either false = refl
 
 module _ (p : ℕ → Bool) where
   from-lower : (k l b : ℕ) → k ≤ l → From p l b → From p k b
@@ -144,27 +136,45 @@ module _ (p : ℕ → Bool) where
 
 -- ---- the free bits
 
-module _ (l : Look) where
-  abbrev freeIn : ℕ → Bool
-  freeIn = freeBit (extra l) (slotsOf l)
+-- a free bit is a data sector's
+pub free-data : (n : ℕ) (v : Directory) (b : ℕ) → freeBit n v b ≡ true → dataBit n b ≡ true
+free-data n v b e = and-eq-true-iff (dataBit n b) (not (has (union v slots) b)) .0 e .0
 
-  pub free-long : length (passing 1560 0 freeIn) ≡ free (extra l) (slotsOf l)
-  unfolding extra free freeOf usedMap counted dataCount bitsOf
-  free-long = passing-long freeIn 1560 0 ∙ omega (arith, count-not 1560 (has (union (slotsOf l) slots)), same)
-    where
-      same : count 1560 (λ j. freeIn (0 + j)) ≡ count 1560 (λ b. not (has (union (slotsOf l) slots) b))
-      same = count-cong 1560 (λ j. freeIn (0 + j)) (λ b. not (has (union (slotsOf l) slots) b)) (λ b h. rw (zero-add, data-all b h))
-
--- a free bit is in no live slot's map
+-- and in no live slot's map
 pub free-is : (n : ℕ) (v : Directory) (b : ℕ) → freeBit n v b ≡ true → (i : ℕ) (s : List ℕ) → i < slots → v i ≡ some s → has (mapOf s) b ≡ true → ⊥
-unfolding dataBit
 free-is n v b e i s h q m =
     let t = and-eq-true-iff (dataBit n b) (not (has (union v slots) b)) .0 e in
-    let k : b < 1560 = ltb-true b 1560 (and-eq-true-iff (leb (10 * n) b) (ltb b 1560) .0 (t .0) .1) in
+    let k : b < 1560 = data-is n b (t .0) .0 in
     let u : any slots (λ j. held false (λ x. has (mapOf x) b) (v j)) ≡ false = sym (has-union v slots b k) ∙ not-true (has (union v slots) b) (t .1) in
     true≢false (sym (rw (q, m)) ∙ any-none slots (λ j. held false (λ x. has (mapOf x) b) (v j)) u i h)
 
--- ---- how many
+pub extra-few : (l : Look) → extra l ≤ 35
+unfolding extra
+extra-few l = tracks-few (l .label 255)
+
+module _ (l : Look) (ok : Sound l) where
+  abbrev freeIn : ℕ → Bool
+  freeIn = freeBit (extra l) (slotsOf l)
+
+  -- a used bit is no directory sector's
+  pub used-data : (b : ℕ) → b < 1560 → has (union (slotsOf l) slots) b ≡ true → dataBit (extra l) b ≡ true
+  used-data b h e =
+      let j = some-any slots (λ i. held false (λ s. has (mapOf s) b) (slotsOf l i)) (sym (has-union (slotsOf l) slots b h) ∙ e) in
+      by (j .0) (j .1) (slotsOf l (j .0)) refl (j .2)
+    where
+      by : (i : ℕ) → i < slots → (o : Option (List ℕ)) → slotsOf l i ≡ o → held false (λ s. has (mapOf s) b) o ≡ true → dataBit (extra l) b ≡ true
+      by i k none q m = absurd (false≢true m)
+      by i k (some s) q m = let f = slot-file l i s q in ok .good i (f .0) k (f .1) .data-bits b (ap (λ (s : List ℕ). has (mapOf s) b) (f .2) ∙ m)
+
+  -- as many bits are free as are told
+  pub free-long : length (passing 1560 0 freeIn) ≡ free (extra l) (slotsOf l)
+  unfolding free freeOf usedMap counted bitsOf
+  free-long =
+      passing-long freeIn 1560 0
+      ∙ omega (arith, same, count-less 1560 (dataBit (extra l)) (has (union (slotsOf l) slots)) used-data, count-data (extra l) (extra-few l))
+    where
+      same : count 1560 (λ j. freeIn (0 + j)) ≡ count 1560 (λ b. dataBit (extra l) b && not (has (union (slotsOf l) slots) b))
+      same = count-cong 1560 (λ j. freeIn (0 + j)) freeIn (λ b h. rw zero-add)
 
 -- ---- what is taken
 
@@ -178,10 +188,10 @@ module _ (n : ℕ) (v : Directory) (w : Wish) where
   unfolding taken
   taken-lowest b c e h q = passing-lowest (freeBit n v) 1560 0 (sectorsFor (length (w .body))) b c e (omega arith) h q
 
-pub taken-long : (l : Look) (w : Wish) → sectorsFor (length (w .body)) ≤ free (extra l) (slotsOf l)
+pub taken-long : (l : Look) → Sound l → (w : Wish) → sectorsFor (length (w .body)) ≤ free (extra l) (slotsOf l)
     → length (taken (extra l) (slotsOf l) w) ≡ sectorsFor (length (w .body))
 unfolding taken
-taken-long l w h = length-take-le (sectorsFor (length (w .body))) (passing 1560 0 (freeBit (extra l) (slotsOf l))) (omega (arith, free-long l))
+taken-long l ok w h = length-take-le (sectorsFor (length (w .body))) (passing 1560 0 (freeBit (extra l) (slotsOf l))) (omega (arith, free-long l ok))
 
 -- ---- the slot
 
@@ -222,20 +232,21 @@ module _ (n : ℕ) (v : Directory) where
 
 -- the same of the files of a look
 pub record FreeSlot (l : Look) (i : ℕ) : Type 0 where
-  pub below : i < slots
+  pub below : i < slotCount (extra l)
   pub empty : l .files i ≡ none
   pub before : (k : ℕ) → k < i → (f : File) × (l .files k ≡ some f)
+
+pub free-small : (l : Look) (i : ℕ) → FreeSlot l i → i < slots
+free-small l i w = slot-few (extra l) i (extra-few l) (w .below) .0
 
 module _ (l : Look) where
   some-file : (k : ℕ) → ((s : List ℕ) × (slotsOf l k ≡ some s)) → (f : File) × (l .files k ≡ some f)
   some-file k p = let g = slot-file l k (p .0) (p .1) in (g .0, g .1)
 
   pub free-slot : (i : ℕ) → lowestSlot (extra l) (slotsOf l) ≡ some i → FreeSlot l i
-  unfolding extra
   free-slot i e =
       let w = lowest-slot (extra l) (slotsOf l) i e in
-      record { below = rw slots-count (w .below); empty = slot-none l i (w .empty); before = λ k h. some-file k (w .before k h) }
+      record { below = w .below; empty = slot-none l i (w .empty); before = λ k h. some-file k (w .before k h) }
 
-  pub no-free-slot : lowestSlot (extra l) (slotsOf l) ≡ none → (k : ℕ) → k < slots → (f : File) × (l .files k ≡ some f)
-  unfolding extra
-  no-free-slot e k h = some-file k (no-slot (extra l) (slotsOf l) e k (rw slots-count at h))
+  pub no-free-slot : lowestSlot (extra l) (slotsOf l) ≡ none → (k : ℕ) → k < slotCount (extra l) → (f : File) × (l .files k ≡ some f)
+  no-free-slot e k h = some-file k (no-slot (extra l) (slotsOf l) e k h)

@@ -16,16 +16,21 @@ use Rattle.maps.specs.Bits.{has}
 use Rattle.slots.specs.Slot.{isLive, isNameless, kindOf, nameOf, countOf, mapOf, facts}
 use Rattle.names.specs.Name.{Same, askable, padded}
 use Rattle.names.proofs.Names.{same-sym, same-to, length-padded}
-use Rattle.chains.specs.File.{File, sectorAt, sectorsOf}
+use Rattle.slots.proofs.Tracks.{label-high}
+use Rattle.chains.specs.File.{File, sectorAt, sectorsOf, fileOf}
 use Rattle.directory.specs.Places.{slots, slotBytes}
+use Rattle.directory.specs.Directory.{tracksOf, slotsIn}
+use Rattle.directory.proofs.Label.{slots-few}
+use Rattle.directory.proofs.Ends.{seen-is}
+use Rattle.directory.proofs.Live.{directory-some}
 use Rattle.disk.specs.Look.{Look, look, extra}
 use Rattle.disk.specs.Sound.{GoodFile, Sound}
-use Rattle.disk.proofs.Look.{look-long}
+use Rattle.disk.proofs.Look.{look-long, look-extra, look-some}
 use Rattle.steps.specs.Steps.{Step, putAll, Does}
 use Rattle.plans.specs.Change.{Mark, hide, show, protect, release, marked, allBetween, usable}
 use Rattle.plans.specs.Plan.{upd, entryOf, slotStep}
 use Rattle.plans.specs.Accepted.{FreshBut}
-use Rattle.plans.proofs.Frame.{upd-same, upd-other, upd-long, extra-upd, entry-alive, entry-is, Holds, holds, holds-long, holds-named, Reach, reach-read, inside-slot, there-slot, slot-look}
+use Rattle.plans.proofs.Frame.{upd-same, upd-other, upd-long, upd-label, extra-upd, entry-alive, entry-is, Holds, holds, holds-long, holds-named, Reach, reach-read, inside-slot, there-slot, slot-look, AllData, Keeps}
 
 -- ---- files apart
 
@@ -60,6 +65,7 @@ pub sound-upd : (l : Look) → Sound l → (i : ℕ) → i < slots → (o : Opti
     → Sound (upd l i o)
 sound-upd l w i h o good apart = record {
   long = upd-long l i o ∙ w .long;
+  tracks = rw (upd-label l i o) (w .tracks);
   good = λ j f k e. rw (extra-upd l i o) (⊎-elim (λ s. good f (here j f s e)) (λ n. w .good j f k (there j f n e)) (same-or-not j i));
   sectors = λ j k f g m t p q. both j k f g m t p q .sectors;
   names = λ j k f g m t p q. both j k f g m t p q .names;
@@ -82,19 +88,30 @@ sound-upd l w i h o good apart = record {
 pub sound-long : (d : List ℕ) → Sound (look d) → length d ≡ imageSize
 sound-long d w = sym (look-long d) ∙ w .long
 
+-- disks with one look have as many tracks
+pub tracks-look : (d e : List ℕ) → look d ≡ look e → tracksOf d ≡ tracksOf e
+tracks-look d e q = sym (look-extra d) ∙ ap extra q ∙ look-extra e
+
+-- no file of a sound disk has a bit inside the directory
+pub sound-data : (d : List ℕ) → Sound (look d) → AllData d
+unfolding fileOf
+sound-data d w j s e b m =
+    rw (← look-extra d) (w .good j (fileOf d s) (directory-some d j s e .0) (look-some d j s e) .data-bits b m)
+
 -- bytes put inside a slot that can be written do what their step says, where the slot then has a name, and the file that it holds,
 -- if any, is good and apart from the others
-pub slot-does : (d : List ℕ) → Sound (look d) → (i : ℕ) → i < slots → (o : ℕ) (y : List ℕ) → o + length y ≤ 256 → (x : List ℕ) (sec : ℕ → List ℕ)
-    → put (slotBytes d i) o y ≡ x → sectorsOf d x ≡ sec → Reach d false i → isNameless x ≡ false
+pub slot-does : (d : List ℕ) → Sound (look d) → (i : ℕ) → i < slotsIn d → (o : ℕ) (y : List ℕ) → o + length y ≤ 256 → (x : List ℕ) (sec : ℕ → List ℕ)
+    → put (slotBytes d i) o y ≡ x → sectorsOf d x ≡ sec → Reach d false i → isNameless x ≡ false → Keeps d i x
     → (isLive x ≡ true → GoodFile (extra (look d)) (record { bytes = x; sectors = sec }))
     → (isLive x ≡ true → (j : ℕ) (g : File) → j < slots → (j ≡ i → ⊥) → look d .files j ≡ some g → Apart g (record { bytes = x; sectors = sec }))
     → Does look Sound d (slotStep (look d) i o y (entryOf x sec))
 unfolding putAll
-slot-does d w i h o y k x sec ex es r n good apart = record {
+slot-does d w i h o y k x sec ex es r n kept good apart = record {
   there = there-slot d (sound-long d w) i h o y k;
   inside = (inside-slot d (sound-long d w) i h o y k, tt);
-  sees = slot-look d (sound-long d w) i h o y k r (ap isNameless ex ∙ n) x sec ex es;
-  ok = sound-upd (look d) w i h (entryOf x sec) (λ f q. rw (entry-is x sec f q) (good (entry-alive x sec f q)))
+  sees = slot-look d (sound-long d w) i h o y k r (ap isNameless ex ∙ n) (λ j e z. ap (λ (s : List ℕ). getD s j 0) ex ∙ kept j e z) (sound-data d w) x sec ex es
+      (λ a b m. rw (← look-extra d) (good a .data-bits b m));
+  ok = sound-upd (look d) w i (omega (arith, slots-few d)) (entryOf x sec) (λ f q. rw (entry-is x sec f q) (good (entry-alive x sec f q)))
       (λ f j g q m n p. rw (entry-is x sec f q) (apart (entry-alive x sec f q) j g m n p));
 }
 
@@ -145,9 +162,10 @@ module _ (d : List ℕ) (w : Sound (look d)) (i : ℕ) (f : File) (e : look d .f
     touch-does : isNameless now ≡ false → (isLive now ≡ true → GoodFile (extra (look d)) (record { bytes = now; sectors = f .sectors }))
         → (isLive now ≡ true → (j : ℕ) (g : File) → j < slots → (j ≡ i → ⊥) → look d .files j ≡ some g → Apart g (record { bytes = now; sectors = f .sectors }))
         → Does look Sound d (touchStep (look d) i f o y)
-    touch-does =
-        slot-does d w i (own .here) o y (omega arith) now (f .sectors) (ap (λ (s : List ℕ). put s o y) (own .bytes)) sectors-kept
-        (reach-read d i (own .read))
+    touch-does n =
+        slot-does d w i (seen-is d i (own .read) .0) o y (omega arith) now (f .sectors) (ap (λ (s : List ℕ). put s o y) (own .bytes)) sectors-kept
+        (reach-read d i (own .read)) n
+        (λ j l z. rest j (omega (arith, label-high j l)) ∙ ap (λ (s : List ℕ). getD s j 0) (sym (own .bytes)))
 
     -- with the kind kept and a name
     module _ (p : kindOf now ≡ kindOf (f .bytes)) (q : isNameless now ≡ false) where
@@ -170,6 +188,7 @@ module _ (d : List ℕ) (w : Sound (look d)) (i : ℕ) (f : File) (e : look d .f
             some-sectors = rw c (was .some-sectors);
             few-sectors = rw c (was .few-sectors);
             bits = rw (map-kept, c) (was .bits);
+            data-bits = rw map-kept (was .data-bits);
             first-data = rw (rest 13 (omega arith), rest 14 (omega arith)) (was .first-data);
             first-own = rw (map-kept, rest 13 (omega arith), rest 14 (omega arith)) (was .first-own);
             fits = rw (p, facts-kept, c) (was .fits);

@@ -32,7 +32,7 @@ use Rattle.plans.specs.Saving.{freeBit, taken, slotTaken, newSlot}
 use Rattle.plans.specs.Plan.{upd, oldName, dirSectors, saveSteps, made, run}
 use Rattle.plans.proofs.Frame.{disk-sound, upd-same, slots-same, slots-other}
 use Rattle.plans.proofs.Kept.{usable-is}
-use Rattle.plans.proofs.Free.{FreeSlot, free-slot}
+use Rattle.plans.proofs.Free.{FreeSlot, free-small, free-slot}
 use Rattle.plans.proofs.NewFile.{newFile, Ready, taken-ready, name-is, kind-is, new-length, page-is, offset-is}
 use Rattle.plans.proofs.Saved.{save-numbers, save-look, reads-back}
 use Rattle.plans.proofs.Crash.{run-made}
@@ -78,7 +78,7 @@ pub record Stored (d : List ℕ) (w : Wish) (new ss : List ℕ) : Type 0 where
   pub fresh : find (slotsOf (look d)) (w .name) ≡ none
   pub takes : bits ≡ taken (extra (look d)) (slotsOf (look d)) w
   pub disk : new ≡ enact d (saveSteps (oldName d slot) (look d) slot w bits)
-  pub seen : look new ≡ upd (look d) slot (some (newFile (slotsOf (look d)) slot w bits))
+  pub seen : look new ≡ upd (look d) slot (some (newFile (look d .label) slot w bits))
   -- "for a save the n data sectors in chain order and then the directory sector", before that one the one behind the end
   pub sectors : ss ≡ map bitNumber bits ++ dirSectors (oldName d slot) slot
 
@@ -89,7 +89,7 @@ stored d ok room w new ss e =
     let t = k .tested in
     let i : ℕ = slotTaken (extra (look d)) (slotsOf (look d)) in
     let bs : List ℕ = taken (extra (look d)) (slotsOf (look d)) w in
-    let r = taken-ready (look d) w (t .usable-name) (t .carried-kind) (t .room) in
+    let r = taken-ready (look d) (disk-sound d ok) w (t .usable-name) (t .carried-kind) (t .room) in
     let at = free-slot (look d) i (t .lowest) in
     record {
       slot = i;
@@ -111,10 +111,10 @@ module _ (d : List ℕ) (ok : checkDisk d ≡ none) (room : ℕ) (w : Wish) (new
   k = stored d ok room w new ss e
 
   abbrev l : Look
-  l = upd (look d) (k .slot) (some (newFile (slotsOf (look d)) (k .slot) w (k .bits)))
+  l = upd (look d) (k .slot) (some (newFile (look d .label) (k .slot) w (k .bits)))
 
   abbrev saved : File
-  saved = newFile (slotsOf (look d)) (k .slot) w (k .bits)
+  saved = newFile (look d .label) (k .slot) w (k .bits)
 
   accepted : checkLook l ≡ none
   unfolding checkDisk
@@ -123,14 +123,14 @@ module _ (d : List ℕ) (ok : checkDisk d ≡ none) (room : ℕ) (w : Wish) (new
   kind-range : (16 ≤ w .kind) × (w .kind ≤ 20)
   kind-range = k .ready .kind
 
-  kind-kept : kindOf (newSlot (slotsOf (look d)) (k .slot) w (k .bits)) ≡ w .kind
-  kind-kept = kind-is (slotsOf (look d)) (k .slot) w (k .bits) (omega (arith, kind-range))
+  kind-kept : kindOf (newSlot (look d .label) (k .slot) w (k .bits)) ≡ w .kind
+  kind-kept = kind-is (look d .label) (k .slot) w (k .bits) (omega (arith, kind-range))
 
-  carried-new : carried (kindOf (newSlot (slotsOf (look d)) (k .slot) w (k .bits))) ≡ true
+  carried-new : carried (kindOf (newSlot (look d .label) (k .slot) w (k .bits))) ≡ true
   carried-new = ap carried kind-kept ∙ is-carried (w .kind) kind-range
 
-  named-so : nameOf (newSlot (slotsOf (look d)) (k .slot) w (k .bits)) ≡ padded (w .name)
-  named-so = name-is (slotsOf (look d)) (k .slot) w (k .bits) (usable-is (w .name) (k .ready .name) .1)
+  named-so : nameOf (newSlot (look d .label) (k .slot) w (k .bits)) ≡ padded (w .name)
+  named-so = name-is (look d .label) (k .slot) w (k .bits) (usable-is (w .name) (k .ready .name) .1)
 
   askable-so : askable (w .name) ≡ true
   unfolding usable
@@ -140,29 +140,29 @@ module _ (d : List ℕ) (ok : checkDisk d ≡ none) (room : ℕ) (w : Wish) (new
   found =
       some-find (slotsOf l) (w .name) (k .slot)
       (record {
-        below = k .lowest .below;
-        bytes = newSlot (slotsOf (look d)) (k .slot) w (k .bits);
+        below = free-small (look d) (k .slot) (k .lowest);
+        bytes = newSlot (look d .label) (k .slot) w (k .bits);
         here = slots-same (look d) (k .slot) (some saved);
-        name = same-eq (nameOf (newSlot (slotsOf (look d)) (k .slot) w (k .bits))) (padded (w .name)) named-so;
+        name = same-eq (nameOf (newSlot (look d .label) (k .slot) w (k .bits))) (padded (w .name)) named-so;
         before = λ j h t p q.
-            find-none (slotsOf (look d)) (w .name) (k .fresh) j (omega (arith, k .lowest .below)) t
+            find-none (slotsOf (look d)) (w .name) (k .fresh) j (omega (arith, free-small (look d) (k .slot) (k .lowest))) t
             (sym (slots-other (look d) (k .slot) (some saved) j (omega arith)) ∙ p) q;
       })
 
   -- a saved file reads back byte for byte: the body and its length, into any buffer long enough
   pub read-back : (buf : List ℕ) → length (w .body) ≤ length buf → reading new (w .name) buf ≡ out (done (length (w .body)) 0) (put buf 0 (w .body))
   read-back buf h =
-      let n : fileLength saved ≡ length (w .body) = new-length (slotsOf (look d)) (k .slot) (extra (look d)) (freeBit (extra (look d)) (slotsOf (look d))) w (k .bits) (k .ready) in
+      let n : fileLength saved ≡ length (w .body) = new-length (look d .label) (k .slot) (extra (look d)) (freeBit (extra (look d)) (slotsOf (look d))) w (k .bits) (k .ready) in
       ap (λ (l : Look). readLook l (w .name) buf) (k .seen)
       ∙ read-here l accepted (w .name) askable-so (k .slot) saved found (upd-same (look d) (k .slot) (some saved)) (carried-read _ carried-new) buf (subst (λ (m : ℕ). m ≤ length buf) (sym n) h)
-      ∙ ap₂ (λ (m : ℕ) (x : List ℕ). out (done m 0) (put buf 0 x)) n (reads-back (slotsOf (look d)) (k .slot) (extra (look d)) (freeBit (extra (look d)) (slotsOf (look d))) w (k .bits) (k .ready))
+      ∙ ap₂ (λ (m : ℕ) (x : List ℕ). out (done m 0) (put buf 0 x)) n (reads-back (look d .label) (k .slot) (extra (look d)) (freeBit (extra (look d)) (slotsOf (look d))) w (k .bits) (k .ready))
 
   -- and the start address is the one of the page and offset given
   pub start-back : starting new (w .name) ≡ done (address (w .page) (w .offset)) 0
   start-back =
       let r = and-both (leb (w .page) 31) (between 32768 (w .offset) 49151) (k .range) in
-      let p : pageOf (newSlot (slotsOf (look d)) (k .slot) w (k .bits)) ≡ w .page = page-is (slotsOf (look d)) (k .slot) w (k .bits) (omega (arith, leb-true (w .page) 31 (r .0))) in
-      let o : offsetOf (newSlot (slotsOf (look d)) (k .slot) w (k .bits)) ≡ w .offset = offset-is (slotsOf (look d)) (k .slot) w (k .bits) in
+      let p : pageOf (newSlot (look d .label) (k .slot) w (k .bits)) ≡ w .page = page-is (look d .label) (k .slot) w (k .bits) (omega (arith, leb-true (w .page) 31 (r .0))) in
+      let o : offsetOf (newSlot (look d .label) (k .slot) w (k .bits)) ≡ w .offset = offset-is (look d .label) (k .slot) w (k .bits) in
       ap (λ (l : Look). startLook l (w .name)) (k .seen)
       ∙ start-here l accepted (w .name) askable-so (k .slot) saved found (upd-same (look d) (k .slot) (some saved)) carried-new
       (ap (λ (x : ℕ). leb 32768 x && leb x 49151) o ∙ r .1)

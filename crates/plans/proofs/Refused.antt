@@ -24,6 +24,7 @@ use Rattle.directory.specs.Find.{find}
 use Rattle.directory.proofs.Search.{find-some, find-none}
 use Rattle.disk.specs.Look.{Look, look, slotsOf, extra}
 use Rattle.disk.specs.Check.{checkLook, checkDisk}
+use Rattle.disk.specs.Sound.{Sound}
 use Rattle.files.specs.Calls.{noFile, fileAt, fileNamed, entries, listLook, readReply, readLook, listing, reading}
 use Rattle.files.specs.Asked.{someNamed, slotNamed, startOutside, row15, row20, by-check, by-row}
 use Rattle.files.proofs.Asked.{some-named, none-named, outside-is, by-lowest, by-positive}
@@ -34,6 +35,7 @@ use Rattle.plans.specs.Saving.{taken, lowestSlot, slotTaken}
 use Rattle.plans.specs.Plan.{touch, oldName, dirSectors, saveSteps, Plan, no, go, orNo, byName, takenAt, nameTaken, respells, takenBy, renameTaken, isProtected, saveReply, planOf, Result, stopped, made, settle, checked, run, changedBy, change}
 use Rattle.plans.specs.Refused.{someFree, row14, row16, renameRow16, row17, row18, row19, listLong, changeRows, Refuses, Passes, Accepts}
 use Rattle.plans.specs.Accepted.{many}
+use Rattle.plans.proofs.Frame.{disk-sound}
 use Rattle.plans.proofs.Free.{lowest-slot, no-slot, taken-long}
 use Rattle.plans.proofs.Saved.{save-numbers}
 
@@ -164,9 +166,9 @@ module _ (d : List ℕ) (room : ℕ) (old : ℕ → Bool) where
 
     -- ---- each change
 
-    by-save : (w : Wish) → By (changeRows old (save w) l room) (planOf old (save w) l)
+    by-save : Sound l → (w : Wish) → By (changeRows old (save w) l room) (planOf old (save w) l)
     unfolding changeRows planOf saveReply listLong
-    by-save w =
+    by-save ok w =
         by-else (row 12 0 (not (usable (w .name)))) (r13 else r14 else r16 else r18 else r19) _ steps
         (by-test 12 0 (not (usable (w .name))) _ _
         (λ a. by-else r13 (r14 else r16 else r18 else r19) _ steps
@@ -181,7 +183,7 @@ module _ (d : List ℕ) (room : ℕ) (old : ℕ → Bool) where
         (by-test 18 0 (not (someFree l)) _ _
         (λ e. by-test 19 0 (ltb (free (extra l) (slotsOf l)) many) _ _
         (λ f. by-room (saveSteps (old slot) l slot w bits) named
-        (save-long (old slot) l slot w bits ∙ ap (λ (n : ℕ). n + length (dirSectors (old slot) slot)) (taken-long l w (ltb-false (free (extra l) (slotsOf l)) many f))))))))))))))))
+        (save-long (old slot) l slot w bits ∙ ap (λ (n : ℕ). n + length (dirSectors (old slot) slot)) (taken-long l ok w (ltb-false (free (extra l) (slotsOf l)) many f))))))))))))))))
       where
         many : ℕ
         many = sectorsFor (length (w .body))
@@ -240,18 +242,18 @@ module _ (d : List ℕ) (room : ℕ) (old : ℕ → Bool) where
         by-test 12 0 (not (askable n)) _ _
         (λ a. by-found n (λ i f. go (touch l i f 0 (marked m (getD (f .bytes) 0 0) ∷ []))) _ (λ i e. by-touch i (fileAt l i) 0 _))
 
-    settled : (c : Change) → By (changeRows old c l room) (planOf old c l)
-    settled (save w) = by-save w
-    settled (erase n) = by-erase n
-    settled (rename n new) = by-rename n new
-    settled (mark m n) = by-mark m n
+    settled : Sound l → (c : Change) → By (changeRows old c l room) (planOf old c l)
+    settled ok (save w) = by-save ok w
+    settled ok (erase n) = by-erase n
+    settled ok (rename n new) = by-rename n new
+    settled ok (mark m n) = by-mark m n
 
 -- ---- refused exactly when, accepted exactly when
 
 module _ (c : Change) (d : List ℕ) (room : ℕ) where
   passed : checkDisk d ≡ none → Settled (changeRows (oldName d) c (look d) room) (run c d room)
   unfolding run
-  passed e = subst (λ (r : Reply). Settled (changeRows (oldName d) c (look d) room) (checked r (settle d room (planOf (oldName d) c (look d))))) (sym e) (settled d room (oldName d) (look d) c)
+  passed e = subst (λ (r : Reply). Settled (changeRows (oldName d) c (look d) room) (checked r (settle d room (planOf (oldName d) c (look d))))) (sym e) (settled d room (oldName d) (look d) (disk-sound d e) c)
 
   barred : (r : Refusal) → checkDisk d ≡ some r → run c d room ≡ stopped r
   unfolding run

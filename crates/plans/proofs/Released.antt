@@ -69,12 +69,12 @@ saved-lean d w new ss h k =
     (λ f e. subst (λ (f : File). LeanFile (f .bytes)) (Option·some-injective saved f e) new-lean))
   where
     saved : File
-    saved = newFile (slotsOf (look d)) (k .slot) w (k .bits)
+    saved = newFile (look d .label) (k .slot) w (k .bits)
 
     new-lean : LeanFile (saved .bytes)
     new-lean c m e =
-        let n = count-is (slotsOf (look d)) (k .slot) w (k .bits) in
-        let b = length-is (slotsOf (look d)) (k .slot) w (k .bits) in
+        let n = count-is (look d .label) (k .slot) w (k .bits) in
+        let b = length-is (look d .label) (k .slot) w (k .bits) in
         omega (arith, n, k .ready .long, sectors-few (length (w .body)) m (omega (arith, b)))
 
 -- ---- every change

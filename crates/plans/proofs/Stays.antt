@@ -27,14 +27,14 @@ module _ (d : List ℕ) (ok : checkDisk d ≡ none) (room : ℕ) (new ss : List 
   save-others : (w : Wish) → run (save w) d room ≡ made new ss → (m : List ℕ) → (Same (padded m) (padded (w .name)) → ⊥) → SameAnswers new m d m
   save-others w e m u =
       let k = stored d ok room w new ss e in
-      let f : File = newFile (slotsOf (look d)) (k .slot) w (k .bits) in
+      let f : File = newFile (look d .label) (k .slot) w (k .bits) in
       others d new (k .slot) (some f) (k .seen) ok (change-accepted (save w) d room new ss ok e) m
       (λ g q p. Option·some-ne-none g (sym q ∙ k .lowest .empty))
       (λ g q p.
       u (same-via (nameOf (g .bytes)) (padded m) (padded (w .name)) p
       (same-eq (nameOf (g .bytes)) (padded (w .name))
       (ap (λ (f : File). nameOf (f .bytes)) (sym (Option·some-injective f g q))
-      ∙ name-is (slotsOf (look d)) (k .slot) w (k .bits) (usable-is (w .name) (k .ready .name) .1)))))
+      ∙ name-is (look d .label) (k .slot) w (k .bits) (usable-is (w .name) (k .ready .name) .1)))))
 
   unfound : (j : ℕ) (f : File) (n : List ℕ) → look d .files j ≡ some f → (Same (nameOf (f .bytes)) (padded n) → ⊥) → Unnamed n (look d .files j)
   unfound j f n h u g q p = u (same-of (ap (λ (f : File). nameOf (f .bytes)) (Option·some-injective f g (sym h ∙ q))) (padded n) p)
@@ -63,7 +63,7 @@ module _ (d : List ℕ) (ok : checkDisk d ≡ none) (room : ℕ) (new ss : List 
   pub entries-stay : (c : Change) → run c d room ≡ made new ss → (j : ℕ) (f : File) → look d .files j ≡ some f → finds c f ≡ false → directory new j ≡ directory d j
   entries-stay (save w) e j f h n =
       let k = stored d ok room w new ss e in
-      other-slots d new (k .slot) (some (newFile (slotsOf (look d)) (k .slot) w (k .bits))) (k .seen) j
+      other-slots d new (k .slot) (some (newFile (look d .label) (k .slot) w (k .bits))) (k .seen) j
       (λ q. Option·some-ne-none f (sym h ∙ ap (look d .files) q ∙ k .lowest .empty))
   entries-stay (erase n) e j f h x =
       touched-slots d n 0 erasing (λ i. Unprotected) new ss (erased d ok room new ss n e) j (unfound j f n h (λ p. false≢true (sym x ∙ finds-erase n f .1 p)))

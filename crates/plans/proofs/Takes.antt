@@ -1,12 +1,13 @@
 -- What an accepted save takes, the least number of sectors, the lowest free bits, the lowest free slot, and what it leaves, byte by byte.
 use Prim.Native.Nat.{ℕ, zero, suc, _+_, _*_, _/_, _%_, _≤_, _<_}
 use mathlib.Core.Path.{_≡_, refl, sym, ap, _∙_}
-use mathlib.Core.Bool.{Bool, true, false, not}
+use mathlib.Core.Bool.{Bool, true, false, cond, not, _&&_}
 use mathlib.Core.List.{List, [], _∷_, map}
 use mathlib.Core.Logic.{⊎-elim}
 use mathlib.Core.Option.{Option, none, some}
 use native.Mathlib.Omega.{arith}
-use borrow.Author.Tests.{ne-eqb}
+use borrow.Author.Tests.{eqb-true, ne-eqb}
+use lib.Dec.{eqb}
 use lib.ListN.{length, getD, drop}
 use Rattle.buffers.specs.Bytes.{put}
 use Rattle.buffers.proofs.Lists.{part-at, put-in, put-before, put-after}
@@ -16,15 +17,19 @@ use Rattle.maps.specs.Bits.{has}
 use Rattle.slots.specs.Slot.{nameOf, mapOf}
 use Rattle.names.specs.Name.{padded}
 use Rattle.names.proofs.Names.{same-eq}
+use Rattle.slots.specs.Tracks.{isLabel, dataBit}
+use Rattle.slots.proofs.Tracks.{data-is}
 use Rattle.slots.proofs.Least.{sectors-least}
 use Rattle.chains.specs.File.{File}
 use Rattle.directory.specs.Places.{slots, slotAt}
-use Rattle.directory.specs.Directory.{held}
-use Rattle.directory.proofs.Places.{slot-front, slots-apart, data-all}
+use Rattle.directory.specs.Directory.{held, labelOf, tracksOf, slotsIn}
+use Rattle.directory.proofs.Places.{slot-within, slots-apart}
+use Rattle.directory.proofs.Label.{slots-few}
 use Rattle.surveys.proofs.Union.{has-union}
 use Rattle.disk.specs.Look.{look, slotsOf, extra}
 use Rattle.disk.specs.Check.{checkDisk}
 use Rattle.disk.specs.Sound.{Sound}
+use Rattle.disk.proofs.Look.{look-extra}
 use Rattle.steps.specs.Sectors.{sector, listed}
 use Rattle.steps.specs.Steps.{enact, numbers}
 use Rattle.steps.proofs.Sectors.{at-sector}
@@ -37,7 +42,7 @@ use Rattle.plans.specs.After.{Outside, AfterSave}
 use Rattle.plans.proofs.Frame.{slots-some, slot-file, disk-sound, upd-same, holds, holds-sector}
 use Rattle.plans.proofs.Kept.{sound-long, usable-is}
 use Rattle.plans.proofs.Ended.{reach-free}
-use Rattle.plans.proofs.Free.{From, run-listed, run-rises, free-is, taken-lowest}
+use Rattle.plans.proofs.Free.{From, run-listed, run-rises, free-data, free-is, taken-lowest, free-small}
 use Rattle.plans.proofs.NewFile.{newFile, length-slot, slot-byte, name-is, block-byte, block-track, block-sector, filled, sector-at}
 use Rattle.plans.proofs.Good.{own-bit, slot-names}
 use Rattle.plans.proofs.Saved.{data-numbers, data-goes, save-disk}
@@ -45,17 +50,21 @@ use Rattle.plans.proofs.Demand3.{run-room}
 use Rattle.plans.proofs.ReadBack.{Stored, stored}
 use Rattle.plans.proofs.Exactly.{first-empty}
 
+-- a byte of slot 1 that is the disk's, by its place
+label-at : (d : List ℕ) (k : ℕ) → k < 256 → isLabel k ≡ true → look d .label k ≡ getD d (slotAt 0 + k) 0
+unfolding look labelOf
+label-at d k h e = rw e (part-at (slotAt 0) 256 d k h)
+
 -- a sector that is none of a chain's
 pub unlisted : (s : ℕ) (bs : List ℕ) → ((j : ℕ) → j < length bs → s ≡ bitNumber (getD bs j 0) → ⊥) → listed s (map bitNumber bs) ≡ false
 unlisted s [] h = refl
 unlisted s (b ∷ bs) h = rw (ne-eqb s (bitNumber b) (h 0 (omega arith))) (unlisted s bs (λ j (q : j < length bs). h (suc j) (omega arith)))
 
-unused-free : (d : List ℕ) (b : ℕ) → b < 1560 → Unused d b → freeBit (extra (look d)) (slotsOf (look d)) b ≡ true
-unfolding extra
+unused-free : (d : List ℕ) (b : ℕ) → dataBit (tracksOf d) b ≡ true → Unused d b → freeBit (extra (look d)) (slotsOf (look d)) b ≡ true
 unused-free d b h u =
-    rw (data-all b h)
+    rw (look-extra d, h)
     (ap not
-    (has-union (slotsOf (look d)) slots b h
+    (has-union (slotsOf (look d)) slots b (data-is (tracksOf d) b h .0)
     ∙ none-any slots (λ i. held false (λ s. has (mapOf s) b) (slotsOf (look d) i)) (λ i m. by i (slotsOf (look d) i) refl)))
   where
     at : (s : List ℕ) (i : ℕ) (f : File) → look d .files i ≡ some f → f .bytes ≡ s → (t : Bool) → has (mapOf s) b ≡ t → t ≡ false
@@ -85,14 +94,12 @@ module _ (d : List ℕ) (w : Wish) (room : ℕ) (new ss : List ℕ) (e : run (sa
     least = sectors-least (length (w .body)) .1;
     bits = k .bits;
     long = k .ready .long;
-    small = λ b m. taken-from b m .small;
+    data-bits = λ b m. rw (← look-extra d) (free-data (extra (look d)) (slotsOf (look d)) b (taken-from b m .passes));
     unused = λ b m j f g.
         free-is (extra (look d)) (slotsOf (look d)) b (taken-from b m .passes) j (f .bytes) (holds d j f g .here) (slots-some (look d) j f g);
     rises = run-rises free 0 (k .bits) (k .ready .run);
-    lowest = λ b c m h u.
-        let x : b < 1560 = taken-from b m .small in
-        rw (k .takes)
-        (taken-lowest (extra (look d)) (slotsOf (look d)) w b c (rw (k .takes) at m) h (unused-free d c (omega arith) u));
+    lowest = λ b c m h x u.
+        rw (k .takes) (taken-lowest (extra (look d)) (slotsOf (look d)) w b c (rw (k .takes) at m) h (unused-free d c x u));
     slot = k .slot;
     free = first-empty d (k .slot) (k .lowest);
     sectors = k .sectors;
@@ -101,15 +108,23 @@ module _ (d : List ℕ) (w : Wish) (room : ℕ) (new ss : List ℕ) (e : run (sa
   -- ---- byte by byte
 
   abbrev saved : File
-  saved = newFile (slotsOf (look d)) (k .slot) w (k .bits)
+  saved = newFile (look d .label) (k .slot) w (k .bits)
 
   here : look new .files (k .slot) ≡ some saved
   here = rw (k .seen) (upd-same (look d) (k .slot) (some saved))
 
-  slot-now : (j : ℕ) → j < 256 → getD new (slotAt (k .slot) + j) 0 ≡ slotByte w (k .bits) j
+  slot-now : (j : ℕ) → j < 256
+      → getD new (slotAt (k .slot) + j) 0 ≡ cond (eqb (k .slot) 0 && isLabel j) (getD d (slotAt (k .slot) + j) 0) (slotByte w (k .bits) j)
   slot-now j h =
       sym (part-at (slotAt (k .slot)) 256 new j h) ∙ ap (λ (s : List ℕ). getD s j 0) (holds new (k .slot) saved here .bytes)
-      ∙ slot-byte (slotsOf (look d)) (k .slot) w (k .bits) j h
+      ∙ slot-byte (look d .label) (k .slot) w (k .bits) j h ∙ kept-now (eqb (k .slot) 0) refl (isLabel j) refl
+    where
+      -- what slot 1 keeps is the disk's byte
+      kept-now : (z : Bool) → eqb (k .slot) 0 ≡ z → (t : Bool) → isLabel j ≡ t
+          → cond (z && t) (look d .label j) (slotByte w (k .bits) j) ≡ cond (z && t) (getD d (slotAt (k .slot) + j) 0) (slotByte w (k .bits) j)
+      kept-now true q true p = label-at d j h p ∙ ap (λ (m : ℕ). getD d (slotAt m + j) 0) (sym (eqb-true (k .slot) 0 q))
+      kept-now true q false p = refl
+      kept-now false q t p = refl
 
   module _ (j : ℕ) (h : j < many w) where
     inside : j < length (k .bits)
@@ -122,9 +137,9 @@ module _ (d : List ℕ) (w : Wish) (room : ℕ) (new ss : List ℕ) (e : run (sa
         sym (part-at (bitPlace (getD (k .bits) j 0)) 512 new m q)
         ∙ ap (λ (s : List ℕ). getD s m 0)
         (holds-sector new (k .slot) saved here (getD (k .bits) j 0)
-        (own-bit free (saved .bytes) (k .bits) (k .ready .run) (filled (slotsOf (look d)) (k .slot) (extra (look d)) free w (k .bits) (k .ready))
-        (slot-names (slotsOf (look d)) (k .slot) w (k .bits)) j inside)
-        ∙ sector-at (slotsOf (look d)) (k .slot) (extra (look d)) free w (k .bits) (k .ready) j inside
+        (own-bit free (saved .bytes) (k .bits) (k .ready .run) (filled (look d .label) (k .slot) (extra (look d)) free w (k .bits) (k .ready))
+        (slot-names (look d .label) (k .slot) w (k .bits)) j inside)
+        ∙ sector-at (look d .label) (k .slot) (extra (look d)) free w (k .bits) (k .ready) j inside
         ∙ ap (λ (f : ℕ). block (stream w) f (nextTrack (drop (suc j) (k .bits))) (nextSector (drop (suc j) (k .bits)))) (omega arith))
 
   -- the disk after the data, and that without an old name behind the slot
@@ -145,10 +160,10 @@ module _ (d : List ℕ) (w : Wish) (room : ℕ) (new ss : List ℕ) (e : run (sa
   -- the old name's bytes
   cleared-now : oldName d (k .slot) ≡ true → (j : ℕ) → j < 2 → getD new (slotAt (suc (k .slot)) + j) 0 ≡ 0
   cleared-now e j h =
-      let z = length-slot (slotsOf (look d)) (k .slot) w (k .bits) in
-      let n : suc (k .slot) < slots = reach-free d (k .slot) (k .lowest) .end e .1 in
+      let z = length-slot (look d .label) (k .slot) w (k .bits) in
+      let n : suc (k .slot) < slotsIn d = reach-free d (k .slot) (k .lowest) .end e .1 in
       let a = slots-apart (k .slot) (suc (k .slot)) (omega arith) in
-      let f = slot-front (suc (k .slot)) n in
+      let f = slot-within (suc (k .slot)) (omega (arith, slots-few d)) in
       let l = goes-long (dataSteps (stream w) 0 (k .bits)) d in
       ap (λ (x : List ℕ). getD x (slotAt (suc (k .slot)) + j) 0) new-is
       ∙ put-after clean (slotAt (k .slot)) (saved .bytes) (slotAt (suc (k .slot)) + j) (omega arith)
@@ -178,7 +193,7 @@ module _ (d : List ℕ) (w : Wish) (room : ℕ) (new ss : List ℕ) (e : run (sa
 
   others-now : (m : ℕ) → Outside m (slotAt (k .slot)) 256 → (oldName d (k .slot) ≡ true → Outside m (slotAt (suc (k .slot))) 2) → ((j : ℕ) → j < many w → Outside m (bitPlace (getD (k .bits) j 0)) 512) → getD new m 0 ≡ getD d m 0
   others-now m o c h =
-      let z = length-slot (slotsOf (look d)) (k .slot) w (k .bits) in
+      let z = length-slot (look d .label) (k .slot) w (k .bits) in
       ap (λ (x : List ℕ). getD x m 0) new-is
       ∙ ⊎-elim (put-before clean (slotAt (k .slot)) (saved .bytes) m)
       (λ (q : slotAt (k .slot) + 256 ≤ m). put-after clean (slotAt (k .slot)) (saved .bytes) m (omega arith)) o
@@ -200,8 +215,8 @@ module _ (d : List ℕ) (w : Wish) (room : ℕ) (new ss : List ℕ) (e : run (sa
     bytes = others-now;
     file = saved;
     now = record {
-      below = k .lowest .below;
+      below = free-small (look d) (k .slot) (k .lowest);
       here = here;
-      name = same-eq (nameOf (saved .bytes)) (padded (w .name)) (name-is (slotsOf (look d)) (k .slot) w (k .bits) (usable-is (w .name) (k .ready .name) .1));
+      name = same-eq (nameOf (saved .bytes)) (padded (w .name)) (name-is (look d .label) (k .slot) w (k .bits) (usable-is (w .name) (k .ready .name) .1));
     };
   }

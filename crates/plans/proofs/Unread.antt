@@ -17,12 +17,14 @@ use Rattle.buffers.proofs.Tests.{and-both}
 use Rattle.geometry.specs.Disk.{bitNumber}
 use Rattle.names.specs.Name.{padded}
 use Rattle.chains.specs.File.{File}
-use Rattle.directory.specs.Places.{slots, slotBytes, dirSector}
-use Rattle.directory.specs.Directory.{isSlot, nameless, endOf, slotsRead, seen}
-use Rattle.directory.proofs.Places.{slots-count, data-all, dir-not-data}
-use Rattle.directory.proofs.Ends.{end-some, some-end, none-end, read-seen, unread, unseen-read, seen-is, unseen-later, unseen-past, unseen-nameless, seen-next, unread-kept}
+use Rattle.directory.specs.Places.{slotCount, slotBytes, dirSector}
+use Rattle.directory.specs.Directory.{labelOf, tracksOf, slotsIn, isSlot, nameless, endOf, slotsRead, seen}
+use Rattle.directory.proofs.Places.{dir-not-data}
+use Rattle.directory.proofs.Label.{tracks-few, tracks-agree}
+use Rattle.directory.proofs.Ends.{end-some, some-end, none-end, read-in, read-seen, unread, unseen-read, seen-is, unseen-later, unseen-past, unseen-nameless, seen-next, unread-kept}
 use Rattle.disk.specs.Look.{look, slotsOf, extra}
 use Rattle.disk.specs.Check.{checkDisk}
+use Rattle.disk.proofs.Look.{look-extra}
 use Rattle.steps.specs.Sectors.{sector, listed, cut}
 use Rattle.steps.proofs.Sectors.{listed-append, listed-before, cut-old}
 use Rattle.plans.specs.Change.{Wish, Change, save, erase, rename, mark}
@@ -34,7 +36,7 @@ use Rattle.plans.specs.Unread.{Writes, Unread, endBehind}
 use Rattle.plans.proofs.Frame.{disk-sound, upd-same, upd-other, holds, slot-half, slot-else}
 use Rattle.plans.proofs.Kept.{sound-long, usable-is}
 use Rattle.plans.proofs.Free.{run-at}
-use Rattle.plans.proofs.Ended.{reach-free}
+use Rattle.plans.proofs.Ended.{free-there, reach-free}
 use Rattle.plans.proofs.Saved.{save-slots, save-next}
 use Rattle.plans.proofs.NewFile.{newFile}
 use Rattle.plans.proofs.Effect.{Touched, erasing, erased, marked-so, renamed}
@@ -55,11 +57,11 @@ cut-last xs a k s h e = by (listed s (take k (xs ++ (a ∷ [])))) refl
 
 module _ (c : Change) (d new ss : List ℕ) (whole : cut d new ss (length ss) ≡ new)
     -- its sector is not written before the last
-    (early : (k : ℕ) → k < length ss → slotsRead d < slots → listed (dirSector (slotsRead d)) (take k ss) ≡ false)
-    (after : (j : ℕ) → seen d j ≡ false → (Writes c d j → ⊥) → seen new j ≡ false) (written : (j : ℕ) → Writes c d j ⊎ (Writes c d j → ⊥)) where
+    (early : (k : ℕ) → k < length ss → slotsRead d < slotsIn d → listed (dirSector (slotsRead d)) (take k ss) ≡ false)
+    (label : (k : ℕ) → k ≤ length ss → labelOf (cut d new ss k) ≡ labelOf d) (after : (j : ℕ) → seen d j ≡ false → (Writes c d j → ⊥) → seen new j ≡ false) (written : (j : ℕ) → Writes c d j ⊎ (Writes c d j → ⊥)) where
   before : (k : ℕ) → k < length ss → (j : ℕ) → seen d j ≡ false → seen (cut d new ss k) j ≡ false
   before k h =
-      unread-kept d (cut d new ss k)
+      unread-kept d (cut d new ss k) (tracks-agree d (cut d new ss k) (label k (omega arith)))
       (λ l.
       sym (slot-half (cut d new ss k) (slotsRead d)) ∙ ap (part (256 * (slotsRead d % 2)) 256) (cut-old d new ss k (dirSector (slotsRead d)) (early k h l))
       ∙ slot-half d (slotsRead d))
@@ -79,16 +81,17 @@ module _ (c : Change) (d new ss : List ℕ) (whole : cut d new ss (length ss) �
 -- ---- a change of a slot that is read
 
 touch-unread : (c : Change) (d n : List ℕ) (o : ℕ) (y : File → List ℕ) (Also : ℕ → File → Type 0) (new ss : List ℕ) → checkDisk d ≡ none
-    → cut d new ss (length ss) ≡ new → (t : Touched d n o y Also new ss) → o + length (y (t .file)) ≤ 256 → ((j : ℕ) → Writes c d j → ⊥) → Unread c d new ss
-touch-unread c d n o y Also new ss ok whole t k w =
+    → cut d new ss (length ss) ≡ new → ((k : ℕ) → k ≤ length ss → labelOf (cut d new ss k) ≡ labelOf d) → (t : Touched d n o y Also new ss) → o + length (y (t .file)) ≤ 256 → ((j : ℕ) → Writes c d j → ⊥) → Unread c d new ss
+touch-unread c d n o y Also new ss ok whole label t k w =
     unread-of c d new ss whole
     (λ m h l. subst (λ (xs : List ℕ). m < length xs → listed (dirSector (slotsRead d)) (take m xs) ≡ false) (sym (t .sectors)) (λ q. cut-last [] (dirSector (t .slot)) m (dirSector (slotsRead d)) q refl) h)
+    label
     (λ j q z.
-    unread-kept d new
+    unread-kept d new (tracks-agree d new (sym (ap labelOf whole) ∙ label (length ss) (omega arith)))
     (λ l.
     let r = read-seen d (t .slot) (holds d (t .slot) (t .file) (t .found .here) .read) in
     ap (λ (x : List ℕ). slotBytes x (slotsRead d)) (t .disk)
-    ∙ slot-else d (sound-long d (disk-sound d ok)) (t .slot) (t .found .below) o (y (t .file)) k (slotsRead d) (omega arith)) j q)
+    ∙ slot-else d (sound-long d (disk-sound d ok)) (t .slot) (omega (arith, r, read-in d)) o (y (t .file)) k (slotsRead d) (omega arith)) j q)
     (λ j. inr (w j))
 
 -- ---- a save
@@ -120,7 +123,12 @@ module _ (d : List ℕ) (ok : checkDisk d ≡ none) (room : ℕ) (w : Wish) (new
       ⊎-elim (λ (h : slotsRead d < i). let z = read-seen d (slotsRead d) (before-read (slotsRead d) h) in absurd (omega arith)) (λ (h : i ≤ slotsRead d). omega arith)
       (below-or-not (slotsRead d) i)
 
-  next-now : nameless d i ≡ true → suc i < slots → nameless new (suc i) ≡ true
+  same-tracks : tracksOf new ≡ tracksOf d
+  same-tracks =
+      let s = crash (save w) d room new ss ok e in
+      tracks-agree d new (sym (ap labelOf (s .whole)) ∙ s .label (length ss) (omega arith))
+
+  next-now : nameless d i ≡ true → suc i < slotsIn d → nameless new (suc i) ≡ true
   next-now n l = ap (λ (x : List ℕ). nameless x (suc i)) (k .disk) ∙ save-next d (disk-sound d ok) i (k .lowest) w (k .bits) (k .ready) n l
 
   after : (j : ℕ) → seen d j ≡ false → (FirstEmpty d j → ⊥) → seen new j ≡ false
@@ -132,24 +140,25 @@ module _ (d : List ℕ) (ok : checkDisk d ≡ none) (room : ℕ) (w : Wish) (new
           let b = unseen-read d j q in
           let away : (j ≡ i → ⊥) = λ m. z (subst (FirstEmpty d) (sym m) taken) in
           let c : suc i ≤ j = omega arith in
-          ⊎-elim (λ (l : suc i < slots). unseen-later new (suc i) j c (unseen-nameless new (suc i) (next-now n l))) (λ (l : slots ≤ suc i). unseen-past new j (omega arith))
-          (below-or-not (suc i) slots)
+          ⊎-elim (λ (l : suc i < slotsIn d). unseen-later new (suc i) j c (unseen-nameless new (suc i) (next-now n l)))
+          (λ (l : slotsIn d ≤ suc i). unseen-past new j (omega (arith, ap slotCount same-tracks)))
+          (below-or-not (suc i) (slotsIn d))
       by false n =
-          let r = read-seen d i (seen-next d i (k .lowest .below) before-read n) in
-          unread-kept d new
+          let r = read-seen d i (seen-next d i (free-there d i (k .lowest)) before-read n) in
+          unread-kept d new same-tracks
           (λ l.
           ap (λ (x : List ℕ). slotBytes x (slotsRead d)) (k .disk)
           ∙ save-slots d (disk-sound d ok) i (k .lowest) w (k .bits) (k .ready) (slotsRead d) l (omega arith)
           (λ o. absurd (true≢false (sym (reach-free d i (k .lowest) .end o .0) ∙ n)))) j q
 
-  data-unlisted : slotsRead d < slots → listed (dirSector (slotsRead d)) (map bitNumber (k .bits)) ≡ false
+  data-unlisted : slotsRead d < slotsIn d → listed (dirSector (slotsRead d)) (map bitNumber (k .bits)) ≡ false
   data-unlisted l =
       unlisted (dirSector (slotsRead d)) (k .bits)
       (λ j h q.
-      dir-not-data 0 (getD (k .bits) j 0) (slotsRead d) (omega arith)
-      (data-all (getD (k .bits) j 0) (run-at (freeBit (extra (look d)) (slotsOf (look d))) 0 (k .bits) (k .ready .run) j h .small)) (omega (arith, slots-count)) (sym q))
+      dir-not-data (tracksOf d) (getD (k .bits) j 0) (slotsRead d) (tracks-few d)
+      (rw (← look-extra d) (k .ready .inside (getD (k .bits) j 0) (run-at (freeBit (extra (look d)) (slotsOf (look d))) 0 (k .bits) (k .ready .run) j h .passes))) l (sym q))
 
-  early : (m : ℕ) → m < length ss → slotsRead d < slots → listed (dirSector (slotsRead d)) (take m ss) ≡ false
+  early : (m : ℕ) → m < length ss → slotsRead d < slotsIn d → listed (dirSector (slotsRead d)) (take m ss) ≡ false
   unfolding dirSectors together
   early m h l = subst (λ (xs : List ℕ). m < length xs → listed (dirSector (slotsRead d)) (take m xs) ≡ false) (sym (k .sectors)) (by (oldName d i && not (together i)) refl) h
     where
@@ -172,7 +181,7 @@ module _ (d : List ℕ) (ok : checkDisk d ≡ none) (room : ℕ) (w : Wish) (new
       by false q = λ h. cut-last xs (dirSector i) m (dirSector (slotsRead d)) h (data-unlisted l)
 
   save-unread : Unread (save w) d new ss
-  save-unread = unread-of (save w) d new ss (crash (save w) d room new ss ok e .whole) early after written
+  save-unread = let s = crash (save w) d room new ss ok e in unread-of (save w) d new ss (s .whole) early (s .label) after written
 
   -- ---- where the directory then ends
 
@@ -182,11 +191,11 @@ module _ (d : List ℕ) (ok : checkDisk d ≡ none) (room : ℕ) (w : Wish) (new
       ⊎-elim
       (λ (l : j < i).
       let f = k .lowest .before j l in
-      read-at j (f .0) (ap (λ v. v .files j) (k .seen) ∙ upd-other (look d) i (some (newFile (slotsOf (look d)) i w (k .bits))) j (omega arith) ∙ f .1))
+      read-at j (f .0) (ap (λ v. v .files j) (k .seen) ∙ upd-other (look d) i (some (newFile (look d .label) i w (k .bits))) j (omega arith) ∙ f .1))
       (λ (l : i ≤ j).
       let z : j ≡ i = omega arith in
       ap (nameless new) z
-      ∙ read-at i (newFile (slotsOf (look d)) i w (k .bits)) (ap (λ v. v .files i) (k .seen) ∙ upd-same (look d) i (some (newFile (slotsOf (look d)) i w (k .bits)))))
+      ∙ read-at i (newFile (look d .label) i w (k .bits)) (ap (λ v. v .files i) (k .seen) ∙ upd-same (look d) i (some (newFile (look d .label) i w (k .bits)))))
       (below-or-not j i)
     where
       read-at : (j : ℕ) (f : File) → look new .files j ≡ some f → nameless new j ≡ false
@@ -194,13 +203,13 @@ module _ (d : List ℕ) (ok : checkDisk d ≡ none) (room : ℕ) (w : Wish) (new
 
   end-now : endOf d ≡ some i → endOf new ≡ endBehind d i
   unfolding endBehind isSlot
-  end-now q = by (ltb (suc i) slots) refl
+  end-now q = by (ltb (suc i) (slotsIn d)) refl
     where
-      by : (t : Bool) → ltb (suc i) slots ≡ t → endOf new ≡ cond t (some (suc i)) none
+      by : (t : Bool) → ltb (suc i) (slotsIn d) ≡ t → endOf new ≡ cond t (some (suc i)) none
       by true h =
-          let l = ltb-true (suc i) slots h in
-          some-end new (suc i) (record { below = l; here = next-now (end-some d i q .here) l; before = λ j m. named-now j (omega arith) })
-      by false h = let l = ltb-false (suc i) slots h in none-end new (λ j m. named-now j (omega arith))
+          let l = ltb-true (suc i) (slotsIn d) h in
+          some-end new (suc i) (record { below = rw same-tracks l; here = next-now (end-some d i q .here) l; before = λ j m. named-now j (omega arith) })
+      by false h = let l = ltb-false (suc i) (slotsIn d) h in none-end new (λ j m. named-now j (omega (arith, ap slotCount same-tracks)))
 
   end-at : (j : ℕ) → FirstEmpty d j → endOf d ≡ some j → endOf new ≡ endBehind d j
   end-at j f q =
@@ -213,14 +222,14 @@ pub unread-stays : (c : Change) (d : List ℕ) (room : ℕ) (new ss : List ℕ) 
 unread-stays (save w) d room new ss ok e = save-unread d ok room w new ss e
 unread-stays (erase n) d room new ss ok e =
     let t = erased d ok room new ss n e in
-    touch-unread (erase n) d n 0 erasing _ new ss ok (crash (erase n) d room new ss ok e .whole) t (omega arith) (λ j x. x)
+    touch-unread (erase n) d n 0 erasing _ new ss ok (crash (erase n) d room new ss ok e .whole) (crash (erase n) d room new ss ok e .label) t (omega arith) (λ j x. x)
 unread-stays (rename n to) d room new ss ok e =
     let t = renamed d ok room new ss n to e in
     let l = usable-is to (t .also .name) .1 in
-    touch-unread (rename n to) d n 1 (λ f. padded to) _ new ss ok (crash (rename n to) d room new ss ok e .whole) t (omega arith) (λ j x. x)
+    touch-unread (rename n to) d n 1 (λ f. padded to) _ new ss ok (crash (rename n to) d room new ss ok e .whole) (crash (rename n to) d room new ss ok e .label) t (omega arith) (λ j x. x)
 unread-stays (mark m n) d room new ss ok e =
     let t = marked-so d ok room new ss m n e in
-    touch-unread (mark m n) d n 0 (marking m) _ new ss ok (crash (mark m n) d room new ss ok e .whole) t (omega arith) (λ j x. x)
+    touch-unread (mark m n) d n 0 (marking m) _ new ss ok (crash (mark m n) d room new ss ok e .whole) (crash (mark m n) d room new ss ok e .label) t (omega arith) (λ j x. x)
 
 -- after a save that took the end the directory ends right behind the new file, or has no end where that is the last slot
 pub ends-behind : (d : List ℕ) (room : ℕ) (w : Wish) (new ss : List ℕ) → run (save w) d room ≡ made new ss → (i : ℕ) → FirstEmpty d i → endOf d ≡ some i

@@ -9,10 +9,11 @@ use lib.ListN.{length, getD}
 use Rattle.geometry.specs.Disk.{bitNumber}
 use Rattle.maps.specs.Bits.{has}
 use Rattle.slots.specs.Slot.{protected, nameOf, mapOf, sectorsFor}
+use Rattle.slots.specs.Tracks.{dataCount, dataBit}
 use Rattle.names.specs.Name.{Same, askable, padded}
 use Rattle.chains.specs.File.{File}
 use Rattle.directory.specs.Places.{slots, slotBytes}
-use Rattle.directory.specs.Directory.{directory}
+use Rattle.directory.specs.Directory.{tracksOf, slotsIn, directory}
 use Rattle.surveys.specs.Survey.{usedMap}
 use Rattle.disk.specs.Look.{look}
 use Rattle.disk.specs.Check.{checkDisk}
@@ -67,11 +68,11 @@ Empty d i = (getD (slotBytes d i) 0 0 ≡ 0) ⊎ (getD (slotBytes d i) 1 0 ≡ 0
 
 -- "18 only if no slot before the end is erased and there is no end"
 abbrev pub NoSlot : List ℕ → Type 0
-NoSlot d = (i : ℕ) → i < slots → Empty d i → ⊥
+NoSlot d = (i : ℕ) → i < slotsIn d → Empty d i → ⊥
 
 -- "the lowest free slot": erased and before the end, or the end
 pub record FirstEmpty (d : List ℕ) (i : ℕ) : Type 0 where
-  pub below : i < slots
+  pub below : i < slotsIn d
   pub empty : Empty d i
   pub before : (k : ℕ) → k < i → Empty d k → ⊥
 
@@ -93,9 +94,9 @@ pub record Asked (d : List ℕ) (w : Wish) : Type 0 where
 abbrev pub many : Wish → ℕ
 many w = sectorsFor (length (w .body))
 
--- "Free sectors are 1,560 less that count."
+-- "Free sectors are 1,560 less that count."; with n tracks beyond four, n above 0, 1,561 − 10n less it
 abbrev pub freeSectors : List ℕ → ℕ
-freeSectors d = 1560 - usedMap (directory d) .count
+freeSectors d = dataCount (tracksOf d) - usedMap (tracksOf d) (directory d) .count
 
 -- a free slot, free sectors and a list for it
 pub record Savable (d : List ℕ) (w : Wish) (room : ℕ) : Type 0 where
@@ -117,10 +118,10 @@ pub record Takes (d : List ℕ) (w : Wish) (ss : List ℕ) : Type 0 where
   -- "the n lowest free map bits, rising, as chain,"
   pub bits : List ℕ
   pub long : length bits ≡ many w
-  pub small : (b : ℕ) → listed b bits ≡ true → b < 1560
+  pub data-bits : (b : ℕ) → listed b bits ≡ true → dataBit (tracksOf d) b ≡ true
   pub unused : (b : ℕ) → listed b bits ≡ true → Unused d b
   pub rises : (j k : ℕ) → j < k → k < length bits → getD bits j 0 < getD bits k 0
-  pub lowest : (b c : ℕ) → listed b bits ≡ true → c < b → Unused d c → listed c bits ≡ true
+  pub lowest : (b c : ℕ) → listed b bits ≡ true → c < b → dataBit (tracksOf d) c ≡ true → Unused d c → listed c bits ≡ true
   -- "and the lowest free slot."
   pub slot : ℕ
   pub free : FirstEmpty d slot

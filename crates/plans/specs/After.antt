@@ -1,10 +1,11 @@
 -- What a change leaves: the name that it finds, and every other. The words of document 01 stand above what they define.
 use Prim.Native.Nat.{ℕ, suc, _+_, _*_, _≤_, _<_}
 use mathlib.Core.Path.{_≡_}
-use mathlib.Core.Bool.{Bool, true, false}
+use mathlib.Core.Bool.{Bool, true, false, cond, _&&_}
 use mathlib.Core.List.{List, [], _∷_}
 use mathlib.Core.Logic.{_⊎_}
 use mathlib.Core.Option.{none}
+use lib.Dec.{eqb}
 use lib.ListN.{length, getD, drop}
 use Rattle.buffers.specs.Bytes.{put}
 use Rattle.geometry.specs.Disk.{bitPlace}
@@ -12,10 +13,11 @@ use Rattle.refusals.specs.Order.{refuse}
 use Rattle.refusals.specs.Answers.{refused, out}
 use Rattle.maps.specs.Bits.{has}
 use Rattle.slots.specs.Slot.{hidden, protected, kindOf, countOf, mapOf}
+use Rattle.slots.specs.Tracks.{isLabel}
 use Rattle.names.specs.Name.{Same, askable, padded}
 use Rattle.chains.specs.File.{File}
 use Rattle.directory.specs.Places.{slotAt, dirSector}
-use Rattle.directory.specs.Directory.{directory}
+use Rattle.directory.specs.Directory.{tracksOf, directory}
 use Rattle.surveys.specs.Survey.{free}
 use Rattle.disk.specs.Look.{look}
 use Rattle.files.specs.Calls.{reading, starting}
@@ -60,8 +62,8 @@ pub record AfterErase (d n new ss : List ℕ) : Type 0 where
   pub gone : Gone new n
   pub sectors : ss ≡ dirSector slot ∷ []
   -- "So freed sectors and slots are used again."
-  pub freed : (b : ℕ) → has (mapOf (file .bytes)) b ≡ true → freeBit 0 (directory new) b ≡ true
-  pub more : free 0 (directory new) ≡ free 0 (directory d) + countOf (file .bytes)
+  pub freed : (b : ℕ) → has (mapOf (file .bytes)) b ≡ true → freeBit (tracksOf new) (directory new) b ≡ true
+  pub more : free (tracksOf new) (directory new) ≡ free (tracksOf d) (directory d) + countOf (file .bytes)
 
 -- "Rename changes bytes 1 to 10"
 pub record AfterRename (d n to new ss : List ℕ) : Type 0 where
@@ -122,8 +124,10 @@ Outside k a n = (k < a) ⊎ (a + n ≤ k)
 pub record AfterSave (d : List ℕ) (w : Wish) (new ss : List ℕ) : Type 0 where
   pub takes : Takes d w ss
   pub long : length new ≡ length d
-  -- the slot's 256 bytes
-  pub slot : (k : ℕ) → k < 256 → getD new (slotAt (takes .slot) + k) 0 ≡ slotByte w (takes .bits) k
+  -- the slot's 256 bytes; "a save into slot 1 now keeps bytes 210 to 219, 252, 253 and 255."
+  pub slot : (k : ℕ) → k < 256
+      → getD new (slotAt (takes .slot) + k) 0
+      ≡ cond (eqb (takes .slot) 0 && isLabel k) (getD d (slotAt (takes .slot) + k) 0) (slotByte w (takes .bits) k)
   -- each data sector's 512: "510 payload bytes to a sector", then "the next track and sector. The last sector has 0, 0"
   pub payload : (j k : ℕ) → j < many w → k < 510 → getD new (bitPlace (getD (takes .bits) j 0) + k) 0 ≡ getD (stream w) (510 * j + k) 0
   pub track : (j : ℕ) → j < many w → getD new (bitPlace (getD (takes .bits) j 0) + 510) 0 ≡ nextTrack (drop (suc j) (takes .bits))

@@ -27,7 +27,7 @@ use Rattle.plans.specs.Saving.{taken, lowestSlot, slotTaken, stream, blo
 
 -- one slot of a look changed
 unfoldable pub upd : Look → ℕ → Option File → Look
-upd l i o = record { long = l .long; files = λ j. cond (eqb j i) o (l .files j) }
+upd l i o = record { long = l .long; label = l .label; files = λ j. cond (eqb j i) o (l .files j) }
 
 -- what a slot with these bytes holds
 unfoldable pub entryOf : List ℕ → (ℕ → List ℕ) → Option File
@@ -97,7 +97,7 @@ slotSteps old l i s sec = endSteps old i ++ (endStep old l i 0 s (entryOf s sec)
 
 -- "for a save the n data sectors in chain order and then the directory sector", before that one the one behind the end
 abbrev pub saveSteps : Bool → Look → ℕ → Wish → List ℕ → List (Step Look)
-saveSteps old l i w bs = dataSteps (stream w) 0 bs ++ slotSteps old l i (newSlot (slotsOf l) i w bs) (chained (stream w) 0 bs)
+saveSteps old l i w bs = dataSteps (stream w) 0 bs ++ slotSteps old l i (newSlot (l .label) i w bs) (chained (stream w) 0 bs)
 
 -- ---- what is refused, and what is done
 

@@ -9,6 +9,7 @@ use Rattle.maps.specs.Bits.{has}
 use Rattle.slots.specs.Slot.{mapOf}
 use Rattle.chains.specs.File.{File, sectorAt}
 use Rattle.directory.specs.Places.{slotBytes}
+use Rattle.directory.specs.Directory.{labelOf}
 use Rattle.disk.specs.Look.{look}
 use Rattle.disk.specs.Check.{checkDisk}
 use Rattle.files.specs.Calls.{listing, reading, starting}
@@ -29,6 +30,8 @@ pub record Safe (finds : File → Bool) (old new ss : List ℕ) : Type 0 where
   pub listings : (k : ℕ) → k < length ss → (buf : List ℕ) → listing (cut old new ss k) buf ≡ listing old buf
   pub readings : (k : ℕ) → k < length ss → (n buf : List ℕ) → reading (cut old new ss k) n buf ≡ reading old n buf
   pub starts : (k : ℕ) → k < length ss → (n : List ℕ) → starting (cut old new ss k) n ≡ starting old n
+  -- "Byte 255 of slot 1 .. is the number n beyond four" and "bytes 210 to 219, 252, 253": no change alters them, cut or not
+  pub label : (k : ℕ) → k ≤ length ss → labelOf (cut old new ss k) ≡ labelOf old
   -- "For k equal to that number the cut disk is the new one."
   pub whole : cut old new ss (length ss) ≡ new
   -- "For every k, the 256 slot bytes of each [other file] and the 512 bytes of every sector in its map are the same on the cut

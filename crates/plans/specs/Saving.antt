@@ -10,8 +10,9 @@ use Rattle.geometry.specs.Disk.{trackOf, sectorOf}
 use Rattle.refusals.specs.Order.{sweep}
 use Rattle.maps.specs.Bits.{has, clear, marked}
 use Rattle.slots.specs.Slot.{sectorsFor}
+use Rattle.slots.specs.Tracks.{isLabel, dataBit}
 use Rattle.names.specs.Name.{padded}
-use Rattle.directory.specs.Places.{slotCount, slots, dataBit}
+use Rattle.directory.specs.Places.{slotCount, slots}
 use Rattle.directory.specs.Directory.{held, Directory}
 use Rattle.surveys.specs.Survey.{union}
 use Rattle.plans.specs.Change.{Wish}
@@ -23,7 +24,7 @@ unfoldable pub passing : ℕ → ℕ → (ℕ → Bool) → List ℕ
 passing zero i p = []
 passing (suc n) i p = cond (p i) (i ∷ passing n (suc i) p) (passing n (suc i) p)
 
--- a data sector whose bit is clear in the used map, with n directory tracks beyond the four
+-- a data sector whose bit is clear in the used map, with n directory tracks beyond four: "a directory sector's bit is never free"
 abbrev pub freeBit : ℕ → Directory → ℕ → Bool
 freeBit n v b = dataBit n b && not (has (union v slots) b)
 
@@ -31,7 +32,7 @@ freeBit n v b = dataBit n b && not (has (union v slots) b)
 unfoldable pub taken : ℕ → Directory → Wish → List ℕ
 taken n v w = take (sectorsFor (length (w .body))) (passing 1560 0 (freeBit n v))
 
--- "and the lowest free slot": the lowest that holds no file
+-- "and the lowest free slot": the lowest of the directory's that holds no file
 unfoldable pub lowestSlot : ℕ → Directory → Option ℕ
 lowestSlot n v = sweep (slotCount n) (λ i. held (some i) (λ s. none) (v i))
 
@@ -105,6 +106,7 @@ slotByte w bs k =
     (cond (ltb k 245) (getD (w .exec) (k - 242) 0)
     (cond (ltb k 246) 255 0)))))))))))))))))
 
--- the slot that a save writes at slot i of a directory, of which it keeps nothing
-unfoldable pub newSlot : Directory → ℕ → Wish → List ℕ → List ℕ
-newSlot v i w bs = tab 256 (slotByte w bs)
+-- the slot that a save writes at slot i of a disk with this label:
+-- "a save into slot 1 now keeps bytes 210 to 219, 252, 253 and 255."
+unfoldable pub newSlot : (ℕ → ℕ) → ℕ → Wish → List ℕ → List ℕ
+newSlot label i w bs = tab 256 (λ k. cond (eqb i 0 && isLabel k) (label k) (slotByte w bs k))

@@ -70,7 +70,7 @@ fn saved(what: &[u8], image: &mut [u8], name: &[u8], list: &mut [u16]) {
     points::told(answer, list);
 }
 
-// The first bytes of slot `i`, counted from 0.
+// The first bytes of slot `i`, counted from 0. Where 81 would be lies the data sector of NEW 2, at track 4 sector 2.
 fn slot_bytes(image: &[u8], i: usize) {
     let s = directory::slot_at(image, i);
     points::three(

@@ -11,7 +11,7 @@ use Rattle.buffers.specs.Bytes.{tab, part}
 use Rattle.buffers.proofs.Lists.{length-tab, getD-tab, tab-of, tab-cong, length-part, part-at}
 use Rattle.refusals.specs.Order.{Reply, _else_, row}
 use Rattle.slots.specs.Slot.{kindOf, readable, facts}
-use Rattle.slots.specs.Rows.{dataCount}
+use Rattle.slots.proofs.Tracks.{data-few}
 use Rattle.chains.specs.File.{File, fileOf}
 use Rattle.headers.specs.Header.{fileLength, bodyByte, body}
 use Rattle.directory.specs.Directory.{slotOr}
@@ -48,11 +48,11 @@ pub record FileOpened (d n : List ℕ) (p : Place) : Type 0 where
 
 -- 510 × 1,560 less the nine bytes of the header
 pub length-few : (d n : List ℕ) (i : ℕ) → Named d n i → readable (kindOf (slotOr d i)) ≡ true → fileLength (fileOf d (slotOr d i)) ≤ longest
-unfolding checkDisk facts fileOf dataCount
+unfolding checkDisk facts fileOf
 length-few d n i w c =
     let f = named-slot d n i w in
     let g = sound (look d) (w .accepted) .good i (fileOf d (slotOr d i)) (f .below) (look-some d i (slotOr d i) (f .here)) in
-    omega (arith, body-fits (extra (look d)) (fileOf d (slotOr d i)) g c, g .few-sectors)
+    omega (arith, body-fits (extra (look d)) (fileOf d (slotOr d i)) g c, g .few-sectors, data-few (extra (look d)))
 
 -- the place of a file's reader past the first t bytes of the body, or past all of them
 abbrev pastOf : File → ℕ → Place

@@ -5,7 +5,7 @@ use mathlib.Core.Option.{none, some}
 use Rattle.buffers.specs.Bytes.{put}
 use Rattle.refusals.specs.Order.{Refusal, Reply, refuse}
 use Rattle.refusals.specs.declared.Reason.{Reason}
-use Rattle.refusals.specs.declared.Reason.the-variants.{NotAnImage, KindUnknown, NameMissing, CountOutOfRange, BitsDiffer, FirstNotOwn, LengthTooGreat, SectorShared, NameTwice, ChainBroken, HeaderDiffers, NameNotUsable, WrongKind, StartOutOfRange, NameNotFound, NameTaken, FileProtected, NoFreeSlot, TooFewSectors, BufferTooShort, NoSuchSector, WasteSectors, BodyTooLong, ReportFull}
+use Rattle.refusals.specs.declared.Reason.the-variants.{NotAnImage, KindUnknown, NameMissing, CountOutOfRange, BitsDiffer, FirstNotOwn, LengthTooGreat, SectorShared, NameTwice, ChainBroken, HeaderDiffers, NameNotUsable, WrongKind, StartOutOfRange, NameNotFound, NameTaken, FileProtected, NoFreeSlot, TooFewSectors, BufferTooShort, NoSuchSector, WasteSectors, TracksOutOfRange, BodyTooLong, ReportFull}
 use Rattle.refusals.specs.declared.Refused.{Refused}
 use Rattle.refusals.specs.declared.Verdict.{Verdict}
 use Rattle.refusals.specs.declared.Verdict.the-variants.{Sound, Unsound}
@@ -20,11 +20,11 @@ numberOf NotAnImage = 1
 numberOf KindUnknown = 2
 -- "3 is given no more": the number stays taken
 numberOf NameMissing = 3
--- the count is not 1 to 1,560
+-- the count is not 1 to the number of data sectors
 numberOf CountOutOfRange = 4
 -- the map's set bits are not as many as the count
 numberOf BitsDiffer = 5
--- the first address is not a data sector, or its bit is clear
+-- the first address is not a data sector, or its bit is clear, or a map bit is inside the directory
 numberOf FirstNotOwn = 6
 -- carried kind, and 510 × count is below 9 + length
 numberOf LengthTooGreat = 7
@@ -58,6 +58,8 @@ numberOf BufferTooShort = 20
 numberOf NoSuchSector = 21
 -- a carried kind whose count is above the least that its length needs (the release check alone)
 numberOf WasteSectors = 22
+-- the number of directory tracks beyond four is 36 to 254 (in the listing program above 0)
+numberOf TracksOutOfRange = 24
 -- kind 1 to 4, and 510 × count is below 9 + length
 numberOf BodyTooLong = 25
 -- a disk or join that would pass 65,535 disks

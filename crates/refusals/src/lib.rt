@@ -29,6 +29,7 @@ pub enum Reason {
     BufferTooShort,
     NoSuchSector,
     WasteSectors,
+    TracksOutOfRange,
     BodyTooLong,
     ReportFull,
 }
@@ -78,6 +79,7 @@ pub fn number_of(reason: Reason) -> usize
         Reason::BufferTooShort => 20,
         Reason::NoSuchSector => 21,
         Reason::WasteSectors => 22,
+        Reason::TracksOutOfRange => 24,
         Reason::BodyTooLong => 25,
         Reason::ReportFull => 31,
     }

@@ -14,13 +14,14 @@ use Rattle.buffers.proofs.Tests.{and-both}
 use Rattle.maps.proofs.Laws.{bits-le}
 use Rattle.refusals.specs.Order.{Refusal, Reply, Row, FirstRow}
 use Rattle.slots.specs.Slot.{kindOf, countOf}
-use Rattle.slots.specs.Rows.{dataCount}
+use Rattle.slots.proofs.Tracks.{tracks-few}
 use Rattle.directory.specs.Places.{slots}
 use Rattle.directory.specs.Directory.{held, Directory, liveAmong}
 use Rattle.surveys.specs.Survey.{union, usedMap, counted, free, freeOf}
+use Rattle.surveys.proofs.Pass.{used-few}
 use Rattle.disk.specs.Look.{Look, look, slotsOf, extra}
 use Rattle.disk.specs.Check.{checkLook, checkDisk}
-use Rattle.disk.specs.Given.{rows9, rows11, Given, by-length, by-slot, by-chain}
+use Rattle.disk.specs.Given.{rows9, rows11, Given, by-length, by-tracks, by-slot, by-chain}
 use Rattle.disk.proofs.Order.{given, check-positive}
 use Rattle.reports.specs.Numbers.{sum, Numbers, inClass, filesAmong, filesReport, acceptedReport, refusedReport, empty, plus, over, reportOf}
 use Rattle.reports.specs.Shelf.{Disks, ofAccepted, total, filesOf, dataOf, AddsUp}
@@ -102,8 +103,9 @@ check-low l r e = by (given l r e)
   where
     by : Given l r → r .number ≤ 32
     by (by-length n q) = omega (arith, ap (λ (x : Refusal). x .number) q)
-    by (by-slot n w) = first-low (rows9 l (w .at) (w .file)) (r .number) refl (w .number)
-    by (by-chain n c w) = first-low (rows11 l (w .at) (w .file)) (r .number) refl (w .number)
+    by (by-tracks n a b q) = omega (arith, ap (λ (x : Refusal). x .number) q)
+    by (by-slot n t w) = first-low (rows9 l (w .at) (w .file)) (r .number) refl (w .number)
+    by (by-chain n t c w) = first-low (rows11 l (w .at) (w .file)) (r .number) refl (w .number)
 
 one-refused : (x : ℕ) → x ≢ 0 → x ≤ 32 → sum 32 (λ n. cond (eqb (suc n) x) 1 0) ≡ 1
 one-refused x h l =
@@ -124,10 +126,10 @@ record One (d : List ℕ) (r : Numbers) : Type 0 where
 
 -- "file and free sectors": of an accepted disk they add up to its data sectors
 pub sectors-data : (l : Look) → checkLook l ≡ none → reportOf l .sectors + reportOf l .free ≡ dataOf l
-unfolding acceptedReport free freeOf usedMap counted extra dataCount
+unfolding acceptedReport free freeOf usedMap counted extra
 sectors-data l e =
     ap (λ (r : Numbers). r .sectors + r .free) (report-accepted l e)
-    ∙ omega (arith, used-sectors 0 (slotsOf l) (survey-accepts l e) slots (omega arith), bits-le (union (slotsOf l) slots))
+    ∙ omega (arith, used-sectors (extra l) (slotsOf l) (survey-accepts l e) slots (omega arith), used-few (extra l) (slotsOf l) (tracks-few (l .label 255)) (survey-accepts l e))
 
 one : (d : List ℕ) → One d (reportOf (look d))
 unfolding checkDisk acceptedReport filesReport refusedReport

@@ -17,10 +17,11 @@ use Rattle.refusals.specs.declared.Refused.{Refused}
 use Rattle.refusals.specs.declared.Verdict.the-variants.{Sound, Unsound}
 use Rattle.refusals.proofs.First.{else-none}
 use Rattle.refusals.proofs.Lowest.{positive}
-use Rattle.slots.specs.Rows.{dataCount}
+use Rattle.slots.specs.Tracks.{badTracks}
+use Rattle.slots.proofs.Tracks.{data-few}
 use Rattle.slots.specs.Slot.{countOf, mapOf}
 use Rattle.directory.specs.Places.{slots}
-use Rattle.directory.specs.Directory.{held, Directory, directory, liveAmong}
+use Rattle.directory.specs.Directory.{tracksOf, held, Directory, directory, liveAmong}
 use Rattle.surveys.specs.Survey.{survey, union, counted, usedMap, freeOf, free}
 use Rattle.surveys.specs.declared.Survey.{Survey}
 use Rattle.surveys.specs.declared.UsedMap.{UsedMap}
@@ -28,7 +29,7 @@ use Rattle.surveys.proofs.Union.{length-union, share-union}
 use Rattle.surveys.proofs.Pass.{survey-passed}
 use Rattle.disk.specs.Look.{Look, look, slotsOf, extra}
 use Rattle.disk.specs.Check.{chainAt, checkBy, checkLook, checkDisk, Examined}
-use Rattle.disk.proofs.Look.{look-slots}
+use Rattle.disk.proofs.Look.{look-slots, look-extra}
 use Rattle.reports.specs.Numbers.{sum, Numbers, sectorsAmong, filesReport, acceptedReport, refusedReport, reportOf, numberAt}
 use Rattle.reports.specs.Calls.{raisedAt, raised}
 use Rattle.reports.proofs.Places.{Place, at-accepted, at-refused, at-kind, at-sectors, at-free, at-class, placed, number-accepted, number-refused, number-kind, number-sectors, number-free, number-class, only, only-there, only-elsewhere}
@@ -52,8 +53,9 @@ used-sectors n v e (suc k) h = by (v k) refl (used-sectors n v e k (omega arith)
 pub survey-accepts : (l : Look) → checkLook l ≡ none → survey (extra l) (slotsOf l) ≡ none
 unfolding checkBy
 survey-accepts l e =
-    let a = else-none (row 1 0 (not (eqb (l .long) imageSize))) (survey (extra l) (slotsOf l) else sweep slots (chainAt l)) e in
-    else-none (survey (extra l) (slotsOf l)) (sweep slots (chainAt l)) (a .1) .0
+    let a = else-none (row 1 0 (not (eqb (l .long) imageSize))) (row 24 0 (badTracks (l .label 255)) else survey (extra l) (slotsOf l) else sweep slots (chainAt l)) e in
+    let b = else-none (row 24 0 (badTracks (l .label 255))) (survey (extra l) (slotsOf l) else sweep slots (chainAt l)) (a .1) in
+    else-none (survey (extra l) (slotsOf l)) (sweep slots (chainAt l)) (b .1) .0
 
 pub report-accepted : (l : Look) → checkLook l ≡ none → reportOf l ≡ acceptedReport (extra l) (slotsOf l)
 unfolding reportOf
@@ -64,9 +66,9 @@ unfolding reportOf
 report-refused l r e = ap (held (acceptedReport (extra l) (slotsOf l)) refusedReport) e
 
 -- the numbers that are raised fit
-pub free-small : (u : UsedMap) {f : ℕ} → f ≡ freeOf 0 u → f < 2 ^ 32
-unfolding freeOf dataCount
-free-small u e = omega arith
+pub free-small : (u : UsedMap) {f : ℕ} → f ≡ freeOf u → f < 2 ^ 32
+unfolding freeOf
+free-small u e = omega (arith, data-few (u .tracks))
 
 -- ---- a refused disk is one number more
 
@@ -127,18 +129,18 @@ module _ (d : List ℕ) (x : Survey) (w : Examined d x) where
     pub sectors : x .used .count ≡ sectorsAmong (directory d) slots
     pub few : x .used .count ≤ 1560
     pub files : x .files ≡ liveAmong (directory d) slots
-    pub used : x .used ≡ usedMap (directory d)
+    pub used : x .used ≡ usedMap (tracksOf d) (directory d)
 
   pub taken : x .verdict ≡ Sound → Taken
-  unfolding checkDisk usedMap counted extra
+  unfolding checkDisk usedMap counted
   taken e =
       let z : checkLook (look d) ≡ none = sym (w .reply) ∙ ap replyOf e in
-      let u : x .used ≡ usedMap (directory d) = w .used ∙ rw z in
+      let u : x .used ≡ usedMap (tracksOf d) (directory d) = w .used ∙ rw z in
       let b : x .used .count ≡ bitsOf (union (directory d) slots) = ap (λ (m : UsedMap). m .count) u in
-      let s : survey 0 (directory d) ≡ none = ap (survey 0) (sym (look-slots d)) ∙ survey-accepts (look d) z in
+      let s : survey (tracksOf d) (directory d) ≡ none = ap₂ survey (sym (look-extra d)) (sym (look-slots d)) ∙ survey-accepts (look d) z in
       record {
         fine = z;
-        sectors = b ∙ used-sectors 0 (directory d) s slots (omega arith);
+        sectors = b ∙ used-sectors (tracksOf d) (directory d) s slots (omega arith);
         few = omega (arith, bits-le (union (directory d) slots));
         files = w .files ∙ rw z;
         used = u;
@@ -158,9 +160,9 @@ module _ (d : List ℕ) (x : Survey) (w : Examined d x) where
         zero-plus : (a : ℕ) → 0 + a ≡ a
         zero-plus a = omega arith
 
-    pub counts-accepted : Taken → {f : ℕ} → f ≡ freeOf 0 (x .used) → {l′ l″ : List ℕ}
+    pub counts-accepted : Taken → {f : ℕ} → f ≡ freeOf (x .used) → {l′ l″ : List ℕ}
         → l′ ≡ raisedAt (raisedAt (raisedAt l 0 1) 97 (x .used .count)) 98 f → l″ ≡ raised l′ (numberAt (filesReport (directory d) slots)) → l″ ≡ raised l (numberAt (reportOf (look d)))
-    unfolding free extra
+    unfolding free
     counts-accepted t {f} p {l′} {l″} q o =
         raised-is l (numberAt (reportOf (look d))) l″ (raised-same l _ (numberAt (reportOf (look d))) l″ (raised-twice l _ _ l′ l″ third o) same)
       where
@@ -179,15 +181,15 @@ module _ (d : List ℕ) (x : Survey) (w : Examined d x) where
         third : Raised l (λ k. 0 + only 0 1 k + only 97 sectors k + only 98 f k) l′
         third = raised-more l (λ k. 0 + only 0 1 k + only 97 sectors k) _ second 98 f (omega arith) q
 
-        is-free : f ≡ free 0 v
-        is-free = p ∙ ap (freeOf 0) (t .used)
+        is-free : f ≡ free (tracksOf d) v
+        is-free = p ∙ ap freeOf (t .used)
 
         same : (k : ℕ) → k < 111 → 0 + only 0 1 k + only 97 sectors k + only 98 f k + numberAt (filesReport v slots) k ≡ numberAt (reportOf (look d)) k
         same k m =
             ap (λ (a : ℕ). a + only 97 sectors k + only 98 f k + numberAt (filesReport v slots) k) (zero-plus (only 0 1 k))
             ∙ ap₂ (λ (a b : ℕ). only 0 1 k + only 97 a k + only 98 b k + numberAt (filesReport v slots) k) (t .sectors) is-free
-            ∙ number-of-accepted 0 v k
-            ∙ ap (λ (v : Directory). numberAt (acceptedReport 0 v) k) (sym (look-slots d))
+            ∙ number-of-accepted (tracksOf d) v k
+            ∙ ap₂ (λ (n : ℕ) (v : Directory). numberAt (acceptedReport n v) k) (sym (look-extra d)) (sym (look-slots d))
             ∙ ap (λ (a : Numbers). numberAt a k) (sym (report-accepted (look d) (t .fine)))
           where
             zero-plus : (a : ℕ) → 0 + a ≡ a

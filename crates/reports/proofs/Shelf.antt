@@ -15,7 +15,7 @@ use Rattle.buffers.proofs.Counts.{count-le}
 use Rattle.refusals.specs.Order.{Refusal, Reply, refuse, row}
 use Rattle.refusals.specs.Answers.{Outcome, done, refused, out, filled}
 use Rattle.slots.specs.Slot.{kindOf, countOf}
-use Rattle.slots.specs.Rows.{dataCount}
+use Rattle.slots.proofs.Tracks.{data-few}
 use Rattle.directory.specs.Places.{slots}
 use Rattle.directory.specs.Directory.{held}
 use Rattle.disk.specs.Look.{Look, look, slotsOf, extra}
@@ -51,9 +51,8 @@ one-or-none : (t : Bool) → cond {A = ℕ} t 1 0 ≤ 65535
 one-or-none true = omega arith
 one-or-none false = omega arith
 
-data-few : (l : Look) → dataOf l ≤ 65535
-unfolding dataCount
-data-few l = omega arith
+data-small : (l : Look) → dataOf l ≤ 65535
+data-small l = omega (arith, data-few (extra l))
 
 small-accepted : (l : Look) → checkLook l ≡ none → (k : ℕ) → numberAt (reportOf l) k ≤ 65535
 unfolding acceptedReport filesReport filesAmong
@@ -72,8 +71,8 @@ small-accepted l e k = at (placed k)
     at (at-accepted h) = omega (arith, is, number-accepted a k h)
     at (at-refused h m) = omega (arith, is, number-refused a k h m)
     at (at-kind h m) = omega (arith, is, number-kind a k h m, count-le slots (λ i. held false (λ s. eqb (k - 33) (kindOf s)) (slotsOf l i)))
-    at (at-sectors h) = omega (arith, number-sectors r k h, sectors-data l e, data-few l)
-    at (at-free h) = omega (arith, number-free r k h, sectors-data l e, data-few l)
+    at (at-sectors h) = omega (arith, number-sectors r k h, sectors-data l e, data-small l)
+    at (at-free h) = omega (arith, number-free r k h, sectors-data l e, data-small l)
     at (at-class h) = omega (arith, is, number-class a k h, count-le slots (λ i. held false (λ s. inClass (k - 99) (countOf s)) (slotsOf l i)))
 
 small-refused : (l : Look) (r : Refusal) → checkLook l ≡ some r → (k : ℕ) → numberAt (reportOf l) k ≤ 65535

@@ -4,7 +4,7 @@ use mathlib.Core.Path.{_≡_}
 use mathlib.Core.List.{List, [], _∷_}
 use lib.ListN.{length}
 use Rattle.refusals.specs.Answers.{refused}
-use Rattle.slots.specs.Rows.{dataCount}
+use Rattle.slots.specs.Tracks.{dataCount}
 use Rattle.directory.specs.Places.{slots}
 use Rattle.directory.specs.Directory.{held, liveAmong}
 use Rattle.disk.specs.Look.{Look, look, slotsOf, extra}

@@ -1,8 +1,9 @@
 -- The sectors of the directory that a save writes, one or two, and the old name behind its slot.
 use Prim.Native.Nat.{ℕ, suc, _+_, _≤_, _<_}
-use mathlib.Core.Path.{_≡_, sym, ap, ap₂, _∙_}
+use mathlib.Core.Path.{_≡_, refl, sym, ap, ap₂, _∙_}
 use mathlib.Core.Bool.{Bool, true, false, not, _&&_}
 use mathlib.Core.List.{List, [], _∷_}
+use mathlib.Core.Logic.{⊎-elim}
 use native.Mathlib.Nat.{add-zero}
 use native.Mathlib.Numerals.{add-one}
 use native.Mathlib.Omega.{arith}
@@ -10,13 +11,16 @@ use borrow.Author.Tests.{lt-ltb, le-ltb}
 use lib.Dec.{eqb}
 use lib.ListN.{length, set}
 use Rattle.buffers.specs.Bytes.{put}
-use Rattle.buffers.proofs.Lists.{put-one, put-append}
+use Rattle.buffers.proofs.Lists.{below-or-not, put-one, put-append}
+use Rattle.buffers.proofs.Tests.{and-both}
 use Rattle.slots.specs.Slot.{isNameless}
-use Rattle.directory.specs.Places.{slots, slotAt, slotPlace, dirSector}
-use Rattle.directory.specs.Directory.{isSlot, nameless, slotOr}
-use Rattle.directory.proofs.Places.{slot-placed}
+use Rattle.directory.specs.Places.{slots, pastGap, slotAt, slotPlace, dirSector, dirSectorOr}
+use Rattle.directory.specs.Directory.{slotsIn, isSlot, nameless, slotOr}
+use Rattle.directory.proofs.Places.{slot-placed, dir-placed}
+use Rattle.directory.proofs.Label.{slots-few}
 use Rattle.directory.proofs.Ends.{slot-read}
 use Rattle.plans.specs.Plan.{oldName, together, cleared, dirSectors}
+use Rattle.changes.proofs.Laws.{sector-small}
 
 -- ---- an old name behind slot i: n says whether that slot has no name
 
@@ -30,15 +34,15 @@ module _ (d : List ℕ) (i : ℕ) (h : i < slots) {s : List ℕ} {n : Bool} (e :
   old-named t = sym (rw (met-nameless d i h e q ∙ t))
 
   -- the last slot has none behind it
-  pub old-last : n ≡ true → slots ≤ i + 1 → false ≡ oldName d i
+  pub old-last : n ≡ true → slotsIn d ≤ i + 1 → false ≡ oldName d i
   unfolding oldName isSlot
-  old-last t l = sym (rw (met-nameless d i h e q ∙ t, le-ltb (suc i) slots (omega arith)))
+  old-last t l = sym (rw (met-nameless d i h e q ∙ t, le-ltb (suc i) (slotsIn d) (omega arith)))
 
-  pub old-by : n ≡ true → i + 1 < slots → {z : List ℕ} {m : Bool} → z ≡ slotOr d (i + 1) → m ≡ isNameless z → not m ≡ oldName d i
+  pub old-by : n ≡ true → i + 1 < slotsIn d → {z : List ℕ} {m : Bool} → z ≡ slotOr d (i + 1) → m ≡ isNameless z → not m ≡ oldName d i
   unfolding oldName isSlot
   old-by t l {z} {m} p r =
-      let k : nameless d (suc i) ≡ m = ap (nameless d) (sym (add-one i)) ∙ met-nameless d (i + 1) l p r in
-      sym (rw (met-nameless d i h e q ∙ t, lt-ltb (suc i) slots (omega arith), k))
+      let k : nameless d (suc i) ≡ m = ap (nameless d) (sym (add-one i)) ∙ met-nameless d (i + 1) (omega (arith, slots-few d)) p r in
+      sym (rw (met-nameless d i h e q ∙ t, lt-ltb (suc i) (slotsIn d) (omega arith), k))
 
 -- ---- the next slot cleared
 
@@ -56,10 +60,27 @@ module _ (d : List ℕ) (i : ℕ) {old : Bool} where
 pub apart-not : (i : ℕ) (old : Bool) → old ≡ false → false ≡ (old && not (together i))
 apart-not i old q = sym (ap (λ (t : Bool). t && not (together i)) q)
 
-pub apart-by : (i : ℕ) (old : Bool) → old ≡ true → (a b : ℕ) → a ≡ dirSector (i + 1) → b ≡ dirSector i → not (eqb a b) ≡ (old && not (together i))
+-- the last slot's sector is no other's
+last : eqb (dirSectorOr 778) (dirSectorOr 777) ≡ eqb (dirSector 778) (dirSector 777)
+unfolding dirSectorOr dirSector pastGap
+last = refl
+
+-- its sector and the next slot's, where there may be none
+together-by : (i : ℕ) → i < slots → eqb (dirSectorOr (suc i)) (dirSectorOr i) ≡ together i
 unfolding together
-apart-by i old q a b p r =
-    ap₂ (λ (x y : ℕ). not (eqb x y)) (p ∙ ap dirSector (add-one i)) r ∙ sym (ap (λ (t : Bool). t && not (eqb (dirSector (suc i)) (dirSector i))) q)
+together-by i h =
+    ⊎-elim (λ (l : suc i < slots). ap₂ eqb (dir-placed (suc i) l) (dir-placed i h))
+    (λ (l : slots ≤ suc i). let z : i ≡ 777 = omega arith in rw z last) (below-or-not (suc i) slots)
+
+pub apart-by : (i : ℕ) (old : Bool) → i < slots → old ≡ true → (a b : ℕ) → a ≡ dirSectorOr (i + 1) → b ≡ dirSectorOr i → not (eqb a b) ≡ (old && not (together i))
+apart-by i old h q a b p r =
+    ap₂ (λ (x y : ℕ). not (eqb x y)) (p ∙ ap dirSectorOr (add-one i)) r ∙ ap not (together-by i h) ∙ sym (ap (λ (t : Bool). t && not (together i)) q)
+
+-- every such number fits the list
+pub or-small : (i n : ℕ) → n ≡ dirSectorOr i → n < 65536
+unfolding dirSectorOr
+or-small i n e =
+    ⊎-elim (λ h. sector-small i n e h) (λ h. let z : dirSectorOr i ≡ 1600 = rw (le-ltb i slots h) in omega arith) (below-or-not i slots)
 
 module _ (old : Bool) (i : ℕ) {two : Bool} (e : two ≡ (old && not (together i))) where
   dirs-two : two ≡ true → dirSectors old i ≡ dirSector (suc i) ∷ dirSector i ∷ []
@@ -77,11 +98,12 @@ module _ (old : Bool) (i : ℕ) {two : Bool} (e : two ≡ (old && not (together 
   one-long q = ap length (dirs-one q)
 
   -- their numbers on the list
-  module _ (l : List ℕ) (a : ℕ) where
-    pub put-both : two ≡ true → (x y : ℕ) → x ≡ dirSector (i + 1) → y ≡ dirSector i → set (set l a x) (a + 1) y ≡ put l a (dirSectors old i)
+  module _ (h : i < slots) (n : old ≡ true → suc i < slots) (l : List ℕ) (a : ℕ) where
+    pub put-both : two ≡ true → (x y : ℕ) → x ≡ dirSectorOr (i + 1) → y ≡ dirSectorOr i → set (set l a x) (a + 1) y ≡ put l a (dirSectors old i)
     put-both q x y p r =
         put-one (set l a x) (a + 1) y ∙ ap (λ (z : List ℕ). put z (a + 1) (y ∷ [])) (put-one l a x) ∙ put-append l a (x ∷ []) (y ∷ [])
-        ∙ ap₂ (λ (u v : ℕ). put l a (u ∷ v ∷ [])) (p ∙ ap dirSector (add-one i)) r ∙ sym (ap (put l a) (dirs-two q))
+        ∙ ap₂ (λ (u v : ℕ). put l a (u ∷ v ∷ [])) (p ∙ ap dirSectorOr (add-one i) ∙ dir-placed (suc i) (n (and-both old (not (together i)) (sym e ∙ q) .0))) (r ∙ dir-placed i h)
+        ∙ sym (ap (put l a) (dirs-two q))
 
-    pub put-alone : two ≡ false → (y : ℕ) → y ≡ dirSector i → set l a y ≡ put l a (dirSectors old i)
-    put-alone q y r = put-one l a y ∙ ap (λ (v : ℕ). put l a (v ∷ [])) r ∙ sym (ap (put l a) (dirs-one q))
+    pub put-alone : two ≡ false → (y : ℕ) → y ≡ dirSectorOr i → set l a y ≡ put l a (dirSectors old i)
+    put-alone q y r = put-one l a y ∙ ap (λ (v : ℕ). put l a (v ∷ [])) (r ∙ dir-placed i h) ∙ sym (ap (put l a) (dirs-one q))

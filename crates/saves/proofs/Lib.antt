@@ -5,3 +5,4 @@ pub mod Numbers
 pub mod Dirs
 pub mod Whole
 pub mod Planned
+pub mod KeptSlot

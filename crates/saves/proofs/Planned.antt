@@ -1,6 +1,6 @@
 -- The plan of a save on an accepted disk, by the tests that led there, and what the writing is then entered with.
 use Prim.Native.Nat.{ℕ, zero, suc, _+_, _≤_, _<_}
-use mathlib.Core.Path.{_≡_, refl, sym, ap, ap₂, _∙_}
+use mathlib.Core.Path.{_≡_, refl, sym, ap, ap₂, _∙_, subst}
 use mathlib.Core.Bool.{Bool, true, false, cond, not, _&&_, and-eq-true-iff}
 use mathlib.Core.List.{List, _∷_}
 use mathlib.Core.Option.{Option, none, some}
@@ -12,16 +12,18 @@ use Rattle.maps.specs.Bits.{has}
 use Rattle.refusals.specs.Order.{Refusal, refuse, Reply, _else_, row}
 use Rattle.refusals.specs.Answers.{Outcome, done, refused}
 use Rattle.slots.specs.Slot.{carried, sectorsFor}
-use Rattle.slots.specs.Rows.{dataCount}
-use Rattle.directory.specs.Places.{slotCount, slots}
-use Rattle.directory.specs.Directory.{held, Directory, directory}
+use Rattle.slots.specs.Tracks.{dataBit}
+use Rattle.slots.proofs.Tracks.{data-few}
+use Rattle.directory.specs.Places.{slots}
+use Rattle.directory.specs.Directory.{held, Directory, tracksOf, directory}
 use Rattle.surveys.specs.Survey.{union, usedMap, freeOf, free}
 use Rattle.surveys.specs.declared.UsedMap.{UsedMap}
-use Rattle.directory.proofs.Places.{data-all}
-use Rattle.surveys.proofs.Union.{counted-bytes}
-use Rattle.disk.specs.Look.{Look, look, extra}
-use Rattle.disk.proofs.Look.{look-slots}
+use Rattle.directory.proofs.Label.{slots-few}
+use Rattle.surveys.proofs.Union.{counted-bytes, counted-tracks}
+use Rattle.disk.specs.Look.{Look, look}
+use Rattle.disk.proofs.Look.{look-slots, look-extra}
 use Rattle.disk.proofs.Rows.{carried-is}
+use Rattle.disk.proofs.Examined.{accepted-size}
 use Rattle.disk.specs.Check.{checkDisk}
 use Rattle.files.specs.Calls.{at, barred}
 use Rattle.files.specs.Steps.{Accepted}
@@ -29,6 +31,7 @@ use Rattle.steps.specs.Steps.{Step, numbers}
 use Rattle.plans.specs.Change.{Wish, save, between, usable}
 use Rattle.plans.specs.Saving.{passing, freeBit, taken, lowestSlot, slotTaken}
 use Rattle.plans.specs.Plan.{no, go, orNo, nameTaken, saveReply, planOf, plan, oldName, dirSectors, saveSteps, changed, change}
+use Rattle.plans.proofs.Frame.{disk-sound}
 use Rattle.plans.proofs.Free.{taken-run, taken-long, run-at, lowest-slot}
 use Rattle.plans.proofs.Ended.{old-is}
 use Rattle.plans.proofs.Refused.{save-long}
@@ -36,7 +39,8 @@ use Rattle.plans.proofs.Sure.{save-tested}
 use Rattle.changes.specs.Settled.{Made}
 use Rattle.changes.proofs.Laws.{change-planned, settled-no, settled-short, settled-done}
 use Rattle.taking.specs.declared.Start.{Start}
-use Rattle.taking.specs.Taken.{askedReply, soughtIn, slotFor, unset, lowest}
+use Rattle.taking.specs.Taken.{askedReply, soughtIn, slotFor, shutMap, unset, lowest}
+use Rattle.taking.proofs.Shut.{shut-is}
 use Rattle.saves.specs.Write.{wishFor, Savable, Open}
 
 -- ---- the rows of a save, by the slot that it takes
@@ -53,30 +57,30 @@ module _ (d : List ℕ) (s : Start) (name exec info body : List ℕ) where
   w = wishFor s name exec info body
 
   abbrev fewer : Bool
-  fewer = ltb (free 0 (directory d)) (sectorsFor (length body))
+  fewer = ltb (free (tracksOf d) (directory d)) (sectorsFor (length body))
 
   -- 18 and 19
   abbrev last : Option ℕ → Reply
   last o = row 18 0 (held true (λ i. false) o) else row 19 0 fewer
 
-  reply-is : saveReply 0 (directory d) w ≡ ((askedReply s name else nameTaken (directory d) name) else last (lowestSlot 0 (directory d)))
+  reply-is : saveReply (tracksOf d) (directory d) w ≡ ((askedReply s name else nameTaken (directory d) name) else last (lowestSlot (tracksOf d) (directory d)))
   unfolding saveReply askedReply
   reply-is =
       rows-order (row 12 0 (not (usable name))) (row 13 0 (not (carried (s .kind)))) (row 14 0 (not (leb (s .page) 31 && between 32768 (s .offset) 49151)))
-      (nameTaken (directory d) name) (last (lowestSlot 0 (directory d)))
+      (nameTaken (directory d) name) (last (lowestSlot (tracksOf d) (directory d)))
 
-  plan-is : (q : Reply) → saveReply 0 (directory d) w ≡ q
-      → plan (save w) d ≡ orNo q (go (saveSteps (oldName d (slotTaken 0 (directory d))) (look d) (slotTaken 0 (directory d)) w (taken 0 (directory d) w)))
-  unfolding planOf extra
+  plan-is : (q : Reply) → saveReply (tracksOf d) (directory d) w ≡ q
+      → plan (save w) d ≡ orNo q (go (saveSteps (oldName d (slotTaken (tracksOf d) (directory d))) (look d) (slotTaken (tracksOf d) (directory d)) w (taken (tracksOf d) (directory d) w)))
+  unfolding planOf
   plan-is q e =
-      ap (λ (v : Directory). orNo (saveReply 0 v w) (go (saveSteps (oldName d (slotTaken 0 v)) (look d) (slotTaken 0 v) w (taken 0 v w)))) (look-slots d)
-      ∙ ap (λ (q : Reply). orNo q (go (saveSteps (oldName d (slotTaken 0 (directory d))) (look d) (slotTaken 0 (directory d)) w (taken 0 (directory d) w)))) e
+      ap₂ (λ (n : ℕ) (v : Directory). orNo (saveReply n v w) (go (saveSteps (oldName d (slotTaken n v)) (look d) (slotTaken n v) w (taken n v w)))) (look-extra d) (look-slots d)
+      ∙ ap (λ (q : Reply). orNo q (go (saveSteps (oldName d (slotTaken (tracksOf d) (directory d))) (look d) (slotTaken (tracksOf d) (directory d)) w (taken (tracksOf d) (directory d) w)))) e
 
   pub save-barred : (buf : List ℕ) → checkDisk d ≡ none → (r : Refusal) → barred r ≡ slotFor d s name → changed (refused r) d buf ≡ change (save w) d buf
   unfolding slotFor
   save-barred buf a r e =
       settled-no d buf r (refused r) refl
-      ∙ change-planned (save w) d buf a (no r) (plan-is (some r) (reply-is ∙ by (askedReply s name else nameTaken (directory d) name) (lowestSlot 0 (directory d)) e))
+      ∙ change-planned (save w) d buf a (no r) (plan-is (some r) (reply-is ∙ by (askedReply s name else nameTaken (directory d) name) (lowestSlot (tracksOf d) (directory d)) e))
     where
       by : (p : Reply) (o : Option ℕ) → barred r ≡ soughtIn p o → (p else last o) ≡ some r
       by (some x) o w = let z : x ≡ r = cc in ap some z
@@ -84,29 +88,28 @@ module _ (d : List ℕ) (s : Start) (name exec info body : List ℕ) where
       by none none w = let z : refuse 18 0 ≡ r = cc in ap some z
 
   -- a slot that is taken is the lowest, and only 19 is left
-  taken-at : (i : ℕ) → at i ≡ slotFor d s name → (saveReply 0 (directory d) w ≡ row 19 0 fewer) × (lowestSlot 0 (directory d) ≡ some i)
+  taken-at : (i : ℕ) → at i ≡ slotFor d s name → (saveReply (tracksOf d) (directory d) w ≡ row 19 0 fewer) × (lowestSlot (tracksOf d) (directory d) ≡ some i)
   unfolding slotFor
-  taken-at i e = by (askedReply s name else nameTaken (directory d) name) (lowestSlot 0 (directory d)) reply-is refl e
+  taken-at i e = by (askedReply s name else nameTaken (directory d) name) (lowestSlot (tracksOf d) (directory d)) reply-is refl e
     where
-      by : (p : Reply) (o : Option ℕ) → saveReply 0 (directory d) w ≡ (p else last o) → lowestSlot 0 (directory d) ≡ o → at i ≡ soughtIn p o
-          → (saveReply 0 (directory d) w ≡ row 19 0 fewer) × (lowestSlot 0 (directory d) ≡ some i)
+      by : (p : Reply) (o : Option ℕ) → saveReply (tracksOf d) (directory d) w ≡ (p else last o) → lowestSlot (tracksOf d) (directory d) ≡ o → at i ≡ soughtIn p o
+          → (saveReply (tracksOf d) (directory d) w ≡ row 19 0 fewer) × (lowestSlot (tracksOf d) (directory d) ≡ some i)
       by (some r) o a b w = let z : _≡_ {A = ℕ} 0 1 = cc in absurd (omega arith)
       by none none a b w = let z : _≡_ {A = ℕ} 0 1 = cc in absurd (omega arith)
       by none (some j) a b w = let z : j ≡ i = cc in (a, b ∙ ap some z)
 
   pub place-few : (i : ℕ) → at i ≡ slotFor d s name → i < slots
-  unfolding slotCount
-  place-few i e = lowest-slot 0 (directory d) i (taken-at i e .1) .below
+  place-few i e = omega (arith, lowest-slot (tracksOf d) (directory d) i (taken-at i e .1) .below, slots-few d)
 
 -- ---- the free sectors, and the bits taken of them
 
-free-is : (d : List ℕ) (u : UsedMap) → Accepted d u → (f : ℕ) → f ≡ freeOf 0 u → free 0 (directory d) ≡ f
+free-is : (d : List ℕ) (u : UsedMap) → Accepted d u → (f : ℕ) → f ≡ freeOf u → free (tracksOf d) (directory d) ≡ f
 unfolding free
-free-is d u a f e = sym (e ∙ ap (freeOf 0) (a .used))
+free-is d u a f e = sym (e ∙ ap freeOf (a .used))
 
-pub free-le : (n : ℕ) (u : UsedMap) → freeOf n u ≤ 1560
-unfolding freeOf dataCount
-free-le n u = omega arith
+pub free-le : (u : UsedMap) → freeOf u ≤ 1560
+unfolding freeOf
+free-le u = omega (arith, data-few (u .tracks))
 
 passing-cong : (n i : ℕ) (p q : ℕ → Bool) → ((b : ℕ) → b < i + n → p b ≡ q b) → passing n i p ≡ passing n i q
 unfolding passing
@@ -114,24 +117,30 @@ passing-cong zero i p q h = refl
 passing-cong (suc n) i p q h =
     ap₂ (λ (t : Bool) (x : List ℕ). cond t (i ∷ x) x) (h i (omega arith)) (passing-cong n (suc i) p q (λ b l. h b (omega arith)))
 
-taken-is : (d : List ℕ) (u : UsedMap) → Accepted d u → (v : Wish) → lowest (u .bytes) (sectorsFor (length (v .body))) ≡ taken 0 (directory d) v
+taken-is : (d : List ℕ) (u : UsedMap) → Accepted d u → (v : Wish) → lowest (shutMap u) (sectorsFor (length (v .body))) ≡ taken (tracksOf d) (directory d) v
 unfolding taken lowest usedMap
 taken-is d u a v =
     ap (take (sectorsFor (length (v .body))))
-    (passing-cong 1560 0 (unset (u .bytes)) (freeBit 0 (directory d))
-    (λ b h. rw (data-all b (omega arith)) (ap (λ (m : List ℕ). not (has m b)) (counted-bytes (union (directory d) slots) u (a .used)))))
+    (passing-cong 1560 0 (unset (shutMap u)) (freeBit (tracksOf d) (directory d))
+    (λ b h.
+    shut-is u b (omega arith)
+    ∙ ap₂ (λ (n : ℕ) (m : List ℕ). dataBit n b && not (has m b)) (counted-tracks (tracksOf d) (union (directory d) slots) u (a .used))
+    (counted-bytes (tracksOf d) (union (directory d) slots) u (a .used))))
 
-bits-long : (d : List ℕ) (v : Wish) → sectorsFor (length (v .body)) ≤ free 0 (directory d) → length (taken 0 (directory d) v) ≡ sectorsFor (length (v .body))
-unfolding extra
-bits-long d v h = rw (look-slots d) at (taken-long (look d) v (rw (look-slots d) h))
+bits-long : (d : List ℕ) → checkDisk d ≡ none → (v : Wish) → sectorsFor (length (v .body)) ≤ free (tracksOf d) (directory d)
+    → length (taken (tracksOf d) (directory d) v) ≡ sectorsFor (length (v .body))
+bits-long d ok v h = rw (look-slots d, look-extra d) at (taken-long (look d) (disk-sound d ok) v (rw (look-slots d, look-extra d) h))
+
+pub open-long : (d : List ℕ) (u : UsedMap) (i : ℕ) (s : Start) (name : List ℕ) → Open d u i s name → 256 ≤ length d
+open-long d u i s name o = omega (arith, accepted-size d (o .disk .accepted))
 
 -- ---- at the slot that it takes
 
-module _ (d : List ℕ) (u : UsedMap) (i : ℕ) (s : Start) (name exec info body buf : List ℕ) (o : Open d u i s name) (f : ℕ) (e : f ≡ freeOf 0 u) where
+module _ (d : List ℕ) (u : UsedMap) (i : ℕ) (s : Start) (name exec info body buf : List ℕ) (o : Open d u i s name) (f : ℕ) (e : f ≡ freeOf u) where
   abbrev v : Wish
   v = wishFor s name exec info body
 
-  reply-at : (t : Bool) → ltb f (sectorsFor (length body)) ≡ t → saveReply 0 (directory d) v ≡ row 19 0 t
+  reply-at : (t : Bool) → ltb f (sectorsFor (length body)) ≡ t → saveReply (tracksOf d) (directory d) v ≡ row 19 0 t
   reply-at t h = taken-at d s name exec info body i (o .place) .0 ∙ ap (row 19 0) (ap (λ (f : ℕ). ltb f (sectorsFor (length body))) (free-is d u (o .disk) f e) ∙ h)
 
   pub save-few : f < sectorsFor (length body) → (x : Outcome) → x ≡ refused (refuse 19 0) → changed x d buf ≡ change (save v) d buf
@@ -143,60 +152,68 @@ module _ (d : List ℕ) (u : UsedMap) (i : ℕ) (s : Start) (name exec info body
   -- more than all sectors hold
   pub save-large : 795591 < length body → (x : Outcome) → x ≡ refused (refuse 19 0) → changed x d buf ≡ change (save v) d buf
   unfolding sectorsFor
-  save-large h = save-few (omega (arith, e, free-le 0 u))
+  save-large h = save-few (omega (arith, e, free-le u))
 
   -- c: how many sectors of the directory
   module _ (n : ℕ) (m : n ≡ sectorsFor (length body)) (h : n ≤ f) (old : Bool) (eo : old ≡ oldName d i) (c : ℕ) (ec : c ≡ length (dirSectors old i)) where
     abbrev steps : List (Step Look)
-    steps = saveSteps old (look d) i v (lowest (u .bytes) n)
+    steps = saveSteps old (look d) i v (lowest (shutMap u) n)
 
-    none-left : saveReply 0 (directory d) v ≡ none
+    none-left : saveReply (tracksOf d) (directory d) v ≡ none
     none-left = reply-at false (le-ltb f (sectorsFor (length body)) (omega (arith, m)))
 
-    bits-are : lowest (u .bytes) n ≡ taken 0 (directory d) v
-    bits-are = ap (lowest (u .bytes)) m ∙ taken-is d u (o .disk) v
+    bits-are : lowest (shutMap u) n ≡ taken (tracksOf d) (directory d) v
+    bits-are = ap (lowest (shutMap u)) m ∙ taken-is d u (o .disk) v
 
     plan-go : plan (save v) d ≡ go steps
     plan-go =
         plan-is d s name exec info body none none-left
         ∙ ap₂ (λ (i : ℕ) (bs : List ℕ). go (saveSteps (oldName d i) (look d) i v bs)) (ap (held 0 (λ i. i)) (taken-at d s name exec info body i (o .place) .1)) (sym bits-are)
-        ∙ ap (λ (t : Bool). go (saveSteps t (look d) i v (lowest (u .bytes) n))) (sym eo)
+        ∙ ap (λ (t : Bool). go (saveSteps t (look d) i v (lowest (shutMap u) n))) (sym eo)
 
-    long : length (lowest (u .bytes) n) ≡ n
-    long = ap length bits-are ∙ bits-long d v (omega (arith, m, free-is d u (o .disk) f e)) ∙ sym m
+    long : length (lowest (shutMap u) n) ≡ n
+    long = ap length bits-are ∙ bits-long d (o .disk .accepted) v (omega (arith, m, free-is d u (o .disk) f e)) ∙ sym m
 
     many : length (numbers steps) ≡ n + c
-    many = save-long old (look d) i v (lowest (u .bytes) n) ∙ ap₂ _+_ long (sym ec)
+    many = save-long old (look d) i v (lowest (shutMap u) n) ∙ ap₂ _+_ long (sym ec)
 
     pub save-short : length buf < n + c → (x : Outcome) → x ≡ refused (refuse 20 0) → changed x d buf ≡ change (save v) d buf
     save-short l x p = settled-short steps d buf (omega (arith, many)) x p ∙ change-planned (save v) d buf (o .disk .accepted) (go steps) plan-go
 
     module _ (l : n + c ≤ length buf) where
-      pub savable : Savable (u .bytes) n i old s body buf
+      shut-savable : Savable (shutMap u) n i old s body buf
       unfolding sectorsFor
-      savable =
-          let t = save-tested 0 (directory d) v none-left in
+      shut-savable =
+          let t = save-tested (tracksOf d) (directory d) v none-left in
           let k = carried-is (s .kind) (t .carried-kind) in
           let r = and-eq-true-iff (leb (s .page) 31) (between 32768 (s .offset) 49151) .0 (t .range) in
           let p : s .page ≤ 31 = leb-true (s .page) 31 (r .0) in
           let q : s .offset ≤ 49151 = leb-true (s .offset) 49151 (and-eq-true-iff (leb 32768 (s .offset)) (leb (s .offset) 49151) .0 (r .1) .1) in
-          let z : f ≤ 1560 = omega (arith, e, free-le 0 u) in
+          let z : f ≤ 1560 = omega (arith, e, free-le u) in
           record {
             sectors = m;
             file = record {
               slot = place-few d s name exec info body i (o .place);
-              next = λ q. old-is d i (sym eo ∙ q) .1;
+              next = λ q. omega (arith, old-is d i (sym eo ∙ q) .1, slots-few d);
               plain = record { kind = omega (arith, k .1); page = omega arith; offset = omega arith; pages = omega (arith, m) };
               bits = record {
                 few = omega (arith, long);
-                small = λ k j. rw bits-are (run-at (freeBit 0 (directory d)) 0 (taken 0 (directory d) v) (taken-run 0 (directory d) v) k (omega (arith, ap length bits-are)) .small);
+                small = λ k j. rw bits-are (run-at (freeBit (tracksOf d) (directory d)) 0 (taken (tracksOf d) (directory d) v) (taken-run (tracksOf d) (directory d) v) k (omega (arith, ap length bits-are)) .small);
               };
             };
             enough = long;
             room = omega (arith, ec);
           }
 
-      pub save-done : (d′ buf′ : List ℕ) → Made steps d buf d′ buf′ (n + length (dirSectors old i)) → changed (done (n + c) 0) d′ buf′ ≡ change (save v) d buf
-      save-done d′ buf′ w =
-          ap (λ (c : ℕ). changed (done (n + c) 0) d′ buf′) ec
-          ∙ settled-done steps d buf (omega (arith, many)) d′ buf′ (n + length (dirSectors old i)) w ∙ change-planned (save v) d buf (o .disk .accepted) (go steps) plan-go
+      -- b is the map of the bits that cannot be taken, as the code has it
+      module _ (b : List ℕ) (q : b ≡ shutMap u) where
+        pub savable : Savable b n i old s body buf
+        savable = subst (λ (x : List ℕ). Savable x n i old s body buf) (sym q) shut-savable
+
+        pub save-done : (d′ buf′ : List ℕ) → Made (saveSteps old (look d) i v (lowest b n)) d buf d′ buf′ (n + length (dirSectors old i))
+            → changed (done (n + c) 0) d′ buf′ ≡ change (save v) d buf
+        save-done d′ buf′ w =
+            ap (λ (c : ℕ). changed (done (n + c) 0) d′ buf′) ec
+            ∙ settled-done steps d buf (omega (arith, many)) d′ buf′ (n + length (dirSectors old i))
+            (subst (λ (x : List ℕ). Made (saveSteps old (look d) i v (lowest x n)) d buf d′ buf′ (n + length (dirSectors old i))) q w)
+            ∙ change-planned (save v) d buf (o .disk .accepted) (go steps) plan-go

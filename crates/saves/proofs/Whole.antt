@@ -11,7 +11,7 @@ use Rattle.buffers.proofs.Lists.{length-put, put-append, put-over, part-put}
 use Rattle.geometry.specs.Disk.{bitNumber}
 use Rattle.directory.specs.Places.{slots, slotAt, slotPlace}
 use Rattle.directory.proofs.Places.{slot-placed}
-use Rattle.disk.specs.Look.{Look, slotsOf}
+use Rattle.disk.specs.Look.{Look, look}
 use Rattle.steps.specs.Steps.{enact}
 use Rattle.steps.proofs.Steps.{enact-append}
 use Rattle.plans.specs.Change.{Wish}
@@ -23,7 +23,8 @@ use Rattle.plans.proofs.Refused.{save-long}
 use Rattle.changes.specs.Settled.{Made}
 use Rattle.taking.specs.declared.Start.{Start}
 use Rattle.taking.specs.Taken.{lowest}
-use Rattle.saves.specs.Write.{wishFor, header, Writable, Listable, Savable}
+use Rattle.saves.specs.Write.{wishFor, header, keptSlot, Writable, Listable, Savable}
+use Rattle.saves.proofs.KeptSlot.{kept-new}
 use Rattle.saves.proofs.Runs.{stream-is}
 
 -- ---- the image
@@ -33,17 +34,16 @@ module _ (s : Start) (name exec info body : List ℕ) where
   w = wishFor s name exec info body
 
   -- the data sectors, no old name behind the slot, and then the slot
-  pub file-written : (old : Bool) (l : Look) (i : ℕ) → i < slots → (bs d head d′ e slot : List ℕ) (a : ℕ) (d″ : List ℕ) → head ≡ header s (length body)
-      → d′ ≡ enact d (dataSteps (head ++ body) 0 bs) → e ≡ cleared old i d′ → slot ≡ tab 256 (slotByte w bs) → a ≡ slotPlace i → d″ ≡ put e a slot
-      → d″ ≡ enact d (saveSteps old l i w bs)
-  unfolding newSlot
-  file-written old l i b bs d head d′ e slot a d″ h p z q g r =
+  pub file-written : (old : Bool) (i : ℕ) → i < slots → (bs d fresh slot head d′ e : List ℕ) (a : ℕ) (d″ : List ℕ) → fresh ≡ tab 256 (slotByte w bs)
+      → slot ≡ keptSlot d i fresh → head ≡ header s (length body) → d′ ≡ enact d (dataSteps (head ++ body) 0 bs) → e ≡ cleared old i d′ → a ≡ slotPlace i
+      → d″ ≡ put e a slot → d″ ≡ enact d (saveSteps old (look d) i w bs)
+  file-written old i b bs d fresh slot head d′ e a d″ k q h p z g r =
       r ∙ ap (λ (a : ℕ). put e a slot) (g ∙ slot-placed i b ∙ sym (add-zero (slotAt i)))
       ∙ ap₂ (λ (x y : List ℕ). put x (slotAt i + 0) y)
-      (z ∙ ap (cleared old i) (p ∙ ap (λ (st : List ℕ). enact d (dataSteps st 0 bs)) (ap (λ (x : List ℕ). x ++ body) h ∙ stream-is s name exec info body))) q
+      (z ∙ ap (cleared old i) (p ∙ ap (λ (st : List ℕ). enact d (dataSteps st 0 bs)) (ap (λ (x : List ℕ). x ++ body) h ∙ stream-is s name exec info body))) (q ∙ kept-new d i w bs fresh k)
       ∙ sym
-      (enact-append (dataSteps (stream w) 0 bs) (slotSteps old l i (newSlot (slotsOf l) i w bs) (chained (stream w) 0 bs)) d
-      ∙ end-enact old i (enact d (dataSteps (stream w) 0 bs)) l 0 (newSlot (slotsOf l) i w bs) (entryOf (newSlot (slotsOf l) i w bs) (chained (stream w) 0 bs)))
+      (enact-append (dataSteps (stream w) 0 bs) (slotSteps old (look d) i (newSlot (look d .label) i w bs) (chained (stream w) 0 bs)) d
+      ∙ end-enact old i (enact d (dataSteps (stream w) 0 bs)) (look d) 0 (newSlot (look d .label) i w bs) (entryOf (newSlot (look d .label) i w bs) (chained (stream w) 0 bs)))
 
 -- ---- the list
 
@@ -63,6 +63,7 @@ pub back-listable : (m : List ℕ) (n i : ℕ) (old : Bool) (s : Start) (body bu
     → l₂ ≡ put l₁ 0 y → (a : ℕ) → a ≤ n → Listable a i old l₂
 back-listable m n i old s body buf w x y l₁ l₂ p q a h = record {
   slot = w .file .slot;
+  next = w .file .next;
   room = omega (arith, w .room, ap length q ∙ length-put l₁ 0 y, ap length p ∙ length-put buf 0 x);
 }
 

@@ -1,12 +1,15 @@
 -- What the steps of a save are entered with, and what they write: the definitions of `plans` in the pieces that the code writes.
 use Prim.Native.Nat.{ℕ, suc, _+_, _/_, _%_, _≤_, _<_}
 use mathlib.Core.Path.{_≡_}
-use mathlib.Core.Bool.{Bool, true}
+use mathlib.Core.Bool.{Bool, true, cond, _&&_}
 use mathlib.Core.List.{List, [], _∷_}
+use lib.Dec.{eqb}
 use lib.ListN.{length, getD}
 use Rattle.buffers.specs.Bytes.{tab}
 use Rattle.slots.specs.Slot.{sectorsFor}
+use Rattle.slots.specs.Tracks.{isLabel}
 use Rattle.directory.specs.Places.{slots}
+use Rattle.directory.specs.Directory.{labelOf}
 use Rattle.surveys.specs.declared.UsedMap.{UsedMap}
 use Rattle.files.specs.Calls.{at}
 use Rattle.files.specs.Steps.{Accepted}
@@ -63,6 +66,10 @@ span s n = s .page ∷ s .offset % 256 ∷ s .offset / 256 ∷ n / 16384 ∷ n %
 
 -- ---- the whole
 
+-- a slot at place i of a disk, which in slot 1 keeps the disk's own bytes
+unfoldable pub keptSlot : List ℕ → ℕ → List ℕ → List ℕ
+keptSlot d i s = tab 256 (λ k. cond (eqb i 0 && isLabel k) (labelOf d k) (getD s k 0))
+
 -- a file with this chain can be written into slot i; old: an old name stands behind it
 pub record Writable (i : ℕ) (old : Bool) (s : Start) (body bs : List ℕ) : Type 0 where
   pub slot : i < slots
@@ -73,9 +80,10 @@ pub record Writable (i : ℕ) (old : Bool) (s : Start) (body bs : List ℕ) : Ty
 -- the sectors of the directory that a save into slot i writes have room from place a of a list on
 pub record Listable (a i : ℕ) (old : Bool) (list : List ℕ) : Type 0 where
   pub slot : i < slots
+  pub next : old ≡ true → suc i < slots
   pub room : a + length (dirSectors old i) ≤ length list
 
--- a save of a body in n sectors that nothing refuses, into slot i of a disk whose used map is m
+-- a save of a body in n sectors that nothing refuses, into slot i of a disk, by the clear bits of m
 pub record Savable (m : List ℕ) (n i : ℕ) (old : Bool) (s : Start) (body list : List ℕ) : Type 0 where
   pub sectors : n ≡ sectorsFor (length body)
   pub file : Writable i old s body (lowest m n)

@@ -15,7 +15,7 @@ ghost use Rattle.plans.specs.Saving.{block, mapWith, slotByte};
 ghost use Rattle.plans.specs.Plan.{dataSteps, oldName, together, cleared, dirSectors, saveSteps};
 ghost use Rattle.changes.specs.Settled.{Returns, Made};
 ghost use Rattle.taking.specs.Taken.{lowest};
-ghost use Rattle.saves.specs.Write.{wish, wishFor, Bits, Plain, header, run, linkTo, chainBytes, span, Writable, Listable, Savable, Open};
+ghost use Rattle.saves.specs.Write.{wish, wishFor, Bits, Plain, header, run, linkTo, chainBytes, span, keptSlot, Writable, Listable, Savable, Open};
 use files::Lookup;
 use geometry::Address;
 use refusals::Answer;
@@ -213,7 +213,7 @@ fn has_old_name(image: &[u8], i: usize) -> bool
     if !slots::is_nameless(directory::slot_at(image, i)) {
         return false;
     }
-    if directory::SLOTS <= next {
+    if directory::slots_in(image) <= next {
         return false;
     }
     !slots::is_nameless(directory::slot_at(image, next))
@@ -266,6 +266,21 @@ fn put_dirs(list: &mut [u16], at: usize, i: usize, old: bool)
     list[at] = directory::dir_sector(i) as u16;
 }
 
+// A slot as it is written at slot `i`: slot 1 keeps the bytes that are the disk's.
+fn kept_slot(image: &[u8], i: usize, fresh: [u8; 256]) -> [u8; 256]
+    requires { ⌜ (256 ≤ length (now image)) × (length fresh ≡ 256) ⌝ }
+    ensures { λ r. ⌜ r ≡ keptSlot (now (image .entry)) i fresh ⌝ }
+{
+    if i != 0 {
+        return fresh;
+    }
+    let mut slot = fresh;
+    buffers::copy_into(&mut slot, 210, buffers::part_at(image, 210, 10));
+    buffers::copy_into(&mut slot, 252, buffers::part_at(image, 252, 2));
+    buffers::copy_into(&mut slot, 255, buffers::part_at(image, 255, 1));
+    slot
+}
+
 // Writes a file into slot `i`: the data sectors of its chain, no old name behind the slot, then the slot.
 fn write_file(
     image: &mut [u8],
@@ -278,17 +293,18 @@ fn write_file(
     body: &[u8],
     bits: &[u16],
 )
-    requires { ⌜ Writable i old start (now body) (now bits) ⌝ }
+    requires { ⌜ Writable i old start (now body) (now bits) × (256 ≤ length (now image)) ⌝ }
     ensures { λ _. ⌜ now (image .exit) ≡ enact (now (image .entry)) (saveSteps old (look (now (image .entry))) i (wishFor start (now (name .entry)) (now (exec .entry)) (now (info .entry)) (now (body .entry))) (now (bits .entry))) ⌝ }
 {
+    let fresh = slot_of(start, name, exec, info, body, bits);
+    let slot = kept_slot(image, i, fresh);
     let head = header_of(start, body.len());
     write_chain(image, &head, body, bits);
     clear_next(image, i, old);
-    let slot = slot_of(start, name, exec, info, body, bits);
     buffers::copy_into(image, directory::slot_place(i), &slot);
 }
 
-// Writes a file of `n` sectors into slot `i` of a disk whose used map is `map`: the lowest free bits are its chain, and the
+// Writes a file of `n` sectors into slot `i` of a disk: the lowest clear bits of `map` are its chain, and the
 // list gets the numbers of its sectors, those of the directory last.
 fn write_save(
     image: &mut [u8],
@@ -303,7 +319,7 @@ fn write_save(
     body: &[u8],
     list: &mut [u16],
 )
-    requires { ⌜ Savable (now map) n i old start (now body) (now list) ⌝ }
+    requires { ⌜ Savable (now map) n i old start (now body) (now list) × (256 ≤ length (now image)) ⌝ }
     ensures { λ _. ⌜ Made (saveSteps old (look (now (image .entry))) i (wishFor start (now (name .entry)) (now (exec .entry)) (now (info .entry)) (now (body .entry))) (lowest (now (map .entry)) n)) (now (image .entry)) (now (list .entry)) (now (image .exit)) (now (list .exit)) (n + length (dirSectors old i)) ⌝ }
 {
     taking::pick_bits(map, n, list);
@@ -341,7 +357,7 @@ fn save_at(
     if list.len() < named {
         return refusals::no(Reason::BufferTooShort, 0);
     }
-    let map = used.bytes;
+    let map = taking::shut_bits(used);
     write_save(image, &map, n, i, old, start, name, exec, info, body, list);
     Answer::Done(named, 0)
 }

@@ -8,54 +8,67 @@ use lib.Dec.{eqb, leb, ltb}
 use Rattle.maps.specs.Bits.{has, bitsOf}
 use Rattle.refusals.specs.Order.{Reply, refuse, rises}
 use Rattle.slots.specs.Slot.{Facts, facts, kindOf, countOf, firstOf, mapOf, known, carried, lengthOf}
-use Rattle.slots.specs.Rows.{own, ownReply, dataCount}
+use Rattle.slots.specs.Tracks.{dataCount, inDirectory}
+use Rattle.slots.specs.Rows.{own, ownReplyBy, ownReply}
 
-abbrev pub inRange : List ℕ → Bool
-inRange s = leb 1 (countOf s) && leb (countOf s) 1560
+abbrev pub inRange : ℕ → List ℕ → Bool
+inRange most s = leb 1 (countOf s) && leb (countOf s) most
 
 abbrev pub tooLong : List ℕ → Bool
 tooLong s = carried (kindOf s) && ltb (510 * countOf s) (9 + lengthOf (facts s))
 
--- rows 2 to 4 do not hold
-pub record Past4 (s : List ℕ) : Type 0 where
+-- rows 2 and 4 do not hold
+pub record Past4 (most : ℕ) (s : List ℕ) : Type 0 where
   pub kind : known (kindOf s) ≡ true
-  pub count : inRange s ≡ true
+  pub count : inRange most s ≡ true
 
 -- nor do rows 5 and 6
-pub record Past6 (s : List ℕ) : Type 0 where
-  pub past4 : Past4 s
+pub record Past6 (most : ℕ) (inside : Bool) (s : List ℕ) : Type 0 where
+  pub past4 : Past4 most s
   pub bits : eqb (bitsOf (mapOf s)) (countOf s) ≡ true
   pub first : has (mapOf s) (firstOf s) ≡ true
+  pub outside : inside ≡ false
 
-module _ (i : ℕ) (s : List ℕ) where
-  pub at2 : known (kindOf s) ≡ false → some (refuse 2 i) ≡ ownReply 0 i s
-  unfolding ownReply facts
+module _ (most : ℕ) (inside : Bool) (i : ℕ) (s : List ℕ) where
+  pub at2 : known (kindOf s) ≡ false → some (refuse 2 i) ≡ ownReplyBy most inside i s
+  unfolding ownReplyBy facts
   at2 a = rw a
 
-  pub at4 : known (kindOf s) ≡ true → inRange s ≡ false → some (refuse 4 i) ≡ ownReply 0 i s
-  unfolding ownReply facts dataCount
+  pub at4 : known (kindOf s) ≡ true → inRange most s ≡ false → some (refuse 4 i) ≡ ownReplyBy most inside i s
+  unfolding ownReplyBy facts
   at4 a c = rw (a, c)
 
-  pub at5 : Past4 s → eqb (bitsOf (mapOf s)) (countOf s) ≡ false → some (refuse 5 i) ≡ ownReply 0 i s
-  unfolding ownReply facts dataCount
+  pub at5 : Past4 most s → eqb (bitsOf (mapOf s)) (countOf s) ≡ false → some (refuse 5 i) ≡ ownReplyBy most inside i s
+  unfolding ownReplyBy facts
   at5 a b = rw (a .kind, a .count, b)
 
-  pub at6 : Past4 s → eqb (bitsOf (mapOf s)) (countOf s) ≡ true → has (mapOf s) (firstOf s) ≡ false → some (refuse 6 i) ≡ ownReply 0 i s
-  unfolding ownReply facts dataCount
+  pub at6 : Past4 most s → eqb (bitsOf (mapOf s)) (countOf s) ≡ true → has (mapOf s) (firstOf s) ≡ false → some (refuse 6 i) ≡ ownReplyBy most inside i s
+  unfolding ownReplyBy facts
   at6 a b c = rw (a .kind, a .count, b, c)
 
-  last : Past6 s → ownReply 0 i s ≡ cond (tooLong s) (some (refuse 7 i)) none
-  unfolding ownReply facts dataCount
-  last a = rw (a .past4 .kind, a .past4 .count, a .bits, a .first)
+  -- a map bit inside the directory
+  pub at6-inside : Past4 most s → eqb (bitsOf (mapOf s)) (countOf s) ≡ true → has (mapOf s) (firstOf s) ≡ true → inside ≡ true
+      → some (refuse 6 i) ≡ ownReplyBy most inside i s
+  unfolding ownReplyBy facts
+  at6-inside a b c e = rw (a .kind, a .count, b, c, e)
 
-  pub at7 : Past6 s → tooLong s ≡ true → some (refuse 7 i) ≡ ownReply 0 i s
+  last : Past6 most inside s → ownReplyBy most inside i s ≡ cond (tooLong s) (some (refuse 7 i)) none
+  unfolding ownReplyBy facts
+  last a = rw (a .past4 .kind, a .past4 .count, a .bits, a .first, a .outside)
+
+  pub at7 : Past6 most inside s → tooLong s ≡ true → some (refuse 7 i) ≡ ownReplyBy most inside i s
   at7 a b = sym (last a ∙ ap (λ (t : Bool). cond {A = Reply} t (some (refuse 7 i)) none) b)
 
-  pub at-none : Past6 s → tooLong s ≡ false → none ≡ ownReply 0 i s
+  pub at-none : Past6 most inside s → tooLong s ≡ false → none ≡ ownReplyBy most inside i s
   at-none a b = sym (last a ∙ ap (λ (t : Bool). cond {A = Reply} t (some (refuse 7 i)) none) b)
 
-  pub at-free : Past6 s → carried (kindOf s) ≡ false → none ≡ ownReply 0 i s
+  pub at-free : Past6 most inside s → carried (kindOf s) ≡ false → none ≡ ownReplyBy most inside i s
   at-free a b = at-none a (rw b)
+
+-- with n directory tracks beyond four
+pub own-by : (n i : ℕ) (s : List ℕ) → ownReplyBy (dataCount n) (inDirectory n (mapOf s)) i s ≡ ownReply n i s
+unfolding ownReplyBy ownReply facts
+own-by n i s = refl
 
 -- "at a slot the lowest number": the rows stand in the order of their numbers
 pub own-rises : (n : ℕ) (x : Facts) → rises (own n x) ≡ true

@@ -4,7 +4,8 @@ ghost use mathlib.Core.Path.{_≡_};
 ghost use Prim.Native.Nat.{_+_, _*_, _≤_, _<_};
 ghost use Rattle.refusals.specs.Answers.{replyOf};
 ghost use Rattle.slots.specs.Slot.{isLive, isNameless, hidden, protected, kindOf, known, carried, spectrum, readable, nameOf, isNamed, countOf, firstOf, mapOf, pageOf, offsetOf, pagesOf, remainderOf, facts, lengthOf};
-ghost use Rattle.slots.specs.Rows.{ownReply, wasteful};
+ghost use Rattle.slots.specs.Tracks.{dataCount, inDirectory, clearAt, innerMap};
+ghost use Rattle.slots.specs.Rows.{ownReplyBy, wasteful};
 use refusals::Reason;
 use refusals::Verdict;
 
@@ -149,9 +150,67 @@ pub fn length_of(s: &[u8]) -> usize
     pages_of(s) * 16384 + remainder_of(s)
 }
 
-// Rows 2 and 4 to 7 at a live slot, with no directory track beyond the four.
-pub fn own_rows(s: &[u8], slot: usize) -> Verdict
-    ensures { λ r. ⌜ replyOf r ≡ ownReply 0 slot (now (s .entry)) ⌝ }
+// The number of data sectors with so many directory tracks beyond four.
+pub fn data_count(tracks: usize) -> usize
+    ensures { λ r. ⌜ (r ≡ dataCount tracks) × (r ≤ 1560) ⌝ }
+{
+    if tracks == 0 {
+        return geometry::DATA_SECTORS;
+    }
+    if 156 < tracks {
+        return 0;
+    }
+    1561 - 10 * tracks
+}
+
+// Whether the eight bits of a map from `b` on are clear, and `b` is the first of a byte.
+fn is_clear(map: &[u8], b: usize) -> bool
+    ensures { λ r. ⌜ r ≡ clearAt (now (map .entry)) b ⌝ }
+{
+    if b % 8 != 0 {
+        return false;
+    }
+    buffers::byte_at(map, b / 8) == 0
+}
+
+// Whether a map has a bit inside the directory, with so many tracks beyond four. Of a byte that is clear no bit is looked at.
+pub fn is_inside(map: &[u8], tracks: usize) -> bool
+    ensures { λ r. ⌜ r ≡ inDirectory tracks (now (map .entry)) ⌝ }
+{
+    let end = 10 * buffers::lesser(tracks, 156);
+    let mut b: usize = 1;
+    while b < end {
+        let c = b;
+        if is_clear(map, c) {
+            b += 8;
+        } else {
+            b += 1;
+            if maps::has_bit(map, c) {
+                return true;
+            }
+        }
+    }
+    false
+}
+
+// The map of the bits inside the directory, with so many tracks beyond four: those of tracks 4 on, but the first.
+pub fn inner_map(tracks: usize) -> [u8; 195]
+    ensures { λ r. ⌜ r ≡ innerMap tracks ⌝ }
+{
+    let end = 10 * buffers::lesser(tracks, 156);
+    let mut map = [0u8; 195];
+    let mut b: usize = 1;
+    while b < end {
+        maps::mark(&mut map, b);
+        b += 1;
+    }
+    map
+}
+
+// Rows 2 and 4 to 7 at a live slot: `most` is the number of data sectors, and `inside` says whether its map has a bit inside
+// the directory.
+pub fn own_rows(s: &[u8], slot: usize, most: usize, inside: bool) -> Verdict
+    ensures { λ r. ⌜ replyOf r ≡ ownReplyBy most inside slot (now (s .entry)) ⌝ }
 {
     let kind = kind_of(s);
     if !is_known(kind) {
@@ -161,7 +220,7 @@ pub fn own_rows(s: &[u8], slot: usize) -> Verdict
     if count < 1 {
         return refusals::unsound(Reason::CountOutOfRange, slot);
     }
-    if geometry::DATA_SECTORS < count {
+    if most < count {
         return refusals::unsound(Reason::CountOutOfRange, slot);
     }
     let map = map_of(s);
@@ -169,6 +228,9 @@ pub fn own_rows(s: &[u8], slot: usize) -> Verdict
         return refusals::unsound(Reason::BitsDiffer, slot);
     }
     if !maps::has_bit(map, first_of(s)) {
+        return refusals::unsound(Reason::FirstNotOwn, slot);
+    }
+    if inside {
         return refusals::unsound(Reason::FirstNotOwn, slot);
     }
     if is_carried(kind) {

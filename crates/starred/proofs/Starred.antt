@@ -6,7 +6,7 @@ use lib.Dec.{T, eqb, eqb→eq}
 use Rattle.geometry.specs.Disk.{isSector, isData, trackOf, bitOf, bitNumber}
 use Rattle.geometry.proofs.Table.{both}
 use Rattle.slots.specs.Slot.{sectorsFor}
-use Rattle.directory.specs.Places.{slotAt}
+use Rattle.directory.specs.Places.{pastGap, slotAt}
 use Rattle.files.specs.Calls.{address}
 use Rattle.starred.specs.Starred.{Point, starred, Every}
 
@@ -21,5 +21,5 @@ each (p ∷ ps) t =
     (eqb→eq (p .gives) (p .says) (b .0), each ps (b .1))
 
 pub all : Every starred
-unfolding isSector isData trackOf bitOf bitNumber slotAt address sectorsFor
+unfolding isSector isData trackOf bitOf bitNumber pastGap slotAt address sectorsFor
 all = each starred tt

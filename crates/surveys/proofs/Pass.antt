@@ -2,7 +2,7 @@
 -- of a slot that has none.
 use Prim.Native.Nat.{ℕ, suc, _+_, _-_, _*_, _≤_, _<_}
 use mathlib.Core.Path.{_≡_, refl, sym, ap, ap₂, _∙_}
-use mathlib.Core.Bool.{Bool, true, false, cond, _&&_, and-eq-true-iff}
+use mathlib.Core.Bool.{Bool, true, false, cond, not, _&&_, and-eq-true-iff, true≢false}
 use mathlib.Core.List.{List, [], _∷_, _++_}
 use mathlib.Core.Option.{Option, none, some}
 use native.Mathlib.Numerals.{add-one}
@@ -10,7 +10,8 @@ use native.Mathlib.Omega.{arith}
 use borrow.Author.Tests.{not-false, leb-true, eqb-true, le-leb, eq-eqb}
 use lib.Dec.{leb, ltb}
 use lib.ListN.{length}
-use Rattle.buffers.proofs.Counts.{any-none, none-any}
+use Rattle.buffers.proofs.Counts.{any-none, none-any, some-any, count-less}
+use Rattle.buffers.proofs.Tests.{or-neither}
 use Rattle.buffers.specs.Bytes.{any}
 use Rattle.maps.specs.Bits.{has, bitsOf, share, clear, join}
 use Rattle.refusals.specs.Order.{refuse, Reply, _else_, Row, rows, sweepFrom, rises}
@@ -21,9 +22,11 @@ use Rattle.refusals.specs.declared.Verdict.the-variants.{Sound, Unsound}
 use Rattle.refusals.proofs.First.{else-none, rows-clear, clear-rows, sweep-start, sweep-stop, sweep-none, none-sweep, none-sweepFrom}
 use Rattle.slots.specs.Slot.{Facts, kindOf, countOf, firstOf, nameOf, mapOf, facts, known, carried, lengthOf}
 use Rattle.names.specs.Name.{sameName}
-use Rattle.slots.specs.Rows.{own, ownReply, wasteful, strict, dataCount}
+use Rattle.slots.specs.Rows.{own, ownReply, wasteful, strict}
+use Rattle.slots.specs.Tracks.{dataCount, dataBit, inDirectory}
+use Rattle.slots.proofs.Tracks.{count-data, outside-data}
 use Rattle.directory.specs.Places.{slots}
-use Rattle.directory.specs.Directory.{held, Directory, slotsRead, directory, liveAmong}
+use Rattle.directory.specs.Directory.{held, Directory, tracksOf, slotsRead, directory, liveAmong}
 use Rattle.surveys.specs.Survey.{earlier, cross, rowsAt, surveyAt, surveyBy, survey, union, counted, usedMap, refusedWith}
 use Rattle.surveys.specs.Filter.{Filtered}
 use Rattle.surveys.specs.Steps.{Apart, Reached, Surveyed}
@@ -31,7 +34,7 @@ use Rattle.surveys.specs.declared.Survey.{Survey}
 use Rattle.surveys.specs.declared.UsedMap.{UsedMap}
 use Rattle.directory.proofs.Ends.{read-most}
 use Rattle.directory.proofs.Live.{directory-unread, live-read}
-use Rattle.surveys.proofs.Union.{union-dead, union-live, union-rest, length-union, share-union, counted-bytes, counted-count}
+use Rattle.surveys.proofs.Union.{union-dead, union-live, union-rest, length-union, has-union, share-union, counted-bytes, counted-count, counted-tracks}
 
 -- ---- an earlier live slot, as a loop looks for it
 
@@ -91,20 +94,20 @@ strict-row true x s q = by (wasteful x)
     by false = refl
 
 -- as the code meets a live slot: the verdict r on its own rows, the used map u so far
-module _ (release : Bool) (v : Directory) (i : ℕ) (s u : List ℕ) (here : v i ≡ some s) (used : u ≡ union v i) (r : Verdict) (own-is : replyOf r ≡ ownReply 0 (i + 1) s) where
-  at-slot : surveyAt release 0 v i
+module _ (release : Bool) (n : ℕ) (v : Directory) (i : ℕ) (s u : List ℕ) (here : v i ≡ some s) (used : u ≡ union v i) (r : Verdict) (own-is : replyOf r ≡ ownReply n (i + 1) s) where
+  at-slot : surveyAt release n v i
       ≡ (replyOf r else cond (release && wasteful (facts s)) (some (refuse 22 (i + 1)))
       (cond (share u (mapOf s)) (some (refuse 8 (i + 1))) (cond (earlier v i (λ t. sameName (nameOf t) (nameOf s))) (some (refuse 9 (i + 1))) none)))
   at-slot =
-      survey-live release 0 v i s here
-      ∙ ap (λ (q : Reply). ownReply 0 (suc i) s else q) (strict-row release (facts s) (suc i) (rows (suc i) (cross v i s)))
+      survey-live release n v i s here
+      ∙ ap (λ (q : Reply). ownReply n (suc i) s else q) (strict-row release (facts s) (suc i) (rows (suc i) (cross v i s)))
       ∙ rw (own-is, add-one, used, share-union v i (mapOf s))
 
-  pub slot-own : (f : Refused) → r ≡ Unsound f → replyOf (Unsound f) ≡ surveyAt release 0 v i
+  pub slot-own : (f : Refused) → r ≡ Unsound f → replyOf (Unsound f) ≡ surveyAt release n v i
   slot-own f e = sym (at-slot ∙ rw e)
 
   -- its own rows hold nowhere
-  pub slot-waste : r ≡ Sound → (release && wasteful (facts s)) ≡ true → some (refuse 22 (i + 1)) ≡ surveyAt release 0 v i
+  pub slot-waste : r ≡ Sound → (release && wasteful (facts s)) ≡ true → some (refuse 22 (i + 1)) ≡ surveyAt release n v i
   slot-waste e z = sym (at-slot ∙ rw (e, z))
 
   -- nor does row 22; q says whether its map m shares a bit with the used map
@@ -112,18 +115,18 @@ module _ (release : Bool) (v : Directory) (i : ℕ) (s u : List ℕ) (here : v i
     shares : {t : Bool} → q ≡ t → share u (mapOf s) ≡ t
     shares w = ap (share u) (sym em) ∙ sym eq ∙ w
 
-    pub slot-shared : q ≡ true → some (refuse 8 (i + 1)) ≡ surveyAt release 0 v i
+    pub slot-shared : q ≡ true → some (refuse 8 (i + 1)) ≡ surveyAt release n v i
     slot-shared w = sym (at-slot ∙ rw (e, z, shares w))
 
-    -- p says whether a slot before it has its name n
-    module _ (w : q ≡ false) {n : List ℕ} (en : n ≡ nameOf s) {p : Bool} (ep : p ≡ earlier v i (λ t. sameName (nameOf t) n)) where
+    -- p says whether a slot before it has its name
+    module _ (w : q ≡ false) {m2 : List ℕ} (en : m2 ≡ nameOf s) {p : Bool} (ep : p ≡ earlier v i (λ t. sameName (nameOf t) m2)) where
       twice : {t : Bool} → p ≡ t → earlier v i (λ t. sameName (nameOf t) (nameOf s)) ≡ t
       twice x = ap (λ (l : List ℕ). earlier v i (λ t. sameName (nameOf t) l)) (sym en) ∙ sym ep ∙ x
 
-      pub slot-twice : p ≡ true → some (refuse 9 (i + 1)) ≡ surveyAt release 0 v i
+      pub slot-twice : p ≡ true → some (refuse 9 (i + 1)) ≡ surveyAt release n v i
       slot-twice x = sym (at-slot ∙ rw (e, z, shares w, twice x))
 
-      pub slot-clear : p ≡ false → none ≡ surveyAt release 0 v i
+      pub slot-clear : p ≡ false → none ≡ surveyAt release n v i
       slot-clear x = sym (at-slot ∙ rw (e, z, shares w, twice x))
 
 -- a slot that either pass leaves is one that the first leaves
@@ -141,6 +144,7 @@ pub record Passed (n : ℕ) (v : Directory) (i : ℕ) (s : List ℕ) : Type 0 wh
   pub most : countOf s ≤ dataCount n
   pub bits : bitsOf (mapOf s) ≡ countOf s
   pub first : has (mapOf s) (firstOf s) ≡ true
+  pub outside : inDirectory n (mapOf s) ≡ false
   pub fits : (carried (kindOf s) && ltb (510 * countOf s) (9 + lengthOf (facts s))) ≡ false
   pub unshared : earlier v i (λ t. share (mapOf t) (mapOf s)) ≡ false
   pub single : earlier v i (λ t. sameName (nameOf t) (nameOf s)) ≡ false
@@ -150,12 +154,14 @@ unfolding surveyAt facts
 passed-at n v i s e h =
     let c = rows-clear (suc i) (rowsAt false n v i s) (rw e at h) in
     let r = and-eq-true-iff (leb 1 (countOf s)) (leb (countOf s) (dataCount n)) .0 (not-false _ (c .1 .0)) in
+    let either = or-neither (not (has (mapOf s) (firstOf s))) (inDirectory n (mapOf s)) (c .1 .1 .1 .0) in
     record {
       kind = not-false (known (kindOf s)) (c .0);
       least = leb-true 1 (countOf s) (r .0);
       most = leb-true (countOf s) (dataCount n) (r .1);
       bits = eqb-true (bitsOf (mapOf s)) (countOf s) (not-false _ (c .1 .1 .0));
-      first = not-false (has (mapOf s) (firstOf s)) (c .1 .1 .1 .0);
+      first = not-false (has (mapOf s) (firstOf s)) (either .0);
+      outside = either .1;
       fits = c .1 .1 .1 .1 .0;
       unshared = c .1 .1 .1 .1 .1 .0;
       single = c .1 .1 .1 .1 .1 .1 .0;
@@ -166,7 +172,7 @@ unfolding surveyAt facts
 at-passed n v i s e h =
     rw e
     (clear-rows (suc i) (rowsAt false n v i s)
-    (rw (h .kind), (rw (le-leb 1 (countOf s) (h .least), le-leb (countOf s) (dataCount n) (h .most)), (rw (eq-eqb (bitsOf (mapOf s)) (countOf s) (h .bits)), (rw (h .first), (h .fits, (h .unshared, (h .single, tt))))))))
+    (rw (h .kind), (rw (le-leb 1 (countOf s) (h .least), le-leb (countOf s) (dataCount n) (h .most)), (rw (eq-eqb (bitsOf (mapOf s)) (countOf s) (h .bits)), (rw (h .first, h .outside), (h .fits, (h .unshared, (h .single, tt))))))))
 
 -- every live slot of a directory that is not refused
 pub survey-passed : (n : ℕ) (v : Directory) → survey n v ≡ none → (i : ℕ) (s : List ℕ) → i < slots → v i ≡ some s → Passed n v i s
@@ -181,67 +187,82 @@ passed-survey n v h = none-sweep slots (surveyAt false n v) (λ i l. by i l (v i
     by i l none p = survey-dead false n v i p
     by i l (some s) p = at-passed n v i s p (h i s l p)
 
+-- where no row holds, the used bits are data bits, and no more than these
+pub used-data : (n : ℕ) (v : Directory) → survey n v ≡ none → (b : ℕ) → b < 1560 → has (union v slots) b ≡ true → dataBit n b ≡ true
+used-data n v e b h q =
+    let j = some-any slots (λ i. held false (λ s. has (mapOf s) b) (v i)) (sym (has-union v slots b h) ∙ q) in
+    by (j .0) (j .1) (v (j .0)) refl (j .2)
+  where
+    by : (i : ℕ) → i < slots → (o : Option (List ℕ)) → v i ≡ o → held false (λ s. has (mapOf s) b) o ≡ true → dataBit n b ≡ true
+    by i k none p m = absurd (true≢false (sym m))
+    by i k (some s) p m = outside-data n (mapOf s) (survey-passed n v e i s k p .outside) b h m
+
+pub used-few : (n : ℕ) (v : Directory) → n ≤ 35 → survey n v ≡ none → bitsOf (union v slots) ≤ dataCount n
+unfolding bitsOf
+used-few n v h e =
+    omega (arith, count-data n h, count-less 1560 (dataBit n) (has (union v slots)) (used-data n v e))
+
 -- ---- the pass, turn by turn: the used map so far, and the reply of the slots from i on
 
 pub survey-start : (release : Bool) (n : ℕ) (v : Directory) → surveyBy release n v ≡ sweepFrom (slots - 0) 0 (surveyAt release n v)
 unfolding surveyBy
 survey-start release n v = sweep-start slots (surveyAt release n v)
 
-pub used-start : (v : Directory) (u : UsedMap) → u ≡ counted clear → u ≡ counted (union v 0)
+pub used-start : (n : ℕ) (v : Directory) (u : UsedMap) → u ≡ counted n clear → u ≡ counted n (union v 0)
 unfolding union
-used-start v u e = e
+used-start n v u e = e
 
-pub used-dead : (v : Directory) (i : ℕ) (u : UsedMap) → u ≡ counted (union v i) → v i ≡ none → u ≡ counted (union v (i + 1))
-used-dead v i u e p = e ∙ ap counted (sym (union-dead v i p))
+pub used-dead : (n : ℕ) (v : Directory) (i : ℕ) (u : UsedMap) → u ≡ counted n (union v i) → v i ≡ none → u ≡ counted n (union v (i + 1))
+used-dead n v i u e p = e ∙ ap (counted n) (sym (union-dead v i p))
 
-module _ (d : List ℕ) (i : ℕ) (u : UsedMap) (used : u ≡ counted (union (directory d) i)) (s : List ℕ) (here : directory d i ≡ some s) where
+module _ (d : List ℕ) (n i : ℕ) (u : UsedMap) (used : u ≡ counted n (union (directory d) i)) (s : List ℕ) (here : directory d i ≡ some s) where
   pub reached : i < slotsRead d → {f : List ℕ} → Filtered d i f → Reached d i s (u .bytes) f
-  reached h k = record { slot = h; here = here; used = counted-bytes (union (directory d) i) u used; filtered = k }
+  reached h k = record { slot = h; here = here; used = counted-bytes n (union (directory d) i) u used; filtered = k }
 
   -- past its rows: m is its map, k its count
   module _ {m : List ℕ} (em : m ≡ mapOf s) where
-    pub apart : {k : ℕ} → k ≡ countOf s → (release : Bool) → surveyAt release 0 (directory d) i ≡ none → Apart u m k
+    pub apart : {k : ℕ} → k ≡ countOf s → (release : Bool) → surveyAt release n (directory d) i ≡ none → Apart u m k
     apart ek release e =
-        let c = counted-bytes (union (directory d) i) u used in
-        let h = passed-at 0 (directory d) i s here (plain-at release 0 (directory d) i s here e) in
+        let c = counted-bytes n (union (directory d) i) u used in
+        let h = passed-at n (directory d) i s here (plain-at release n (directory d) i s here e) in
         record {
           long = ap length c ∙ length-union (directory d) i;
-          count = counted-count (union (directory d) i) u used ∙ ap bitsOf (sym c);
+          count = counted-count n (union (directory d) i) u used ∙ ap bitsOf (sym c);
           own-count = ek ∙ sym (h .bits) ∙ ap bitsOf (sym em);
           apart = ap₂ share c em ∙ share-union (directory d) i (mapOf s) ∙ h .unshared;
         }
 
-    pub used-more : (w : UsedMap) → w ≡ counted (join (u .bytes) m) → w ≡ counted (union (directory d) (i + 1))
+    pub used-more : (w : UsedMap) → w ≡ counted (u .tracks) (join (u .bytes) m) → w ≡ counted n (union (directory d) (i + 1))
     used-more w e =
-        e ∙ ap₂ (λ (a b : List ℕ). counted (join a b)) (counted-bytes (union (directory d) i) u used) em
-        ∙ ap counted (sym (union-live (directory d) i s here))
+        e ∙ ap₂ (λ (a : ℕ) (b : List ℕ). counted a (join b m)) (counted-tracks n (union (directory d) i) u used) (counted-bytes n (union (directory d) i) u used)
+        ∙ ap (λ (b : List ℕ). counted n (join (union (directory d) i) b)) em ∙ ap (counted n) (sym (union-live (directory d) i s here))
 
 -- what the pass gives: at a slot that is refused, and at the end
-module _ (release : Bool) (d : List ℕ) (r : Survey) (i : ℕ) (left : surveyBy release 0 (directory d) ≡ sweepFrom (slots - i) i (surveyAt release 0 (directory d))) where
-  pub pass-stops : (f : Refused) → i < slotsRead d → replyOf (Unsound f) ≡ surveyAt release 0 (directory d) i → r ≡ refusedWith (Unsound f)
-      → Surveyed (surveyBy release 0 (directory d)) d r
+module _ (release : Bool) (d : List ℕ) (r : Survey) (i : ℕ) (left : surveyBy release (tracksOf d) (directory d) ≡ sweepFrom (slots - i) i (surveyAt release (tracksOf d) (directory d))) where
+  pub pass-stops : (f : Refused) → i < slotsRead d → replyOf (Unsound f) ≡ surveyAt release (tracksOf d) (directory d) i → r ≡ refusedWith (Unsound f)
+      → Surveyed (surveyBy release (tracksOf d) (directory d)) d r
   unfolding refusedWith
   pass-stops f h e p =
-      let z : surveyBy release 0 (directory d) ≡ some (refusalOf f) = left ∙ sweep-stop slots i (surveyAt release 0 (directory d)) (refusalOf f) (omega (arith, read-most d)) (sym e) in
+      let z : surveyBy release (tracksOf d) (directory d) ≡ some (refusalOf f) = left ∙ sweep-stop slots i (surveyAt release (tracksOf d) (directory d)) (refusalOf f) (omega (arith, read-most d)) (sym e) in
       record { reply = rw (p, z); used = rw (p, z); files = rw (p, z) }
 
   -- past the slots that are read no row holds
-  pub pass-ends : slotsRead d ≤ i → i ≤ slots → r .verdict ≡ Sound → r .used ≡ counted (union (directory d) i) → r .files ≡ liveAmong (directory d) i
-      → Surveyed (surveyBy release 0 (directory d)) d r
+  pub pass-ends : slotsRead d ≤ i → i ≤ slots → r .verdict ≡ Sound → r .used ≡ counted (tracksOf d) (union (directory d) i) → r .files ≡ liveAmong (directory d) i
+      → Surveyed (surveyBy release (tracksOf d) (directory d)) d r
   unfolding usedMap
   pass-ends h l p w f =
       let n : i + (slots - i) ≡ slots = omega arith in
       let dead : (j : ℕ) → i ≤ j → directory d j ≡ none = λ j k. directory-unread d j (omega arith) in
-      let z : surveyBy release 0 (directory d) ≡ none = left ∙ none-sweepFrom (slots - i) i (surveyAt release 0 (directory d)) (λ j k m. survey-dead release 0 (directory d) j (dead j k)) in
+      let z : surveyBy release (tracksOf d) (directory d) ≡ none = left ∙ none-sweepFrom (slots - i) i (surveyAt release (tracksOf d) (directory d)) (λ j k m. survey-dead release (tracksOf d) (directory d) j (dead j k)) in
       record {
         reply = rw (p, z);
-        used = rw z (w ∙ ap counted (sym (ap (union (directory d)) (sym n) ∙ union-rest (directory d) i (slots - i) dead)));
+        used = rw z (w ∙ ap (counted (tracksOf d)) (sym (ap (union (directory d)) (sym n) ∙ union-rest (directory d) i (slots - i) dead)));
         files = rw z (f ∙ sym (live-read d i slots h l));
       }
 
 -- what its caller learns by the verdict
 pub surveyed-sound : (q : Reply) (d : List ℕ) (r : Survey) → Surveyed q d r → r .verdict ≡ Sound
-    → (q ≡ none) × (r .used ≡ usedMap (directory d)) × (r .files ≡ liveAmong (directory d) slots)
+    → (q ≡ none) × (r .used ≡ usedMap (tracksOf d) (directory d)) × (r .files ≡ liveAmong (directory d) slots)
 surveyed-sound q d r h e =
     let z : q ≡ none = sym (h .reply) ∙ ap replyOf e in
     (z, h .used ∙ rw z, h .files ∙ rw z)

@@ -1,6 +1,6 @@
 -- The used map against the live slots before: how long it is, which bits it has, and what it shares with another map.
 use Prim.Native.Nat.{ℕ, zero, suc, _+_, _≤_, _<_}
-use mathlib.Core.Path.{_≡_, sym, ap, ap₂, _∙_}
+use mathlib.Core.Path.{_≡_, sym, ap, _∙_}
 use mathlib.Core.Bool.{Bool, false, _||_, or-false, true≢false}
 use mathlib.Core.List.{List}
 use mathlib.Core.Option.{Option, none, some}
@@ -74,19 +74,27 @@ share-union v (suc i) m = by (v i) (length-union v i) (share-union v i m)
 
 -- ---- with its count
 
-pub counted-bytes : (m : List ℕ) (u : UsedMap) → u ≡ counted m → u .bytes ≡ m
-unfolding counted
-counted-bytes m u e = ap (λ (x : UsedMap). x .bytes) e
+module _ (n : ℕ) (m : List ℕ) (u : UsedMap) (e : u ≡ counted n m) where
+  pub counted-bytes : u .bytes ≡ m
+  unfolding counted
+  counted-bytes = ap (λ (x : UsedMap). x .bytes) e
 
-pub counted-count : (m : List ℕ) (u : UsedMap) → u ≡ counted m → u .count ≡ bitsOf m
-unfolding counted
-counted-count m u e = ap (λ (x : UsedMap). x .count) e
+  pub counted-count : u .count ≡ bitsOf m
+  unfolding counted
+  counted-count = ap (λ (x : UsedMap). x .count) e
 
-pub counted-clear : (u : UsedMap) → u .bytes ≡ clear → u .count ≡ 0 → u ≡ counted clear
-unfolding counted
-counted-clear u e f = ap₂ {C = UsedMap} (λ (b : List ℕ) (n : ℕ). record { bytes = b; count = n }) e (f ∙ sym bits-clear)
+  pub counted-tracks : u .tracks ≡ n
+  unfolding counted
+  counted-tracks = ap (λ (x : UsedMap). x .tracks) e
 
-pub counted-join : (u : UsedMap) (m d : List ℕ) → u .bytes ≡ join m d → u .count ≡ bitsOf m + bitsOf d → length m ≡ 195 → share m d ≡ false
-    → u ≡ counted (join m d)
+-- by its fields
+pub counted-by : (n : ℕ) (m : List ℕ) (u : UsedMap) → u .bytes ≡ m → u .count ≡ bitsOf m → u .tracks ≡ n → u ≡ counted n m
 unfolding counted
-counted-join u m d e f l a = ap₂ {C = UsedMap} (λ (b : List ℕ) (n : ℕ). record { bytes = b; count = n }) e (f ∙ sym (bits-join m d l a))
+counted-by n m u e f g = λ i. record { bytes = e i; count = f i; tracks = g i }
+
+pub counted-clear : (n : ℕ) (u : UsedMap) → u .bytes ≡ clear → u .count ≡ 0 → u .tracks ≡ n → u ≡ counted n clear
+counted-clear n u e f g = counted-by n clear u e (f ∙ sym bits-clear) g
+
+pub counted-join : (n : ℕ) (u : UsedMap) (m d : List ℕ) → u .bytes ≡ join m d → u .count ≡ bitsOf m + bitsOf d → u .tracks ≡ n → length m ≡ 195
+    → share m d ≡ false → u ≡ counted n (join m d)
+counted-join n u m d e f g l a = counted-by n (join m d) u e (f ∙ sym (bits-join m d l a)) g

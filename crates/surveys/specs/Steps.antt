@@ -8,7 +8,7 @@ use lib.ListN.{length}
 use Rattle.maps.specs.Bits.{bitsOf, share}
 use Rattle.refusals.specs.Order.{Reply}
 use Rattle.refusals.specs.Answers.{replyOf}
-use Rattle.directory.specs.Directory.{slotsRead, directory}
+use Rattle.directory.specs.Directory.{tracksOf, slotsRead, directory}
 use Rattle.surveys.specs.Survey.{union, usedOr, filesOr}
 use Rattle.surveys.specs.Filter.{Filtered}
 use Rattle.surveys.specs.declared.Survey.{Survey}
@@ -32,5 +32,5 @@ pub record Apart (u : UsedMap) (m : List ℕ) (own : ℕ) : Type 0 where
 -- 0 of another)
 pub record Surveyed (q : Reply) (d : List ℕ) (r : Survey) : Type 0 where
   pub reply : replyOf (r .verdict) ≡ q
-  pub used : r .used ≡ usedOr q (directory d)
+  pub used : r .used ≡ usedOr q (tracksOf d) (directory d)
   pub files : r .files ≡ filesOr q (directory d)

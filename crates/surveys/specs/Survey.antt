@@ -9,7 +9,8 @@ use Rattle.maps.specs.Bits.{bitsOf, share, clear, join}
 use Rattle.refusals.specs.Order.{Row, _when_, Reply, rows, sweep}
 use Rattle.slots.specs.Slot.{nameOf, mapOf, facts}
 use Rattle.names.specs.Name.{sameName}
-use Rattle.slots.specs.Rows.{own, strict, dataCount}
+use Rattle.slots.specs.Rows.{own, strict}
+use Rattle.slots.specs.Tracks.{dataCount}
 use Rattle.directory.specs.Places.{slots}
 use Rattle.directory.specs.Directory.{held, Directory, liveAmong}
 use Rattle.refusals.specs.declared.Verdict.{Verdict}
@@ -29,7 +30,7 @@ cross v i s =
     ∷ (9 when earlier v i (λ t. sameName (nameOf t) (nameOf s)))
     ∷ []
 
--- rows 2 to 9 of the live slot i (3 is given no more), with n directory tracks beyond the four, and 22 "directly after 7"
+-- rows 2 to 9 of the live slot i (3 is given no more), with n directory tracks beyond four, and 22 "directly after 7"
 abbrev pub rowsAt : Bool → ℕ → Directory → ℕ → List ℕ → List Row
 rowsAt release n v i s = own n (facts s) ++ (strict release (facts s) ++ cross v i s)
 
@@ -50,24 +51,24 @@ unfoldable pub union : Directory → ℕ → List ℕ
 union v zero = clear
 union v (suc k) = held (union v k) (λ s. join (union v k) (mapOf s)) (v k)
 
--- "one record of 195 map bytes together with their count"
-unfoldable pub counted : List ℕ → UsedMap
-counted m = record { bytes = m; count = bitsOf m }
+-- "one record of 195 map bytes together with their count"; "The used-map record carries n"
+unfoldable pub counted : ℕ → List ℕ → UsedMap
+counted n m = record { bytes = m; count = bitsOf m; tracks = n }
 
-unfoldable pub usedMap : Directory → UsedMap
-usedMap v = counted (union v slots)
+unfoldable pub usedMap : ℕ → Directory → UsedMap
+usedMap n v = counted n (union v slots)
 
--- "Free sectors are 1,560 less that count."
-unfoldable pub freeOf : ℕ → UsedMap → ℕ
-freeOf n u = dataCount n - u .count
+-- "Free sectors are 1,560 less that count."; "the free count follows it", the number n that the record carries
+unfoldable pub freeOf : UsedMap → ℕ
+freeOf u = dataCount (u .tracks) - u .count
 
 unfoldable pub free : ℕ → Directory → ℕ
-free n v = freeOf n (usedMap v)
+free n v = freeOf (usedMap n v)
 
 -- the used map of a directory that is not refused; a clear one of another
-abbrev pub usedOr : Reply → Directory → UsedMap
-usedOr none v = usedMap v
-usedOr (some r) v = counted clear
+abbrev pub usedOr : Reply → ℕ → Directory → UsedMap
+usedOr none n v = usedMap n v
+usedOr (some r) n v = counted 0 clear
 
 -- how many files such a directory has; 0 of another
 abbrev pub filesOr : Reply → Directory → ℕ
@@ -76,4 +77,4 @@ filesOr (some r) v = 0
 
 -- what a check hands on that refuses: its verdict, a clear map and no files
 unfoldable pub refusedWith : Verdict → Survey
-refusedWith v = record { verdict = v; used = counted clear; files = 0 }
+refusedWith v = record { verdict = v; used = counted 0 clear; files = 0 }

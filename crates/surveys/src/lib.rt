@@ -6,17 +6,19 @@ ghost use Rattle.maps.specs.Bits.{clear, join};
 ghost use Rattle.refusals.specs.Answers.{replyOf};
 ghost use Rattle.names.specs.Name.{sameName};
 ghost use Rattle.slots.specs.Slot.{nameOf};
-ghost use Rattle.directory.specs.Directory.{slotsRead, directory};
+ghost use Rattle.slots.specs.Rows.{ownReply};
+ghost use Rattle.directory.specs.Directory.{tracksOf, slotsRead, directory};
 ghost use Rattle.surveys.specs.Survey.{earlier, surveyAt, surveyBy, counted, freeOf, refusedWith};
 ghost use Rattle.surveys.specs.Filter.{isNoted, noted, Filtered};
 ghost use Rattle.surveys.specs.Steps.{Apart, Reached, Surveyed};
 use refusals::Reason;
 use refusals::Verdict;
 
-// The used map: 195 map bytes together with their number of set bits.
+// The used map: 195 map bytes together with their number of set bits, and the number of directory tracks beyond four.
 pub struct UsedMap {
     pub bytes: [u8; 195],
     pub count: usize,
+    pub tracks: usize,
 }
 
 // What the pass over rows 2 to 9 gives: its verdict, and where that is sound the used map and how many slots are live
@@ -28,28 +30,28 @@ pub struct Survey {
 }
 
 // The bytes of the filter of row 9.
-const FILTER_BYTES: usize = 640;
+const FILTER_BYTES: usize = 1024;
 
 // Whether the filter has all bits of a key.
 fn is_noted(filter: &[u8], key: u64) -> bool
     ensures { λ r. ⌜ r ≡ isNoted (now (filter .entry)) key ⌝ }
 {
-    if !maps::has_bit(filter, (key % 4937) as usize) {
+    if !maps::has_bit(filter, (key % 7741) as usize) {
         return false;
     }
-    if !maps::has_bit(filter, (key % 5077) as usize) {
+    if !maps::has_bit(filter, (key % 7867) as usize) {
         return false;
     }
-    maps::has_bit(filter, (key % 5087) as usize)
+    maps::has_bit(filter, (key % 8147) as usize)
 }
 
 // Sets the bits of a key in the filter.
 fn note(filter: &mut [u8], key: u64)
     ensures { λ _. ⌜ now (filter .exit) ≡ noted (now (filter .entry)) key ⌝ }
 {
-    maps::mark(filter, (key % 4937) as usize);
-    maps::mark(filter, (key % 5077) as usize);
-    maps::mark(filter, (key % 5087) as usize);
+    maps::mark(filter, (key % 7741) as usize);
+    maps::mark(filter, (key % 7867) as usize);
+    maps::mark(filter, (key % 8147) as usize);
 }
 
 // Whether a live slot before slot `i` has that name. The slots are looked at only where the filter has all bits of the name's
@@ -75,14 +77,30 @@ fn named_before(dir: &[u8], i: usize, name: &[u8], filter: &[u8]) -> bool
     false
 }
 
+// Rows 2 and 4 to 7 at a live slot.
+fn own_at(s: &[u8], slot: usize, tracks: usize) -> Verdict
+    ensures { λ r. ⌜ replyOf r ≡ ownReply tracks slot (now (s .entry)) ⌝ }
+{
+    let inside = slots::is_inside(slots::map_of(s), tracks);
+    slots::own_rows(s, slot, slots::data_count(tracks), inside)
+}
+
 // Rows 2 to 9 at the live slot `i`, whose bytes are `s`, and 22 after 7 where `release` asks for it; `used` is the used map
 // of the slots before it, and `filter` has the bits of their names.
-fn live_rows(dir: &[u8], i: usize, s: &[u8], used: &[u8], filter: &[u8], release: bool) -> Verdict
+fn live_rows(
+    dir: &[u8],
+    i: usize,
+    s: &[u8],
+    used: &[u8],
+    filter: &[u8],
+    release: bool,
+    tracks: usize,
+) -> Verdict
     requires { ⌜ Reached (now dir) i (now s) (now used) (now filter) ⌝ }
-    ensures { λ r. ⌜ replyOf r ≡ surveyAt release 0 (directory (now (dir .entry))) i ⌝ }
+    ensures { λ r. ⌜ replyOf r ≡ surveyAt release tracks (directory (now (dir .entry))) i ⌝ }
 {
     let slot = i + 1;
-    match slots::own_rows(s, slot) {
+    match own_at(s, slot, tracks) {
         Verdict::Unsound(f) => Verdict::Unsound(f),
         Verdict::Sound => {
             if release && slots::is_wasteful(s) {
@@ -100,12 +118,13 @@ fn live_rows(dir: &[u8], i: usize, s: &[u8], used: &[u8], filter: &[u8], release
 }
 
 // The used map of no slot.
-fn unused() -> UsedMap
-    ensures { λ r. ⌜ r ≡ counted clear ⌝ }
+fn unused(tracks: usize) -> UsedMap
+    ensures { λ r. ⌜ r ≡ counted tracks clear ⌝ }
 {
     UsedMap {
         bytes: [0; 195],
         count: 0,
+        tracks,
     }
 }
 
@@ -113,7 +132,7 @@ fn unused() -> UsedMap
 pub fn refused(verdict: Verdict) -> Survey
     ensures { λ r. ⌜ r ≡ refusedWith verdict ⌝ }
 {
-    let used = unused();
+    let used = unused(0);
     Survey {
         verdict,
         used,
@@ -124,20 +143,26 @@ pub fn refused(verdict: Verdict) -> Survey
 // The used map with one more map, of which it has no bit yet; `own` is that map's number of set bits, counted before.
 fn joined(used: UsedMap, map: &[u8], own: usize) -> UsedMap
     requires { ⌜ Apart used (now map) own ⌝ }
-    ensures { λ r. ⌜ r ≡ counted (join (used .bytes) (now (map .entry))) ⌝ }
+    ensures { λ r. ⌜ r ≡ counted (used .tracks) (join (used .bytes) (now (map .entry))) ⌝ }
 {
     let mut bytes = used.bytes;
     maps::join_into(&mut bytes, map);
     let count = used.count + own;
-    UsedMap { bytes, count }
+    let tracks = used.tracks;
+    UsedMap {
+        bytes,
+        count,
+        tracks,
+    }
 }
 
 // Rows 2 to 9 at all slots, with 22 where `release` asks for it, the used map, and how many slots are live.
 pub fn survey_slots(dir: &[u8], release: bool) -> Survey
-    ensures { λ r. ⌜ Surveyed (surveyBy release 0 (directory (now (dir .entry)))) (now (dir .entry)) r ⌝ }
+    ensures { λ r. ⌜ Surveyed (surveyBy release (tracksOf (now (dir .entry))) (directory (now (dir .entry)))) (now (dir .entry)) r ⌝ }
 {
+    let tracks = directory::tracks_of(dir);
     let end = directory::slots_read(dir);
-    let mut used = unused();
+    let mut used = unused(tracks);
     let mut filter = [0u8; FILTER_BYTES];
     let mut files: usize = 0;
     let mut i: usize = 0;
@@ -146,7 +171,7 @@ pub fn survey_slots(dir: &[u8], release: bool) -> Survey
         let k = i;
         i += 1;
         if slots::is_live(s) {
-            match live_rows(dir, k, s, &used.bytes, &filter, release) {
+            match live_rows(dir, k, s, &used.bytes, &filter, release, tracks) {
                 Verdict::Unsound(f) => {
                     return refused(Verdict::Unsound(f));
                 }
@@ -168,11 +193,13 @@ pub fn survey_slots(dir: &[u8], release: bool) -> Survey
 
 // The sectors that a used map leaves free: 0 where its count is no map's.
 pub fn free_of(used: UsedMap) -> usize
-    ensures { λ r. ⌜ r ≡ freeOf 0 used ⌝ }
+    ensures { λ r. ⌜ r ≡ freeOf used ⌝ }
 {
     let count = used.count;
-    if geometry::DATA_SECTORS < count {
+    let tracks = used.tracks;
+    let most = slots::data_count(tracks);
+    if most < count {
         return 0;
     }
-    geometry::DATA_SECTORS - count
+    most - count
 }

@@ -1,3 +1,4 @@
 pub mod Picked
 pub mod Asked
 pub mod Placed
+pub mod Shut

@@ -7,8 +7,7 @@ use native.Mathlib.Numerals.{add-one}
 use native.Mathlib.Omega.{arith}
 use Rattle.refusals.specs.Order.{Refusal, refuse, Reply, _else_, sweepFrom}
 use Rattle.refusals.proofs.First.{sweep-start, sweep-skip, sweep-stop, sweep-end}
-use Rattle.directory.specs.Places.{slotCount, slots}
-use Rattle.directory.specs.Directory.{held, Directory, directory}
+use Rattle.directory.specs.Directory.{held, Directory, tracksOf, slotsIn, directory}
 use Rattle.directory.specs.Find.{find}
 use Rattle.files.specs.Calls.{at, barred}
 use Rattle.plans.specs.Saving.{lowestSlot}
@@ -20,24 +19,24 @@ use Rattle.taking.specs.Taken.{askedReply, soughtIn, slotFor}
 abbrev pub emptyAt : Directory → ℕ → Option ℕ
 emptyAt v i = held (some i) (λ s. none) (v i)
 
-pub slot-start : (d : List ℕ) → lowestSlot 0 (directory d) ≡ sweepFrom (slots - 0) 0 (emptyAt (directory d))
-unfolding lowestSlot slotCount
-slot-start d = sweep-start slots (emptyAt (directory d))
+pub slot-start : (d : List ℕ) → lowestSlot (tracksOf d) (directory d) ≡ sweepFrom (slotsIn d - 0) 0 (emptyAt (directory d))
+unfolding lowestSlot
+slot-start d = sweep-start (slotsIn d) (emptyAt (directory d))
 
-module _ (d : List ℕ) (i : ℕ) (w : lowestSlot 0 (directory d) ≡ sweepFrom (slots - i) i (emptyAt (directory d))) where
-  pub slot-held : i < slots → (s : List ℕ) → directory d i ≡ some s → lowestSlot 0 (directory d) ≡ sweepFrom (slots - (i + 1)) (i + 1) (emptyAt (directory d))
-  slot-held h s e = w ∙ sweep-skip slots i (emptyAt (directory d)) h (rw e)
+module _ (d : List ℕ) (i : ℕ) (w : lowestSlot (tracksOf d) (directory d) ≡ sweepFrom (slotsIn d - i) i (emptyAt (directory d))) where
+  pub slot-held : i < slotsIn d → (s : List ℕ) → directory d i ≡ some s → lowestSlot (tracksOf d) (directory d) ≡ sweepFrom (slotsIn d - (i + 1)) (i + 1) (emptyAt (directory d))
+  slot-held h s e = w ∙ sweep-skip (slotsIn d) i (emptyAt (directory d)) h (rw e)
 
-  pub slot-free : i < slots → directory d i ≡ none → some i ≡ lowestSlot 0 (directory d)
-  slot-free h e = sym (w ∙ sweep-stop slots i (emptyAt (directory d)) i h (rw e))
+  pub slot-free : i < slotsIn d → directory d i ≡ none → some i ≡ lowestSlot (tracksOf d) (directory d)
+  slot-free h e = sym (w ∙ sweep-stop (slotsIn d) i (emptyAt (directory d)) i h (rw e))
 
-  pub slot-none : slots ≤ i → none ≡ lowestSlot 0 (directory d)
-  slot-none h = sym (w ∙ sweep-end (slots - i) i (emptyAt (directory d)) (omega arith))
+  pub slot-none : slotsIn d ≤ i → none ≡ lowestSlot (tracksOf d) (directory d)
+  slot-none h = sym (w ∙ sweep-end (slotsIn d - i) i (emptyAt (directory d)) (omega arith))
 
 -- ---- the slot that a save takes, by the tests that led there
 
 module _ (d : List ℕ) (s : Start) (n : List ℕ) where
-  place-by : {a : Reply} {f o : Option ℕ} → askedReply s n ≡ a → find (directory d) n ≡ f → lowestSlot 0 (directory d) ≡ o
+  place-by : {a : Reply} {f o : Option ℕ} → askedReply s n ≡ a → find (directory d) n ≡ f → lowestSlot (tracksOf d) (directory d) ≡ o
       → slotFor d s n ≡ soughtIn (a else held none (λ i. some (refuse 16 (suc i))) f) o
   unfolding slotFor
   place-by ea ef eo = ap₂ soughtIn (ap₂ (λ (p : Reply) (o : Option ℕ). p else held none (λ i. some (refuse 16 (suc i))) o) ea ef) eo
@@ -50,8 +49,8 @@ module _ (d : List ℕ) (s : Start) (n : List ℕ) where
     place-named i f = rw add-one (sym (place-by e f refl))
 
     module _ (f : find (directory d) n ≡ none) where
-      pub place-full : lowestSlot 0 (directory d) ≡ none → barred (refuse 18 0) ≡ slotFor d s n
+      pub place-full : lowestSlot (tracksOf d) (directory d) ≡ none → barred (refuse 18 0) ≡ slotFor d s n
       place-full o = sym (place-by e f o)
 
-      pub place-at : (i : ℕ) → lowestSlot 0 (directory d) ≡ some i → at i ≡ slotFor d s n
+      pub place-at : (i : ℕ) → lowestSlot (tracksOf d) (directory d) ≡ some i → at i ≡ slotFor d s n
       place-at i o = sym (place-by e f o)

@@ -5,10 +5,12 @@ use mathlib.Core.List.{List}
 use mathlib.Core.Option.{Option, none, some}
 use lib.Dec.{eqb, leb}
 use lib.ListN.{getD, take}
-use Rattle.maps.specs.Bits.{has}
+use Rattle.maps.specs.Bits.{has, join}
 use Rattle.slots.specs.Slot.{carried}
+use Rattle.slots.specs.Tracks.{innerMap}
 use Rattle.refusals.specs.Order.{refuse, Reply, _else_, row}
-use Rattle.directory.specs.Directory.{directory}
+use Rattle.directory.specs.Directory.{tracksOf, directory}
+use Rattle.surveys.specs.declared.UsedMap.{UsedMap}
 use Rattle.files.specs.Calls.{Sought, at, barred}
 use Rattle.plans.specs.Change.{between, usable}
 use Rattle.plans.specs.Plan.{nameTaken}
@@ -27,9 +29,13 @@ soughtIn none none = barred (refuse 18 0)
 
 -- the slot that a save takes, or the refusal that stands before it: rows 12, 13, 14 and 16, and 18 where no slot is free
 unfoldable pub slotFor : List ℕ → Start → List ℕ → Sought
-slotFor d s n = soughtIn (askedReply s n else nameTaken (directory d) n) (lowestSlot 0 (directory d))
+slotFor d s n = soughtIn (askedReply s n else nameTaken (directory d) n) (lowestSlot (tracksOf d) (directory d))
 
 -- ---- the bits taken
+
+-- the used map, and with it the bits inside the directory: "a directory sector's bit is never free"
+unfoldable pub shutMap : UsedMap → List ℕ
+shutMap u = join (innerMap (u .tracks)) (u .bytes)
 
 abbrev pub unset : List ℕ → ℕ → Bool
 unset m b = not (has m b)

@@ -2,15 +2,16 @@
 ghost use mathlib.Core.Path.{_≡_};
 ghost use Rattle.buffers.specs.Bytes.{put};
 ghost use Rattle.refusals.specs.Answers.{replyOf};
-ghost use Rattle.directory.specs.Directory.{directory};
+ghost use Rattle.directory.specs.Directory.{tracksOf, directory};
 ghost use Rattle.directory.specs.Find.{foundAt};
 ghost use Rattle.files.specs.Calls.{soughtOf};
 ghost use Rattle.plans.specs.Saving.{lowestSlot};
-ghost use Rattle.taking.specs.Taken.{askedReply, slotFor, lowest, full};
+ghost use Rattle.taking.specs.Taken.{askedReply, slotFor, shutMap, lowest, full};
 use directory::Found;
 use files::Lookup;
 use refusals::Reason;
 use refusals::Verdict;
+use surveys::UsedMap;
 
 // The kind of a file, and where it is loaded.
 pub struct Start {
@@ -43,7 +44,7 @@ fn asked_rows(start: Start, name: &[u8]) -> Verdict
 
 // The lowest slot that holds no file: one that is read and erased, else the end of the directory.
 fn free_slot(image: &[u8]) -> Found
-    ensures { λ r. ⌜ foundAt r ≡ lowestSlot 0 (directory (now (image .entry))) ⌝ }
+    ensures { λ r. ⌜ foundAt r ≡ lowestSlot (tracksOf (now (image .entry))) (directory (now (image .entry))) ⌝ }
 {
     let end = directory::slots_read(image);
     let mut i: usize = 0;
@@ -55,7 +56,7 @@ fn free_slot(image: &[u8]) -> Found
             return Found::At(k);
         }
     }
-    if end < directory::SLOTS {
+    if end < directory::slots_in(image) {
         return Found::At(end);
     }
     Found::Nothing
@@ -75,6 +76,16 @@ pub fn slot_for(image: &[u8], start: Start, name: &[u8]) -> Lookup
             },
         },
     }
+}
+
+// The bits that a save cannot take: those of the used map, and those inside the directory.
+pub fn shut_bits(used: UsedMap) -> [u8; 195]
+    ensures { λ r. ⌜ r ≡ shutMap used ⌝ }
+{
+    let bytes = used.bytes;
+    let mut map = slots::inner_map(used.tracks);
+    maps::join_into(&mut map, &bytes);
+    map
 }
 
 // Whether all eight bits of a map from `b` on are set, and `b` is the first of a byte.

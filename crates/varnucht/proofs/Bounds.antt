@@ -20,16 +20,15 @@ use Rattle.refusals.proofs.First.{else-none}
 use Rattle.slots.specs.Slot.{kindOf, carried, spectrum, readable, mapOf, facts, pageOf, offsetOf}
 use Rattle.slots.proofs.KindLaws.{carried-not, read-either}
 use Rattle.names.specs.Name.{askable}
-use Rattle.slots.specs.Rows.{dataCount}
 use Rattle.chains.specs.File.{sectorAt, sectorsOf, fileOf}
 use Rattle.headers.specs.Header.{fileLength, body}
 use Rattle.drives.specs.Raw.{isImage, isDrive, rawRefusal}
 use Rattle.drives.proofs.Laws.{accepted}
 use Rattle.directory.specs.Places.{slots}
-use Rattle.directory.specs.Directory.{directory, slotOr, liveAmong}
+use Rattle.directory.specs.Directory.{tracksOf, directory, slotOr, liveAmong}
 use Rattle.surveys.specs.Survey.{free}
 use Rattle.directory.specs.Find.{find}
-use Rattle.disk.specs.Look.{look, slotsOf, extra}
+use Rattle.disk.specs.Look.{look, slotsOf}
 use Rattle.disk.specs.Check.{checkLook, checkDisk, checkRelease}
 use Rattle.disk.proofs.Look.{look-some}
 use Rattle.disk.proofs.Sound.{sound}
@@ -73,20 +72,20 @@ pub releasing-within : (d : List ℕ) → Within (releasing d) 0 0
 unfolding checkRelease
 releasing-within d = within-unless (checkRelease d) 0 0 0 0 (small-by true (look d)) (λ e. (omega arith, omega arith))
 
--- ---- the listing: 80 slots, 1,560 sectors
+-- ---- the listing: 778 slots, 1,560 sectors
 
-pub listing-within : (d buf : List ℕ) → Within (listing d buf .outcome) 80 1560
+pub listing-within : (d buf : List ℕ) → Within (listing d buf .outcome) 778 1560
 unfolding checkDisk
 listing-within d buf =
     let x = entries (directory d) slots in
     let live = liveAmong (directory d) slots in
     let short = ltb (length buf) (length x) in
     let q = checkDisk d else row 20 0 short in
-    let e = ap (λ (o : Out). o .outcome) (listing-is d buf) ∙ filled-outcome q (done live (free 0 (directory d))) x buf in
-    subst (λ (o : Outcome). Within o 80 1560) (sym e)
-    (within-unless q live (free 0 (directory d)) 80 1560
+    let e = ap (λ (o : Out). o .outcome) (listing-is d buf) ∙ filled-outcome q (done live (free (tracksOf d) (directory d))) x buf in
+    subst (λ (o : Outcome). Within o 778 1560) (sym e)
+    (within-unless q live (free (tracksOf d) (directory d)) 778 1560
     (small-else (checkDisk d) (row 20 0 short) (check-small (look d)) (small-row 20 0 short (omega arith) (omega arith)))
-    (λ e. (among-few (directory d) slots, free-few 0 (directory d))))
+    (λ e. (among-few (directory d) slots, free-few (tracksOf d) (directory d))))
 
 -- ---- a file by its name
 
@@ -120,7 +119,7 @@ module _ (d n : List ℕ) where
       by none a none w = let z : refuse 15 0 ≡ r = cc in subst (λ (r : Refusal). Small (some r)) z (omega arith, omega arith)
       by none a (some i) w = let z : _≡_ {A = ℕ} 0 1 = cc in absurd (omega arith)
 
-  slot-few : (i : ℕ) → at i ≡ lookup (look d) n → i + 1 ≤ 80
+  slot-few : (i : ℕ) → at i ≡ lookup (look d) n → i + 1 ≤ 778
   slot-few i e = omega (arith, named-slot d n i (lookup-named d n i e) .below)
 
   pub reading-within : (buf : List ℕ) → Within (reading d n buf .outcome) 795591 0

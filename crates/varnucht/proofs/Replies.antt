@@ -37,7 +37,7 @@ packed-start d n bytes = packed-within (starting d n) 540671 0 (omega arith) (om
 module _ (o : Outcome) (b : List ℕ) (n : ℕ) (q : n ≡ clipped o) where
   pub packed-list : (d buf : List ℕ) → out o b ≡ listing d buf → (n ≡ packed (listing d buf .outcome)) × (b ≡ listing d buf .buffer)
   packed-list d buf e =
-      (packed-within (listing d buf .outcome) 80 1560 (omega arith) (omega arith) (listing-within d buf) o (ap (λ (x : Out). x .outcome) e) n q, ap (λ (x : Out). x .buffer) e)
+      (packed-within (listing d buf .outcome) 778 1560 (omega arith) (omega arith) (listing-within d buf) o (ap (λ (x : Out). x .outcome) e) n q, ap (λ (x : Out). x .buffer) e)
 
   pub packed-read : (d name buf : List ℕ) → out o b ≡ reading d name buf → (n ≡ packed (reading d name buf .outcome)) × (b ≡ reading d name buf .buffer)
   packed-read d name buf e =

@@ -33,8 +33,9 @@ pub fn list(image: &[u8], out: &mut [u8]) -> Result<Listed, Refused> {
     let out = out
         .get_mut(..survey.files * ENTRY_BYTES)
         .ok_or(Reason::BufferTooShort.alone())?;
-    for (entry, slot) in out.as_chunks_mut::<ENTRY_BYTES>().0.iter_mut().zip(live_slots(image)) {
-        entry[..2].copy_from_slice(&u16::from(slot.number).to_le_bytes());
+    let entries = out.as_chunks_mut::<ENTRY_BYTES>().0.iter_mut();
+    for (entry, slot) in entries.zip(live_slots(image, survey.extent)) {
+        entry[..2].copy_from_slice(&slot.number.to_le_bytes());
         entry[2..].copy_from_slice(slot.bytes);
     }
     Ok(Listed {
@@ -94,9 +95,9 @@ pub fn start_address(page: u32, offset: u32) -> Option<u32> {
 
 /// The live slot of a name asked for on a disk that passes the check.
 pub fn found<'a>(image: &'a Image, name: &[u8]) -> Result<Slot<'a>, Refused> {
-    survey(image)?;
+    let survey = survey(image)?;
     let name = asked(name).ok_or(Reason::NameNotUsable.alone())?;
-    find(image, &name).ok_or(Reason::NoSuchName.alone())
+    find(image, survey.extent, &name).ok_or(Reason::NoSuchName.alone())
 }
 
 /// The same with the length of its body, with the demand that its kind has one: the carried kinds and those of the Spectrum.

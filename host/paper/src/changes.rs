@@ -25,12 +25,12 @@ pub fn erase(image: &mut [u8], name: &[u8], list: &mut [u8]) -> Result<usize, Re
 /// name.
 pub fn rename(image: &mut [u8], name: &[u8], new: &[u8], list: &mut [u8]) -> Result<usize, Refused> {
     let image = whole_mut(image)?;
-    survey(image)?;
+    let extent = survey(image)?.extent;
     let (Some(name), Some(new)) = (asked(name), fresh(new)) else {
         return Err(Reason::NameNotUsable.alone());
     };
-    let slot = find(image, &name).ok_or(Reason::NoSuchName.alone())?;
-    if let Some(taken) = find(image, &new)
+    let slot = find(image, extent, &name).ok_or(Reason::NoSuchName.alone())?;
+    if let Some(taken) = find(image, extent, &new)
         && (taken.number != slot.number || *slot.name() == new)
     {
         return Err(Reason::NameTaken.at(taken.number));

@@ -4,11 +4,13 @@
 //! Every call takes any bytes and any numbers. A refused call changes no byte of anything lent.
 //!
 //! - `geometry`: sides, tracks, sectors, map bits, slot places
+//! - `extent`: how many tracks the directory has
 //! - `map`: the 1,560 bits of a slot's map or of the used map
 //! - `name`: names asked for and new names, and when two are the same
+//! - `names`: many names, none twice
 //! - `slot`: what the 256 bytes of a directory slot say, and where the directory ends
 //! - `spectrum`: the header of kinds 1 to 4
-//! - `check`: refusals 1, 2, 4 to 11 and 25, and 22 before a release
+//! - `check`: refusals 24, 2, 4 to 11 and 25, and 22 before a release
 //! - `calls`: the two checks, list, read, start address, raw sector
 //! - `pieces`: a file's body a piece at a time
 //! - `save`: the change that takes slots and sectors
@@ -19,9 +21,11 @@
 mod calls;
 mod changes;
 mod check;
+mod extent;
 mod geometry;
 mod map;
 mod name;
+mod names;
 mod pieces;
 mod refusal;
 mod report;

@@ -21,16 +21,16 @@ const COLUMNS: [(&str, bool); 7] = [
     ("start", true),
 ];
 
-/// The table: a header, a line for each file, and what is free.
+/// The table: the disk's name, if it has one; a header, a line for each file, and what is free.
 fn table(disk: &Disk) -> String {
     let listing = disk.listing();
     let header = COLUMNS.map(|(name, _)| name.to_string());
     let files = listing.entries().iter().map(|entry| row(disk, entry));
     let rows: Vec<_> = std::iter::once(header).chain(files).collect();
     let widths: [usize; 7] = std::array::from_fn(|column| rows.iter().map(|row| row[column].len()).max().unwrap_or(0));
-    let mut text: String = rows.iter().map(|row| line(row, &widths)).collect();
-    text.push_str(&summary(listing));
-    text
+    let name = disk.name().map_or(String::new(), |name| format!("disk {name}\n"));
+    let lines: String = rows.iter().map(|row| line(row, &widths)).collect();
+    name + &lines + &summary(listing) + &directory(listing)
 }
 
 /// What the table says of a file. Length and start of a Spectrum file stand in the file itself.
@@ -74,4 +74,10 @@ fn summary(listing: &Listing) -> String {
         None if listing.free_slots() == 0 => format!("{files}, {free} free, but no slot: no room for a file\n"),
         None => format!("{files}, no sector free: no room for a file\n"),
     }
+}
+
+/// How large the directory is, and how many of its slots are free.
+fn directory(listing: &Listing) -> String {
+    let (tracks, slots) = (output::tracks(listing.directory()), listing.directory().slots());
+    format!("{tracks}: {slots} slots, {} free\n", listing.free_slots())
 }

@@ -80,7 +80,7 @@ impl Usual {
 pub fn disk() -> (Disk, usize) {
     let fits = |disk: &Disk, i: usize| {
         let slot = disk.slot(disk.files[i].slot);
-        let changes = slot[0] & fields::PROTECTED == 0 && disk.files.len() < 80 && disk.free() > 3;
+        let changes = slot[0] & fields::PROTECTED == 0 && disk.files.len() < disk.slots() && disk.free() > 3;
         changes && disk.files[i].body.len() > 9 && fields::start(slot).is_some()
     };
     let drawn = (16_000_000..).map(|seed| disks::draw(&mut Random::new(seed)));

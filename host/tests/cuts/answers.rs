@@ -78,9 +78,16 @@ fn listing(length: usize, random: &mut Random) -> Asked {
     Asked::new(Call::List).with(OUT, random.bytes(length))
 }
 
+/// Of more live names than so many, some are asked for.
+const MANY: usize = 80;
+
 fn asked_names(change: &Change, random: &mut Random) -> Vec<Vec<u8>> {
     let Facts { live, erased, .. } = &change.facts;
     let mut asked: Vec<Vec<u8>> = live.iter().map(|live| live.name.to_vec()).collect();
+    if asked.len() > MANY {
+        random.shuffle(&mut asked);
+        asked.truncate(MANY);
+    }
     asked.extend([
         change.asked.slices[NAME].clone(),
         change.asked.slices[NEW].clone(),

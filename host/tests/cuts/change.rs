@@ -5,7 +5,7 @@ use crate::support::calls::{self, BODY, Call, NAME, NEW, OUT, Request};
 use crate::support::compare;
 use crate::support::facts::{self, Facts, Live};
 use crate::support::fields;
-use crate::support::geometry::{IMAGE, SECTOR, SECTORS, SLOT, SLOTS, bit_place, slot_place};
+use crate::support::geometry::{IMAGE, SECTOR, SECTORS, SLOT, bit_place, is_directory, slot_place, slots};
 use crate::support::margins::Margins;
 use crate::support::names;
 use crate::support::random::Random;
@@ -90,7 +90,7 @@ impl Change<'_> {
                 "sector {number} is changed and not named"
             );
         }
-        let directory = |number: usize| number % 20 < 10 && number < 80;
+        let directory = |number: usize| is_directory(number, self.facts.extra);
         let many = if self.asked.call == Call::Save {
             self.facts.directory_sectors().len()
         } else {
@@ -109,8 +109,18 @@ impl Change<'_> {
     pub fn keeps_the_end(&self, disk: &[u8], whole: bool) {
         let facts = &self.facts;
         let taken = whole && self.asked.call == Call::Save && facts.taken == facts.end;
-        let end = facts.end.map(|end| end + usize::from(taken)).filter(|&end| end <= SLOTS);
+        let end = facts
+            .end
+            .map(|end| end + usize::from(taken))
+            .filter(|&end| end <= slots(facts.extra));
         assert_eq!(facts::end(disk), end, "the directory ends elsewhere");
+    }
+
+    /// What slot 1 says of the disk stays: its name, its random word, the number of its directory tracks.
+    pub fn keeps_what_is_the_disks(&self, disk: &[u8]) {
+        for at in fields::KEPT.into_iter().flatten() {
+            assert_eq!(disk[at], self.old[at], "byte {at} of slot 1 is changed");
+        }
     }
 
     /// Where no file had waste sectors none has any now: the new disk may go out where the old one might.

@@ -32,7 +32,7 @@ fn drawn_disks_answer_what_was_drawn() {
 fn listed(disk: &Disk, lender: &mut Margins) {
     let mut expected = Vec::new();
     for file in &disk.files {
-        expected.extend([file.slot as u8, 0]);
+        expected.extend((file.slot as u16).to_le_bytes());
         expected.extend(disk.slot(file.slot));
     }
     expected.extend([0x5c; 9]);

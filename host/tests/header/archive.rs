@@ -60,8 +60,8 @@ fn stack_said() -> Vec<(String, usize)> {
         .collect()
 }
 
-/// `stack.c` says of each call how many bytes of painted stack it wrote over. A save took less than 5,500 bytes, the calls on
-/// reports less than 2,600 and every other call less than 1,600 when reports came. The frames in the compiled code have fixed
+/// `stack.c` says of each call how many bytes of painted stack it wrote over. A save took less than 5,900 bytes, the calls on
+/// reports less than 3,000 and every other call less than 2,030 when bigger directories came. The frames in the compiled code have fixed
 /// sizes and no call leads back to itself, so that their sum, about the same, holds for every input.
 #[test]
 fn the_calls_need_little_stack() {

@@ -72,19 +72,22 @@ static void check_greatest_spectrum(void) {
     expect(varnucht_check(image, sizeof image) == VARNUCHT_BODY_TOO_LONG + 256 * 1, "502 bytes do not", 0);
 }
 
-/* Eighty files fill the listing. The one after them is refused 18. */
+/* As many files as the biggest directory has slots fill the listing. The one after them is refused 18. */
 static void check_longest_listing(void) {
     memset(image, 0, sizeof image);
+    image[255] = 35;
+    const unsigned tracks = varnucht_directory_tracks(image);
+    expect(varnucht_directory_slots(tracks) == VARNUCHT_SLOTS, "the most slots", tracks);
     for (unsigned i = 0; i < VARNUCHT_SLOTS; i++) {
-        uint8_t name[2] = {(uint8_t)('A' + i / 10), (uint8_t)('0' + i % 10)};
-        expect(varnucht_refusal(save(name, 2, i, sizeof list)) == 0, "a file of eighty", i);
+        uint8_t name[2] = {(uint8_t)('A' + i / 40), (uint8_t)('0' + i % 40)};
+        expect(varnucht_refusal(save(name, 2, i % 502, sizeof list)) == 0, "a file of 778", i);
     }
-    expect(save(tunes, 5, 0, sizeof list) == VARNUCHT_NO_FREE_SLOT, "the file after eighty", 0);
+    expect(save(tunes, 5, 0, sizeof list) == VARNUCHT_NO_FREE_SLOT, "the file after 778", 0);
     uint64_t answer = varnucht_list(image, sizeof image, out, VARNUCHT_LISTING_BYTES - 1);
     expect(answer == VARNUCHT_BUFFER_TOO_SHORT, "a listing too long", 0);
     answer = varnucht_list(image, sizeof image, out, VARNUCHT_LISTING_BYTES);
     expect(varnucht_refusal(answer) == 0 && varnucht_value(answer) == VARNUCHT_SLOTS, "the longest listing", 0);
-    expect(varnucht_free(answer) == VARNUCHT_DATA_SECTORS - VARNUCHT_SLOTS, "its free sectors", 0);
+    expect(varnucht_free(answer) == varnucht_directory_data(tracks) - VARNUCHT_SLOTS, "its free sectors", 0);
     expect(varnucht_entry_slot(varnucht_entry(out, VARNUCHT_SLOTS - 1)) == VARNUCHT_SLOTS, "its last entry", 0);
 }
 
@@ -93,7 +96,7 @@ typedef uint64_t change(uint8_t *, size_t, const uint8_t *, size_t, uint8_t *, s
 /* Two bytes are enough for every other change and one is not; of an odd number the last holds nothing. */
 static void check_other_lists(void) {
     static change *const changes[] = {varnucht_hide, varnucht_show, varnucht_protect, varnucht_release, varnucht_erase};
-    static const uint8_t first[] = {'A', '0'}, other[] = {'A', 'A'};
+    static const uint8_t first[] = {'A', '0'}, other[] = {'Z', 'Z'};
     const size_t room = VARNUCHT_CHANGE_LIST_BYTES;
     for (unsigned i = 0; i < sizeof changes / sizeof changes[0]; i++) {
         uint64_t answer = changes[i](image, sizeof image, first, 2, list, room - 1);

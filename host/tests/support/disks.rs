@@ -1,7 +1,7 @@
 //! Drawn disks that the rules accept, written byte by byte from document 01, with what was written kept beside the image.
 
 use super::fields;
-use super::geometry::{BITS, PAYLOAD, SECTOR, SLOT, SLOTS, address, bit_place, fills, slot_place};
+use super::geometry::{self, BITS, EXTRA, PAYLOAD, SECTOR, SLOT, address, bit_place, fills, slot_place};
 use super::names::{self, Name};
 use super::random::Random;
 use super::shapes::Shape;
@@ -20,6 +20,8 @@ pub struct File {
 #[derive(Clone)]
 pub struct Disk {
     pub image: Vec<u8>,
+    /// The directory tracks beyond four.
+    pub extra: usize,
     /// By rising slot.
     pub files: Vec<File>,
     /// The first slot whose first name byte is 0; no file stands there or behind it.
@@ -34,6 +36,7 @@ pub fn draw(random: &mut Random) -> Disk {
 pub fn of_shape(shape: &Shape, random: &mut Random) -> Disk {
     let mut disk = Disk {
         image: shape.ground.image(random),
+        extra: shape.extra,
         files: Vec::new(),
         end: shape.end,
     };
@@ -43,7 +46,7 @@ pub fn of_shape(shape: &Shape, random: &mut Random) -> Disk {
         let file = disk.write(slot, chain, shape, random);
         disk.files.push(file);
     }
-    for slot in 1..=SLOTS {
+    for slot in 1..=disk.slots() {
         if disk.files.iter().all(|file| file.slot != slot) {
             if disk.reads(slot) {
                 disk.rubbish(slot, random);
@@ -52,6 +55,10 @@ pub fn of_shape(shape: &Shape, random: &mut Random) -> Disk {
             }
         }
     }
+    disk.image[EXTRA] = match shape.extra {
+        0 => random.pick(&[0, 0, 255]),
+        extra => extra as u8,
+    };
     disk
 }
 
@@ -72,6 +79,15 @@ impl Disk {
         self.sector_mut(bit)[PAYLOAD..].copy_from_slice(&next);
     }
 
+    pub fn slots(&self) -> usize {
+        geometry::slots(self.extra)
+    }
+
+    /// How many sectors are data.
+    pub fn data(&self) -> usize {
+        geometry::data(self.extra)
+    }
+
     /// Whether this slot stands before the directory's end.
     pub fn reads(&self, slot: usize) -> bool {
         self.end.is_none_or(|end| slot < end)
@@ -79,7 +95,7 @@ impl Disk {
 
     /// The slots before the end that are erased now.
     pub fn erased(&self) -> Vec<usize> {
-        (1..=SLOTS)
+        (1..=self.slots())
             .filter(|&slot| self.reads(slot) && self.slot(slot)[0] == 0)
             .collect()
     }
@@ -90,7 +106,7 @@ impl Disk {
 
     /// Free sectors: all that no file has.
     pub fn free(&self) -> usize {
-        BITS - self.files.iter().map(|file| file.chain.len()).sum::<usize>()
+        self.data() - self.files.iter().map(|file| file.chain.len()).sum::<usize>()
     }
 
     fn write(&mut self, slot: usize, chain: Vec<usize>, shape: &Shape, random: &mut Random) -> File {

@@ -17,6 +17,10 @@ pub const PAGES: usize = 239;
 pub const REMAINDER: usize = 240;
 pub const EXEC: usize = 242;
 
+/// The bytes of slot 1 that are about the disk: its name, its random word, and the directory tracks beyond four. A save keeps
+/// them: document 02, M-106.
+pub const KEPT: [std::ops::RangeInclusive<usize>; 3] = [210..=219, 252..=253, 255..=255];
+
 /// The nine bytes at the front of the first sector of a file that can be read.
 pub const HEADER: usize = 9;
 pub const HEADER_REMAINDER: usize = 1;

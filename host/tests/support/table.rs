@@ -1,13 +1,13 @@
 /// The words of document 01's table by number, copied from it; and those of the rows that document 02 moves or adds. Numbers
 /// between them belong to requests that have not landed.
 #[rustfmt::skip]
-pub const TABLE: [(u8, &str); 24] = [
+pub const TABLE: [(u8, &str); 25] = [
     (1, "the image is not 819,200 bytes"),
     (2, "the kind is not known"),
     (3, "the first name byte is 0 (given no more)"),
-    (4, "the count is not 1 to 1,560"),
+    (4, "the count is not 1 to the number of data sectors"),
     (5, "the map's set bits are not as many as the count"),
-    (6, "the first address is not a data sector, or its bit is clear"),
+    (6, "the first address is not a data sector, or its bit is clear, or the map has a bit inside the directory"),
     (7, "carried kind, and 510 × count is below 9 + length"),
     (8, "the map shares a bit with an earlier live slot"),
     (9, "the name is an earlier live slot's, capitals or not"),
@@ -24,6 +24,7 @@ pub const TABLE: [(u8, &str); 24] = [
     (20, "a lent output buffer is too short"),
     (21, "no such drive, track or sector"),
     (22, "carried kind, and the count is above the least that its length needs (waste sectors behind the file)"),
+    (24, "the number of directory tracks beyond four, byte 255 of slot 1, is 36 to 254"),
     (25, "kind 1 to 4, and 510 × count is below 9 + the length in the header"),
     (31, "a disk or join that would pass 65,535 disks"),
 ];

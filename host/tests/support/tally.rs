@@ -26,7 +26,7 @@ pub fn possible(call: Call) -> Vec<u8> {
         Call::Rename => &[12, 15, 16, 17, 20],
         Call::Hide | Call::Show | Call::Protect | Call::Release => &[12, 15, 20],
     };
-    let disk = (0..=11).filter(|&number| number != 3).chain([25]);
+    let disk = (0..=11).filter(|&number| number != 3).chain([24, 25]);
     disk.chain(own.iter().copied()).collect()
 }
 

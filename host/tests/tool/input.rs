@@ -87,7 +87,7 @@ fn what_is_no_file() {
 fn images_and_bodies_from_a_pipe() {
     let folder = Folder::new();
     let sound = disk(&[("ONE", 5_000)]);
-    assert_eq!(fed(["check", "/dev/stdin"], sound.image().as_bytes()).done(), "accepted\n");
+    assert_eq!(fed(["check", "/dev/stdin"], sound.image().as_bytes()).done(), ACCEPTED);
     fed(["check", "/dev/stdin"], &[0; 1_000]).fails(1, "refusal 1: ");
     let image = folder.image(&sound);
     for file in ["/dev/zero", "/dev/urandom"] {

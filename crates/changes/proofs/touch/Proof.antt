@@ -20,7 +20,7 @@ dir-sector-requires c κs = search needs
 put-number-requires : tie.Need-put-number-requires
 put-number-requires c κs =
     let e = c .before .before .before .before .before .before in
-    (e .if1 .left, sector-small _ _ (c .dir-sector .ensures) (omega (arith, e .before .before .before .before .pre .slot .below)))
+    (e .if1 .left, sector-small _ _ (c .dir-sector .ensures) (e .before .before .before .before .pre .slot .below))
 
 same-length : tie.Need-same-length
 same-length c = search needs
@@ -33,7 +33,7 @@ returns-2 c =
     let n = c .before .before in
     let p = n .before .before .before .before .before in
     let e = p .before .before in
-    touch-done _ _ _ _ _ (e .if1 .left) _ (p .put-in-slot .ensures) _ (n .before .dir-sector .ensures) _ (n .put-number .ensures)
+    touch-done _ _ _ _ _ (e .before .before .before .before .pre .slot .below) (e .if1 .left) _ (p .put-in-slot .ensures) _ (n .before .dir-sector .ensures) _ (n .put-number .ensures)
 
 pub touch-spec : {M : Type 1} → statement M
 touch-spec =

@@ -1,11 +1,19 @@
 -- `disk::examine_by` meets its contract: each way out has the tests that led there.
-use mathlib.Core.Path.{sym, ap, _∙_}
+use mathlib.Core.Path.{_≡_, sym, ap, _∙_}
+use mathlib.Core.Bool.{false}
+use denote.Ref.{now}
 use Rattle.refusals.specs.Answers.{replyOf}
+use Rattle.slots.specs.Tracks.{badTracks}
+use Rattle.directory.specs.Directory.{labelOf}
 use Rattle.surveys.proofs.Pass.{surveyed-sound}
-use Rattle.disk.proofs.Examined.{examined-length, examined-survey, examined-chains, examined-sound}
+use Rattle.disk.proofs.Examined.{examined-length, examined-tracks, examined-survey, examined-chains, examined-sound}
 use borrow.Author.Needs.{needs}
 use Rattle.disk.proofs.examine_by.Statement.{statement}
 use Rattle.disk.proofs.examine_by.Tie as tie
+
+-- a number of tracks that there can be
+good : (c : tie.Else2) → badTracks (labelOf (now (c .before .before .before .before .args .image)) 255) ≡ false
+good c = sym (c .before .has-bad-tracks .ensures) ∙ c .if2 .left
 
 unsound-requires : tie.Need-unsound-requires
 unsound-requires c κs = search needs
@@ -15,6 +23,20 @@ refused-requires c κs = search needs
 
 returns : tie.Need-returns
 returns c = examined-length _ _ (c .before .before .if1 .taken) _ (c .before .unsound .ensures) _ (c .refused .ensures)
+
+has-bad-tracks-requires : tie.Need-has-bad-tracks-requires
+has-bad-tracks-requires c κs = search needs
+
+unsound-requires-2 : tie.Need-unsound-requires-2
+unsound-requires-2 c κs = search needs
+
+refused-requires-2 : tie.Need-refused-requires-2
+refused-requires-2 c κs = search needs
+
+returns-2 : tie.Need-returns-2
+returns-2 c =
+    let t = c .before .before in
+    examined-tracks _ _ (t .before .before .if1 .left) (sym (t .before .has-bad-tracks .ensures) ∙ t .if2 .taken) _ (c .before .unsound2 .ensures) _ (c .refused2 .ensures)
 
 survey-slots-requires : tie.Need-survey-slots-requires
 survey-slots-requires c κs = search needs
@@ -31,29 +53,29 @@ all-chains-requires c κs = surveyed-sound _ _ _ (c .before .before .survey-slot
 enum-told-3 : tie.Need-enum-told-3
 enum-told-3 c = search needs
 
-refused-requires-2 : tie.Need-refused-requires-2
-refused-requires-2 c κs = search needs
+refused-requires-3 : tie.Need-refused-requires-3
+refused-requires-3 c κs = search needs
 
 enum-told-4 : tie.Need-enum-told-4
 enum-told-4 c = search needs
 
-returns-2 : tie.Need-returns-2
-returns-2 c =
-    let v = c .before .before in
-    examined-survey _ _ (v .before .if1 .left) _ (v .survey-slots .ensures) _ (c .enum-told .given .1)
-
 returns-3 : tie.Need-returns-3
 returns-3 c =
-    let a = c .before .before .before in
-    let v = a .before .before .before in
-    examined-chains _ _ (v .before .if1 .left) _ (v .survey-slots .ensures) (a .before .enum-told2 .given .1) _ _ (c .before .enum-told3 .given .1)
-    (a .all-chains .ensures) _ (c .refused2 .ensures)
+    let v = c .before .before in
+    examined-survey _ _ (v .before .before .before .if1 .left) (good (v .before)) _ (v .survey-slots .ensures) _ (c .enum-told .given .1)
 
 returns-4 : tie.Need-returns-4
 returns-4 c =
+    let a = c .before .before .before in
+    let v = a .before .before .before in
+    examined-chains _ _ (v .before .before .before .if1 .left) (good (v .before)) _ (v .survey-slots .ensures) (a .before .enum-told2 .given .1) _ _
+    (c .before .enum-told3 .given .1) (a .all-chains .ensures) _ (c .refused3 .ensures)
+
+returns-5 : tie.Need-returns-5
+returns-5 c =
     let a = c .before .before in
     let v = a .before .before .before in
-    examined-sound _ _ (v .before .if1 .left) _ (v .survey-slots .ensures) (a .before .enum-told2 .given .1)
+    examined-sound _ _ (v .before .before .before .if1 .left) (good (v .before)) _ (v .survey-slots .ensures) (a .before .enum-told2 .given .1)
     (ap replyOf (sym (c .enum-told4 .given .1)) ∙ a .all-chains .ensures)
 
 pub examine-by-spec : {M : Type 1} → statement M
@@ -63,13 +85,17 @@ examine-by-spec =
     unsound-requires
     refused-requires
     returns
+    has-bad-tracks-requires
+    unsound-requires-2
+    refused-requires-2
+    returns-2
     survey-slots-requires
     enum-told
     enum-told-2
     all-chains-requires
     enum-told-3
-    refused-requires-2
+    refused-requires-3
     enum-told-4
-    returns-2
     returns-3
-    returns-4)
+    returns-4
+    returns-5)

@@ -4,32 +4,22 @@ use Rattle.saves.proofs.Dirs.{cleared-next, cleared-not}
 use borrow.Author.Needs.{needs}
 use Rattle.saves.proofs.clear_next.Statement.{statement}
 use Rattle.saves.proofs.clear_next.Tie as tie
-use Rattle.saves.proofs.clear_next.Reads as reads
-use Rattle.saves.proofs.clear_next.Lts as lts
-use Rattle.buffers.proofs.copy_into.Reads as copy-into-reads
-use Rattle.directory.proofs.slot_place.Reads as slot-place-reads
 
--- src/lib.rt:229:57
 add-slot-place : tie.Need-add-slot-place
 add-slot-place c = let p = c .before .before .before .pre (c .before .if1 .taken) in omega arith
 
--- src/lib.rt:229:35
 slot-place-requires : tie.Need-slot-place-requires
 slot-place-requires c κs = search needs
 
--- src/lib.rt:229:65
 slice-aggregate-copy-into : tie.Need-slice-aggregate-copy-into
 slice-aggregate-copy-into c = search needs
 
--- src/lib.rt:229:9
 copy-into-requires : tie.Need-copy-into-requires
 copy-into-requires c κs = search needs
 
--- src/lib.rt:223:1
 same-length : tie.Need-same-length
 same-length c = search needs
 
--- src/lib.rt:223:1
 returns : tie.Need-returns
 returns c =
     let w = c .before .before in
@@ -38,7 +28,6 @@ returns c =
     let p = t .before .before .pre (t .if1 .taken) in
     cleared-next _ _ (t .if1 .taken) (omega arith) _ (a .slot-place .ensures .0) _ (w .copy-into .ensures)
 
--- src/lib.rt:223:1
 returns-2 : tie.Need-returns-2
 returns-2 c = cleared-not _ _ (c .if1 .left)
 

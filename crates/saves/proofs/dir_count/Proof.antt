@@ -5,19 +5,13 @@ use Rattle.saves.proofs.Dirs.{two-long, one-long}
 use borrow.Author.Needs.{needs}
 use Rattle.saves.proofs.dir_count.Statement.{statement}
 use Rattle.saves.proofs.dir_count.Tie as tie
-use Rattle.saves.proofs.dir_count.Reads as reads
-use Rattle.saves.proofs.dir_count.Lts as lts
-use Rattle.saves.proofs.is_apart.Reads as is-apart-reads
 
--- src/lib.rt:250:8
 is-apart-requires : tie.Need-is-apart-requires
 is-apart-requires c κs = search needs
 
--- src/lib.rt:251:9
 returns : tie.Need-returns
 returns c = (sym (two-long _ _ (c .before .is-apart .ensures) (c .if1 .taken)), omega arith)
 
--- src/lib.rt:246:1
 returns-2 : tie.Need-returns-2
 returns-2 c = (sym (one-long _ _ (c .before .is-apart .ensures) (c .if1 .left)), omega arith)
 

@@ -4,32 +4,24 @@ use Rattle.saves.proofs.Dirs.{apart-not, apart-by}
 use borrow.Author.Needs.{needs}
 use Rattle.saves.proofs.is_apart.Statement.{statement}
 use Rattle.saves.proofs.is_apart.Tie as tie
-use Rattle.saves.proofs.is_apart.Reads as reads
-use Rattle.saves.proofs.is_apart.Lts as lts
-use Rattle.directory.proofs.dir_sector.Reads as dir-sector-reads
 
--- src/lib.rt:239:9
 returns : tie.Need-returns
 returns c = let a = c .before .args in apart-not (a .i) (a .old) (not-true _ (c .if1 .taken))
 
--- src/lib.rt:241:38
 add-dir-sector : tie.Need-add-dir-sector
 add-dir-sector c = search needs
 
--- src/lib.rt:241:9
 dir-sector-requires : tie.Need-dir-sector-requires
 dir-sector-requires c κs = search needs
 
--- src/lib.rt:242:13
 dir-sector-requires-2 : tie.Need-dir-sector-requires-2
 dir-sector-requires-2 c κs = search needs
 
--- src/lib.rt:234:1
 returns-2 : tie.Need-returns-2
 returns-2 c =
     let n = c .before in
     let a = n .before .before .args in
-    apart-by (a .i) (a .old) (not-false _ (n .before .if1 .left)) _ _ (n .dir-sector .ensures) (c .dir-sector2 .ensures)
+    apart-by (a .i) (a .old) (n .before .before .pre) (not-false _ (n .before .if1 .left)) _ _ (n .dir-sector .ensures) (c .dir-sector2 .ensures)
 
 pub is-apart-spec : {M : Type 1} → statement M
 is-apart-spec =

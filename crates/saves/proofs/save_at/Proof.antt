@@ -4,7 +4,7 @@ use denote.Ref.{now}
 use Prim.Native.Nat.{_<_}
 use Rattle.directory.specs.Places.{slots}
 use Rattle.slots.specs.Slot.{sectorsFor}
-use Rattle.saves.proofs.Planned.{place-few, save-few, save-large, save-short, savable, save-done}
+use Rattle.saves.proofs.Planned.{place-few, open-long, save-few, save-large, save-short, savable, save-done}
 use borrow.Author.Needs.{needs}
 use Rattle.saves.proofs.save_at.Statement.{statement}
 use Rattle.saves.proofs.save_at.Tie as tie
@@ -29,6 +29,8 @@ no-requires-2 c κs = search needs
 returns-2 : tie.Need-returns-2
 unfolding sectorsFor
 returns-2 c = save-few _ _ _ _ _ _ _ _ _ (c .before .before .before .before .before .before .before .before .before .before .pre) _ (c .before .before .free-of .ensures) (c .before .if2 .taken) _ (c .no2 .ensures)
+
+-- the slot is one of the directory's
 
 -- the slot is one of the directory's
 slot-few : (c : tie.Else2) → c .before .before .before .before .before .before .before .before .before .args .i < slots
@@ -57,18 +59,22 @@ returns-3 c =
     let e = o .before .before in
     save-short _ _ _ _ _ _ _ _ _ (e .before .before .before .before .before .before .before .before .before .pre) _ (e .before .free-of .ensures) _ refl (e .if2 .left) _ (o .has-old-name .ensures) _ (k .dir-count .ensures .0) (c .before .if3 .taken) _ (c .no3 .ensures)
 
+shut-bits-requires : tie.Need-shut-bits-requires
+shut-bits-requires c κs = search needs
+
 slice-aggregate-write-save : tie.Need-slice-aggregate-write-save
 slice-aggregate-write-save c = search needs
 
 write-save-requires : tie.Need-write-save-requires
 unfolding sectorsFor
 write-save-requires c κs =
-    let t = c .before .before .before .before in
+    let b = c .before .before .before in
+    let t = b .before in
     let k = t .before in
     let o = k .before in
     let e = o .before .before in
     let s = e .before .before .before .before .before .before .before .before .before in
-    savable _ _ _ _ (now (s .args .name)) (now (s .args .exec)) (now (s .args .info)) _ _ (s .pre) _ (e .before .free-of .ensures) _ refl (e .if2 .left) _ (o .has-old-name .ensures) _ (k .dir-count .ensures .0) (t .if3 .left)
+    (savable _ _ _ _ (now (s .args .name)) (now (s .args .exec)) (now (s .args .info)) _ _ (s .pre) _ (e .before .free-of .ensures) _ refl (e .if2 .left) _ (o .has-old-name .ensures) _ (k .dir-count .ensures .0) (t .if3 .left) _ (b .shut-bits .ensures), open-long _ _ _ _ (now (s .args .name)) (s .pre))
 
 same-length-2 : tie.Need-same-length-2
 same-length-2 c = search needs
@@ -80,11 +86,12 @@ returns-4 : tie.Need-returns-4
 unfolding sectorsFor
 returns-4 c =
     let w = c .before .before .before .before in
-    let t = w .before .before .before .before .before in
+    let b = w .before .before .before .before in
+    let t = b .before in
     let k = t .before in
     let o = k .before in
     let e = o .before .before in
-    save-done _ _ _ _ _ _ _ _ _ (e .before .before .before .before .before .before .before .before .before .pre) _ (e .before .free-of .ensures) _ refl (e .if2 .left) _ (o .has-old-name .ensures) _ (k .dir-count .ensures .0) (t .if3 .left) _ _ (w .write-save .ensures)
+    save-done _ _ _ _ _ _ _ _ _ (e .before .before .before .before .before .before .before .before .before .pre) _ (e .before .free-of .ensures) _ refl (e .if2 .left) _ (o .has-old-name .ensures) _ (k .dir-count .ensures .0) (t .if3 .left) _ (b .shut-bits .ensures) _ _ (w .write-save .ensures)
 
 pub save-at-spec : {M : Type 1} → statement M
 save-at-spec =
@@ -102,6 +109,7 @@ save-at-spec =
     no-requires-3
     same-length
     returns-3
+    shut-bits-requires
     slice-aggregate-write-save
     write-save-requires
     same-length-2

@@ -4,6 +4,12 @@ use borrow.Author.Needs.{needs}
 use Rattle.saves.proofs.write_file.Statement.{statement}
 use Rattle.saves.proofs.write_file.Tie as tie
 
+slot-of-requires : tie.Need-slot-of-requires
+slot-of-requires c κs = search needs
+
+kept-slot-requires : tie.Need-kept-slot-requires
+kept-slot-requires c κs = search needs
+
 header-of-requires : tie.Need-header-of-requires
 header-of-requires c κs = search needs
 
@@ -15,9 +21,6 @@ write-chain-requires c κs = search needs
 
 clear-next-requires : tie.Need-clear-next-requires
 clear-next-requires c κs = search needs
-
-slot-of-requires : tie.Need-slot-of-requires
-slot-of-requires c κs = search needs
 
 slot-place-requires : tie.Need-slot-place-requires
 slot-place-requires c κs = search needs
@@ -34,21 +37,25 @@ same-length c = search needs
 returns : tie.Need-returns
 returns c =
     let w = c .before .before in
-    let s = w .before .before .before .before in
-    let n = s .before .before .before in
+    let p = w .before .before in
+    let n = p .before .before .before .before in
     let d = n .before .before .before .before in
     let h = d .before .before .before in
-    file-written _ _ _ _ _ _ _ _ (h .before .before .before .before .before .before .before .pre .slot) _ _ _ _ _ _ _ _ (h .header-of .ensures) (d .write-chain .ensures) (n .clear-next .ensures) (s .slot-of .ensures) (w .before .before .slot-place .ensures .0) (w .copy-into .ensures)
+    let k = h .before in
+    let s = k .before .before in
+    file-written _ _ _ _ _ _ _ (s .before .before .before .before .before .before .before .pre .0 .slot) _ _ _ _ _ _ _ _ _ (s .slot-of .ensures) (k .kept-slot .ensures)
+    (h .header-of .ensures) (d .write-chain .ensures) (n .clear-next .ensures) (p .slot-place .ensures .0) (w .copy-into .ensures)
 
 pub write-file-spec : {M : Type 1} → statement M
 write-file-spec =
     tie.close
     (tie.spec
+    slot-of-requires
+    kept-slot-requires
     header-of-requires
     slice-aggregate-write-chain
     write-chain-requires
     clear-next-requires
-    slot-of-requires
     slot-place-requires
     slice-aggregate-copy-into
     copy-into-requires

@@ -14,19 +14,19 @@ slice-reshare-prefix-write-file : tie.Need-slice-reshare-prefix-write-file
 slice-reshare-prefix-write-file c = search needs
 
 slice-aggregate-write-file : tie.Need-slice-aggregate-write-file
-slice-aggregate-write-file c = sym (length-take-le _ _ (omega (arith, c .before .before .before .before .before .before .before .before .before .before .before .before .before .pre .room)))
+slice-aggregate-write-file c = sym (length-take-le _ _ (omega (arith, c .before .before .before .before .before .before .before .before .before .before .before .before .before .pre .0 .room)))
 
 write-file-requires : tie.Need-write-file-requires
-write-file-requires c κs = front-writable _ _ _ _ _ _ _ (c .before .before .before .before .before .before .before .before .before .before .before .before .before .pre) _ (c .before .before .before .before .pick-bits .ensures)
+write-file-requires c κs = (front-writable _ _ _ _ _ _ _ (c .before .before .before .before .before .before .before .before .before .before .before .before .before .pre .0) _ (c .before .before .before .before .pick-bits .ensures), c .before .before .before .before .before .before .before .before .before .before .before .before .before .pre .1)
 
 to-numbers-requires : tie.Need-to-numbers-requires
-to-numbers-requires c κs = (omega (arith, c .before .before .before .before .before .before .before .before .before .before .before .before .before .before .before .before .before .pre .room), front-writable _ _ _ _ _ _ _ (c .before .before .before .before .before .before .before .before .before .before .before .before .before .before .before .before .before .pre) _ (c .before .before .before .before .before .before .before .before .pick-bits .ensures) .bits)
+to-numbers-requires c κs = (omega (arith, c .before .before .before .before .before .before .before .before .before .before .before .before .before .before .before .before .before .pre .0 .room), front-writable _ _ _ _ _ _ _ (c .before .before .before .before .before .before .before .before .before .before .before .before .before .before .before .before .before .pre .0) _ (c .before .before .before .before .before .before .before .before .pick-bits .ensures) .bits)
 
 put-dirs-requires : tie.Need-put-dirs-requires
 put-dirs-requires c κs =
     let t = c .before .before .before in
     let p = t .before .before .before .before .before .before .before .before .before in
-    back-listable _ _ _ _ _ _ _ (p .before .before .before .before .before .before .before .before .before .pre) _ _ _ _ (p .pick-bits .ensures) (t .to-numbers .ensures) _ (omega arith)
+    back-listable _ _ _ _ _ _ _ (p .before .before .before .before .before .before .before .before .before .pre .0) _ _ _ _ (p .pick-bits .ensures) (t .to-numbers .ensures) _ (omega arith)
 
 same-length : tie.Need-same-length
 same-length c = search needs
@@ -40,7 +40,7 @@ returns c =
     let t = l .before .before .before .before in
     let w = t .before .before .before .before in
     let p = w .before .before .before .before .before in
-    let r = p .before .before .before .before .before .before .before .before .before .pre in
+    let r = p .before .before .before .before .before .before .before .before .before .pre .0 in
     saved-is _ _ _ _ _ _ _ _ _ (r .enough) (r .room) _ _ _ (p .pick-bits .ensures) (w .write-file .ensures) (t .to-numbers .ensures) (l .put-dirs .ensures)
 
 pub write-save-spec : {M : Type 1} → statement M

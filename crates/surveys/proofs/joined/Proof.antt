@@ -1,5 +1,5 @@
 -- `surveys::joined` meets its contract: nothing is shared, so that the counts add up.
-use mathlib.Core.Path.{ap₂}
+use mathlib.Core.Path.{refl, ap₂}
 use Prim.Native.Nat.{_+_}
 use native.Mathlib.Omega.{arith}
 use Rattle.maps.proofs.Laws.{bits-le}
@@ -22,7 +22,7 @@ add-count c =
 returns : tie.Need-returns
 returns c =
     let p = c .before .before .before .before .before .before .pre in
-    counted-join _ _ _ (c .before .before .join-into .ensures) (ap₂ _+_ (p .count) (p .own-count)) (p .long) (p .apart)
+    counted-join _ _ _ _ (c .before .before .join-into .ensures) (ap₂ _+_ (p .count) (p .own-count)) refl (p .long) (p .apart)
 
 pub joined-spec : {M : Type 1} → statement M
 joined-spec = tie.close (tie.spec slice-aggregate-join-into join-into-requires add-count returns)

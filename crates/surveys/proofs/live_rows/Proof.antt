@@ -22,8 +22,8 @@ add-slot c =
     let p = c .before .before .before .before in
     omega (arith, p .pre .slot, read-most (now (p .args .dir)))
 
-own-rows-requires : tie.Need-own-rows-requires
-own-rows-requires c κs = search needs
+own-at-requires : tie.Need-own-at-requires
+own-at-requires c κs = search needs
 
 enum-known-f : tie.Need-enum-known-f
 enum-known-f c = search needs
@@ -44,7 +44,7 @@ returns c =
     let o = a .before .before .before in
     let p = o .before .before .before .before .before .pre in
     c .unsound .ensures
-    ∙ slot-waste _ _ _ _ _ (p .here) (p .used) _ (o .own-rows .ensures) (a .before .enum-told .given .1)
+    ∙ slot-waste _ _ _ _ _ _ (p .here) (p .used) _ (o .own-at .ensures) (a .before .enum-told .given .1)
     (rw (a .if1 .taken) (sym (t .before .is-wasteful .ensures) ∙ t .if2 .taken))
 
 map-of-requires : tie.Need-map-of-requires
@@ -64,7 +64,7 @@ returns-2 c =
     let o = j .before .before .before in
     let p = o .before .before .before .before .before .pre in
     c .unsound2 .ensures
-    ∙ slot-shared _ _ _ _ _ (p .here) (p .used) _ (o .own-rows .ensures) (j .before .enum-told .given .1) (lean j) (m .map-of .ensures) (t .before .shares .ensures) (t .if3 .taken)
+    ∙ slot-shared _ _ _ _ _ _ (p .here) (p .used) _ (o .own-at .ensures) (j .before .enum-told .given .1) (lean j) (m .map-of .ensures) (t .before .shares .ensures) (t .if3 .taken)
 
 name-of-requires : tie.Need-name-of-requires
 name-of-requires c κs = search needs
@@ -84,14 +84,14 @@ returns-3 c =
     let o = j .before .before .before in
     let p = o .before .before .before .before .before .pre in
     c .unsound3 .ensures
-    ∙ slot-twice _ _ _ _ _ (p .here) (p .used) _ (o .own-rows .ensures) (j .before .enum-told .given .1) (lean j) (m .map-of .ensures) (n .before .before .shares .ensures)
+    ∙ slot-twice _ _ _ _ _ _ (p .here) (p .used) _ (o .own-at .ensures) (j .before .enum-told .given .1) (lean j) (m .map-of .ensures) (n .before .before .shares .ensures)
     (n .before .if3 .left) (n .name-of .ensures) (t .before .named-before .ensures) (t .if4 .taken)
 
 returns-4 : tie.Need-returns-4
 returns-4 c =
     let o = c .before .before .before in
     let p = o .before .before .before .before .before .pre in
-    slot-own _ _ _ _ _ (p .here) (p .used) _ (o .own-rows .ensures) _ (c .before .f .given .1)
+    slot-own _ _ _ _ _ _ (p .here) (p .used) _ (o .own-at .ensures) _ (c .before .f .given .1)
 
 returns-5 : tie.Need-returns-5
 returns-5 c =
@@ -100,7 +100,7 @@ returns-5 c =
     let j = m .before in
     let o = j .before .before .before in
     let p = o .before .before .before .before .before .pre in
-    slot-clear _ _ _ _ _ (p .here) (p .used) _ (o .own-rows .ensures) (j .before .enum-told .given .1) (lean j) (m .map-of .ensures) (n .before .before .shares .ensures)
+    slot-clear _ _ _ _ _ _ (p .here) (p .used) _ (o .own-at .ensures) (j .before .enum-told .given .1) (lean j) (m .map-of .ensures) (n .before .before .shares .ensures)
     (n .before .if3 .left) (n .name-of .ensures) (c .before .named-before .ensures) (c .if4 .left)
 
 pub live-rows-spec : {M : Type 1} → statement M
@@ -108,7 +108,7 @@ live-rows-spec =
     tie.close
     (tie.spec
     add-slot
-    own-rows-requires
+    own-at-requires
     enum-known-f
     enum-told
     is-wasteful-requires

@@ -1,14 +1,16 @@
 -- `surveys::survey_slots` meets its contract: the reply is that of the slots from `i` on, and the used map that of those before.
-use Prim.Native.Nat.{_-_, _≤_, _<_}
+use Prim.Native.Nat.{ℕ, _-_, _≤_, _<_}
 use mathlib.Core.Path.{_≡_, refl, sym, ap, _∙_}
+use mathlib.Core.Bool.{Bool}
 use mathlib.Core.Option.{none, some}
 use native.Mathlib.Omega.{arith}
 use denote.Ref.{now}
-use Rattle.refusals.specs.Order.{sweepFrom}
+use Rattle.maps.specs.Bits.{clear}
+use Rattle.refusals.specs.Order.{Reply, sweepFrom}
 use Rattle.refusals.specs.Answers.{replyOf}
 use Rattle.refusals.proofs.First.{sweep-skip}
 use Rattle.directory.specs.Places.{slots}
-use Rattle.directory.specs.Directory.{slotsRead, directory}
+use Rattle.directory.specs.Directory.{Directory, tracksOf, slotsRead, directory}
 use Rattle.surveys.specs.Survey.{surveyAt, surveyBy, union, counted}
 use Rattle.directory.proofs.Ends.{read-most}
 use Rattle.directory.proofs.Live.{met-live, met-dead}
@@ -19,24 +21,33 @@ use Rattle.surveys.proofs.survey_slots.Statement.{statement}
 use Rattle.surveys.proofs.survey_slots.Tie as tie
 
 abbrev Inv-loop : tie.InvT-loop
-Inv-loop dir release end used₀ filter₀ files₀ i₀ used filter files i =
-    (i ≤ slotsRead dir) × (used ≡ counted (union (directory dir) i)) × (surveyBy release 0 (directory dir) ≡ sweepFrom (slots - i) i (surveyAt release 0 (directory dir))) × Kept dir i filter files
+Inv-loop dir release tracks end used₀ filter₀ files₀ i₀ used filter files i =
+    (i ≤ slotsRead dir) × (used ≡ counted (tracksOf dir) (union (directory dir) i)) × (surveyBy release (tracksOf dir) (directory dir) ≡ sweepFrom (slots - i) i (surveyAt release (tracksOf dir) (directory dir))) × Kept dir i filter files × (tracks ≡ tracksOf dir)
 
 abbrev μ-loop : tie.MeasureT-loop
-μ-loop dir release end used₀ filter₀ files₀ i₀ used filter files i = end - i
+μ-loop dir release tracks end used₀ filter₀ files₀ i₀ used filter files i = end - i
 
 -- a slot that is met is read; a live one
-met : (t : tie.In-loop Inv-loop μ-loop) → let l = t .before in l .loop .i < slotsRead (now (l .before .before .before .before .args .dir))
-met t = omega arith
+met : (t : tie.In-loop Inv-loop μ-loop) → let l = t .before in l .loop .i < slotsRead (now (l .before .before .before .before .before .args .dir))
+met t = omega (arith, t .loop-test .taken, t .before .before .before .slots-read .ensures .0)
 
 live : (y : tie.Then1 Inv-loop μ-loop) → let t = y .before .before in let l = t .before .before in
-    directory (now (l .before .before .before .before .args .dir)) (l .loop .i) ≡ some (now (t .slot-at .result))
+    directory (now (l .before .before .before .before .before .args .dir)) (l .loop .i) ≡ some (now (t .slot-at .result))
 live y = met-live _ _ (y .before .before .slot-at .ensures) (y .before .is-live .ensures) (met (y .before .before .before)) (y .if1 .taken)
+
+-- the pass goes by the number of tracks that was read
+by-tracks : (release : Bool) {n k : ℕ} (v : Directory) (i : ℕ) {q : Reply} → n ≡ k → q ≡ surveyAt release n v i → q ≡ surveyAt release k v i
+by-tracks release v i e w = w ∙ ap (λ (m : ℕ). surveyAt release m v i) e
 
 -- a slot at which no row holds
 passed : (t : tie.After-enum-told Inv-loop μ-loop) → let l = t .before .before .before .before .before .before .before .before .before .before .before in
-    surveyAt (l .before .before .before .before .args .release) 0 (directory (now (l .before .before .before .before .args .dir))) (l .loop .i) ≡ none
-passed t = sym (ap replyOf (sym (t .enum-told .given .1)) ∙ t .before .before .live-rows .ensures)
+    let d = now (l .before .before .before .before .before .args .dir) in
+    surveyAt (l .before .before .before .before .before .args .release) (tracksOf d) (directory d) (l .loop .i) ≡ none
+passed t = let l = t .before .before .before .before .before .before .before .before .before .before .before in
+    sym (ap replyOf (sym (t .enum-told .given .1)) ∙ by-tracks _ _ _ (l .loop .inv .4) (t .before .before .live-rows .ensures))
+
+tracks-of-requires : tie.Need-tracks-of-requires Inv-loop μ-loop
+tracks-of-requires c κs = search needs
 
 slots-read-requires : tie.Need-slots-read-requires Inv-loop μ-loop
 slots-read-requires c κs = search needs
@@ -45,7 +56,8 @@ unused-requires : tie.Need-unused-requires Inv-loop μ-loop
 unused-requires c κs = search needs
 
 loop-holds : tie.Need-loop-holds Inv-loop μ-loop
-loop-holds c = (omega arith, used-start _ _ (c .unused .ensures), survey-start _ _ _, kept-none _ _ refl)
+loop-holds c = let n = c .before .before .tracks-of .ensures .0 in
+    (omega arith, used-start _ _ _ (c .unused .ensures ∙ ap (λ (k : ℕ). counted k clear) n), survey-start _ _ _, kept-none _ _ refl, n)
 
 slot-at-requires : tie.Need-slot-at-requires Inv-loop μ-loop
 slot-at-requires c κs = search needs
@@ -63,7 +75,7 @@ live-rows-requires : tie.Need-live-rows-requires Inv-loop μ-loop
 live-rows-requires c κs =
     let y = c .before .before .before .before in
     let a = y .before .before .before .before .loop in
-    reached _ (a .i) _ (a .inv .1) _ (live y) (omega arith) (a .inv .3 .filtered)
+    reached _ _ (a .i) _ (a .inv .1) _ (live y) (met (y .before .before .before)) (a .inv .3 .filtered)
 
 enum-known-f : tie.Need-enum-known-f Inv-loop μ-loop
 enum-known-f c = search needs
@@ -76,7 +88,7 @@ returns c =
     let f = c .before .before in
     let l = f .before .before .before .before .before .before .before .before .before .before in
     let a = l .before .loop in
-    pass-stops _ _ _ (a .i) (a .inv .2) _ (omega (arith, l .before .before .before .slots-read .ensures .0)) (ap replyOf (sym (f .f .given .1)) ∙ f .before .before .live-rows .ensures) (c .refused .ensures)
+    pass-stops _ _ _ (a .i) (a .inv .2) _ (omega (arith, l .before .before .before .slots-read .ensures .0)) (ap replyOf (sym (f .f .given .1)) ∙ by-tracks _ _ _ (a .inv .4) (f .before .before .live-rows .ensures)) (c .refused .ensures)
 
 enum-told : tie.Need-enum-told Inv-loop μ-loop
 enum-told c = search needs
@@ -109,7 +121,7 @@ joined-requires c κs =
     let t = c .before .before .before .before .before .before .before in
     let y = t .before .before .before .before .before .before .before in
     let a = y .before .before .before .before .loop in
-    apart _ (a .i) _ (a .inv .1) _ (live y) (c .before .map-of .ensures) (c .count-of .ensures .0) _ (passed t)
+    apart _ _ (a .i) _ (a .inv .1) _ (live y) (c .before .map-of .ensures) (c .count-of .ensures .0) _ (passed t)
 
 loop-less : tie.Need-loop-less Inv-loop μ-loop
 loop-less c = search needs
@@ -123,9 +135,10 @@ loop-again c =
     let a = l .before .loop in
     let e = live y in (
       omega (arith, met l),
-      used-more _ (a .i) _ (a .inv .1) _ e (c .before .before .map-of .ensures) _ (c .joined .ensures),
-      a .inv .2 ∙ sweep-skip slots (a .i) _ (omega (arith, met l, read-most (now (l .before .before .before .before .before .args .dir)))) (passed t),
+      used-more _ _ (a .i) _ (a .inv .1) _ e (c .before .before .map-of .ensures) _ (c .joined .ensures),
+      a .inv .2 ∙ sweep-skip slots (a .i) _ (omega (arith, met l, read-most (now (l .before .before .before .before .before .before .args .dir)))) (passed t),
       kept-live _ _ _ _ (a .inv .3) _ e (n .before .before .name-of .ensures) (n .before .key-of .ensures) (n .note .ensures),
+      a .inv .4,
     )
 
 loop-less-2 : tie.Need-loop-less-2 Inv-loop μ-loop
@@ -136,7 +149,7 @@ loop-again-2 c =
     let s = c .before .before in
     let a = s .before .before .loop in
     let e = met-dead _ _ (s .slot-at .ensures) (c .before .is-live .ensures) (c .if1 .left) in
-    (omega arith, used-dead _ (a .i) _ (a .inv .1) e, a .inv .2 ∙ sweep-skip slots (a .i) _ (omega arith) (survey-dead _ 0 _ (a .i) e), kept-dead _ _ _ _ (a .inv .3) e)
+    (omega arith, used-dead _ _ (a .i) _ (a .inv .1) e, a .inv .2 ∙ sweep-skip slots (a .i) _ (omega arith) (survey-dead _ _ _ (a .i) e), kept-dead _ _ _ _ (a .inv .3) e, a .inv .4)
 
 returns-2 : tie.Need-returns-2 Inv-loop μ-loop
 returns-2 c = let a = c .before .loop in pass-ends _ _ _ (a .i) (a .inv .2) (omega arith) (omega arith) refl (a .inv .1) (a .inv .3 .live)
@@ -147,6 +160,7 @@ survey-slots-spec =
     (tie.spec
     Inv-loop
     μ-loop
+    tracks-of-requires
     slots-read-requires
     unused-requires
     loop-holds

@@ -2,6 +2,7 @@
 //! document 01 gives is written here too, so that `paper` is not the only one to say it.
 
 mod arguments;
+mod bigger;
 mod bodies;
 mod buffers;
 mod ends;

@@ -3,7 +3,7 @@
 use super::{Damage, Outcome};
 use crate::support::disks::Disk;
 use crate::support::fields;
-use crate::support::geometry::{BITS, address};
+use crate::support::geometry::{BITS, address, is_data};
 use crate::support::random::Random;
 
 #[rustfmt::skip]
@@ -17,6 +17,9 @@ pub const ALL: &[&Damage] = &[
     &Damage { title: "a bit of an earlier file more", own: false, apply: shared_with_earlier },
     &Damage { title: "a bit of a later file more", own: false, apply: shared_with_later },
     &Damage { title: "a bit moved to an earlier file's", own: false, apply: moved_to_earlier },
+    &Damage { title: "a bit moved into the directory", own: true, apply: moved_inside },
+    &Damage { title: "a bit inside the directory and a count more", own: true, apply: counted_inside },
+    &Damage { title: "the first address and its bit inside the directory", own: true, apply: first_inside },
     &Damage { title: "the first address and its bit an earlier file's", own: false, apply: first_of_earlier },
 ];
 
@@ -93,6 +96,27 @@ fn first_of_earlier(disk: &mut Disk, index: usize, random: &mut Random) -> Optio
     Some(Outcome::Refused(8, slot))
 }
 
+fn moved_inside(disk: &mut Disk, index: usize, random: &mut Random) -> Option<Outcome> {
+    let to = random.pick(&inside(disk)?);
+    let from = later_bit(disk, index, random)?;
+    Some(Outcome::Refused(6, moved(disk, index, from, to)))
+}
+
+fn counted_inside(disk: &mut Disk, index: usize, random: &mut Random) -> Option<Outcome> {
+    let bit = random.pick(&inside(disk)?);
+    let fits = disk.files[index].chain.len() < disk.data();
+    fits.then(|| Outcome::Refused(6, counted(disk, index, bit)))
+}
+
+/// A file whose chain begins in the directory, with the map to fit.
+fn first_inside(disk: &mut Disk, index: usize, random: &mut Random) -> Option<Outcome> {
+    let to = random.pick(&inside(disk)?);
+    let from = disk.files[index].chain[0];
+    let slot = moved(disk, index, from, to);
+    disk.slot_mut(slot)[fields::FIRST..fields::MAP].copy_from_slice(&address(to));
+    Some(Outcome::Refused(6, slot))
+}
+
 /// One bit cleared and one set, so that the number stays. Gives the slot.
 fn moved(disk: &mut Disk, index: usize, from: usize, to: usize) -> usize {
     let slot = disk.files[index].slot;
@@ -128,14 +152,22 @@ fn others(disk: &Disk, index: usize) -> Option<Vec<usize>> {
     some((0..BITS).filter(|bit| !chain.contains(bit)).collect())
 }
 
-/// The bits that are no file's.
+/// The bits of the directory's own sectors, its edges often.
+fn inside(disk: &Disk) -> Option<Vec<usize>> {
+    let mut bits: Vec<usize> = (0..BITS).filter(|&bit| !is_data(bit, disk.extra)).collect();
+    let edges = bits.iter().copied().filter(|&bit| bit == 1 || bit + 1 == 10 * disk.extra);
+    bits.extend(edges.collect::<Vec<_>>().repeat(bits.len() / 4));
+    some(bits)
+}
+
+/// The data sectors' bits that are no file's.
 fn free(disk: &Disk) -> Option<Vec<usize>> {
     let mut used = [false; BITS];
     disk.files
         .iter()
         .flat_map(|file| &file.chain)
         .for_each(|&bit| used[bit] = true);
-    some((0..BITS).filter(|&bit| !used[bit]).collect())
+    some((0..BITS).filter(|&bit| !used[bit] && is_data(bit, disk.extra)).collect())
 }
 
 fn some(bits: Vec<usize>) -> Option<Vec<usize>> {

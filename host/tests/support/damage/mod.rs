@@ -9,6 +9,7 @@ mod headers;
 mod maps;
 mod names;
 mod slots;
+mod tracks;
 
 use super::disks::{self, Disk};
 use super::random::Random;
@@ -42,6 +43,7 @@ pub fn all() -> Vec<&'static Damage> {
         chains::ALL,
         headers::ALL,
         ends::ALL,
+        tracks::ALL,
         bytes::ALL,
     ]
     .concat()
@@ -93,12 +95,12 @@ fn somewhere(damage: &Damage, disk: &mut Disk, random: &mut Random) -> Option<(u
         .find_map(|index| Some((index, (damage.apply)(disk, index, random)?)))
 }
 
-/// All slots for 2 to 9 come before all slots for 10, 11 and 25; then the lowest slot, and at a slot the lowest number. What
+/// 24 comes first; then all slots for 2 to 9, before all slots for 10, 11 and 25; then the lowest slot, and at a slot the lowest number. What
 /// stands behind the directory's end is not seen.
 fn earlier(one: Outcome, other: Outcome) -> Outcome {
     let (one, other) = (seen_before(one, other), seen_before(other, one));
     let rank = |outcome: Outcome| match outcome {
-        Outcome::Refused(number, slot) => Some((number >= 10, slot, number)),
+        Outcome::Refused(number, slot) => Some((matches!(number, 10 | 11 | 25), slot, number)),
         _ => None,
     };
     match (rank(one), rank(other)) {

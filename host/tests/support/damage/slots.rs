@@ -3,7 +3,7 @@
 use super::{Damage, Outcome};
 use crate::support::disks::Disk;
 use crate::support::fields;
-use crate::support::geometry::{BITS, fills};
+use crate::support::geometry::{BITS, EXTRA, fills};
 use crate::support::random::Random;
 
 #[rustfmt::skip]
@@ -72,7 +72,7 @@ fn erased(disk: &mut Disk, index: usize, _: &mut Random) -> Option<Outcome> {
 
 fn count_outside(disk: &mut Disk, index: usize, random: &mut Random) -> Option<Outcome> {
     let slot = disk.files[index].slot;
-    let count = random.pick(&[0, BITS + 1, BITS + 2, 2_048, 32_768, 65_535]);
+    let count = random.pick(&[0, disk.data() + 1, disk.data() + 2, BITS + 1, 2_048, 32_768, 65_535]);
     fields::set_count(disk.slot_mut(slot), count);
     Some(Outcome::Refused(4, slot))
 }
@@ -96,7 +96,8 @@ fn count_swapped(disk: &mut Disk, index: usize, _: &mut Random) -> Option<Outcom
 fn miscounted(disk: &mut Disk, index: usize, count: usize) -> Option<Outcome> {
     let slot = disk.files[index].slot;
     fields::set_count(disk.slot_mut(slot), count);
-    Some(Outcome::Refused(if (1..=BITS).contains(&count) { 5 } else { 4 }, slot))
+    let number = if (1..=disk.data()).contains(&count) { 5 } else { 4 };
+    Some(Outcome::Refused(number, slot))
 }
 
 fn too_long_by_one(disk: &mut Disk, index: usize, random: &mut Random) -> Option<Outcome> {
@@ -122,10 +123,12 @@ fn too_long(disk: &mut Disk, index: usize, length: usize, random: &mut Random) -
     })
 }
 
-/// Bytes 210 to 238 and 242 to 255: information, start, execution bytes, and those without a name.
+/// Bytes 210 to 238 and 242 to 255: information, start, execution bytes, and those without a name; of slot 1 not that which says
+/// the directory tracks.
 fn unread(disk: &mut Disk, index: usize, random: &mut Random) -> Option<Outcome> {
-    let slot = disk.files[index].slot;
+    let (slot, extra) = (disk.files[index].slot, disk.image[EXTRA]);
     random.fill(&mut disk.slot_mut(slot)[fields::MAP + fields::MAP_BYTES..fields::PAGES]);
     random.fill(&mut disk.slot_mut(slot)[fields::EXEC..]);
+    disk.image[EXTRA] = extra;
     Some(Outcome::Accepted)
 }
