@@ -40,7 +40,7 @@ int main(int argc, char **argv) {
     }
     for (size_t i = 0; i < varnucht_value(answer); i++) {
         const uint8_t *entry = varnucht_entry(listing, i);
-        printf("%2u ", varnucht_entry_slot(entry));
+        printf("%3u ", varnucht_entry_slot(entry));
         print_name(entry);
         printf(" %4u sectors\n", varnucht_entry_sectors(entry));
     }

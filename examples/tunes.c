@@ -55,7 +55,7 @@ static int list(size_t image_len) {
     }
     for (uint32_t i = 0; i < varnucht_value(answer); i++) {
         const uint8_t *entry = varnucht_entry(listing, i);
-        printf("%2u %c%c ", varnucht_entry_slot(entry), varnucht_entry_hidden(entry) ? 'h' : '-',
+        printf("%3u %c%c ", varnucht_entry_slot(entry), varnucht_entry_hidden(entry) ? 'h' : '-',
                varnucht_entry_protected(entry) ? 'p' : '-');
         for (int k = 0; k < VARNUCHT_NAME_BYTES; k++) {
             int byte = varnucht_entry_name(entry)[k];

@@ -1,11 +1,11 @@
 /* Varnucht: disk images of the SAM Coupé. Check a disk, list it, read a file's body, whole or piece by piece, give its start
- * address, find a raw sector; save, erase, rename, hide, show, protect and release files; count a shelf of disks. C99 and
- * C++. Link libvarnucht.a.
+ * address, tell what lies beneath a subdirectory, find a raw sector; save, erase, rename, hide, show, protect and release
+ * files; count a shelf of disks. C99 and C++. Link libvarnucht.a.
  *
  * Contents: 1 what a call takes and answers, 2 sizes, 3 refusals, 4 the calls that read, 5 the calls that change, and how
- * to write what they changed, 6 reading a listing, 7 names and kinds, 8 what is proved and where it runs. A whole program
- * stands in examples/tunes.c, one that reads piece by piece in examples/play.c, and one that counts a shelf of disks in
- * examples/shelf.c.
+ * to write what they changed, 6 reading a listing, and what a disk says of itself, 7 names and kinds, 8 what is proved and
+ * where it runs. A whole program stands in examples/tunes.c, one that reads piece by piece in examples/play.c, and one that
+ * counts a shelf of disks in examples/shelf.c.
  *
  *
  * 1. WHAT A CALL TAKES AND ANSWERS
@@ -13,23 +13,24 @@
  * A slice is a pointer and then its length in bytes. It may have any length and any content: every call on every input ends
  * and answers. NULL with length 0 is an empty slice.
  *
- * A slice with a `const` pointer is only read. A slice without one (`out`, `list`, the `image` of a change) may be changed,
- * and must not overlap any other slice of the same call. Slices that are only read may overlap each other. The likely
- * mistake is a name that points into the image that the call changes, or into the buffer that it fills: copy the name out
- * first.
+ * A slice with a `const` pointer is only read. A slice without one (`out`, `slots`, `list`, the `image` of a change) may be
+ * changed, and must not overlap any other slice of the same call. Slices that are only read may overlap each other. The
+ * likely mistake is a name that points into the image that the call changes, or into the buffer that it fills: copy the name
+ * out first.
  *
  * You own every buffer before, during and after a call. The library allocates nothing, keeps no pointer and has no state:
  * what a call does depends on its arguments alone. So calls on different buffers may run at once on different threads, and
  * calls that only read may share an image. Nobody may read or write a buffer while a call that may change it is running.
- * Nothing outside is called but memcpy, memset and their like. A save needs less than 8 KiB of stack, the calls on reports
- * less than 3 KiB, every other call less than 2 KiB.
+ * Nothing outside is called but memcpy, memset and their like. A save needs less than 8 KiB of stack, every other call
+ * less than 2 KiB; but varnucht_tree less than 5 KiB where no more than ten subdirectories lie inside each other, and 128
+ * bytes more for each beyond them: less than 36 KiB on any disk.
  *
  * Every call answers one number with four parts, which the functions below take apart:
  *
  *     answer = refusal + 256 * slot + 2^24 * value + 2^48 * free
  *
  *     refusal   0: accepted. Else a number of section 3; then value and free are 0, and no byte of any buffer has changed.
- *     slot      the slot of the directory, 1 to 80, that a refusal was found at (section 3 says with which numbers), else 0
+ *     slot      the slot of the directory, 1 to 778, that a refusal was found at (section 3 says with which numbers), else 0
  *     value     what the call says below
  *     free      the free sectors of a disk, from varnucht_list; else 0
  *
@@ -37,14 +38,19 @@
  * free a place in it. The functions beside them in section 4 see to that.
  *
  * An image is the whole disk in memory, 819,200 bytes. Its sectors have 512 bytes and are numbered 0 to 1,599; sector s is
- * the bytes from 512 * s. 40 of them are the directory: 80 slots of 256 bytes. It ends at the first slot whose first name
- * byte is 0: that slot was never used, and it and all later ones are free and are not looked at, whatever they hold. A slot
+ * the bytes from 512 * s. 40 of them are the directory: 80 slots of 256 bytes, on four tracks. MasterDOS makes bigger ones,
+ * of up to 39 tracks: byte 255 of slot 1, erased or not looked at too, is the number n of tracks beyond four, 0 to 35, and
+ * 255 there is read as 0. Where n is above 0 there are 78 + 20 * n slots, 778 at most, which run on in the order of tracks
+ * and sectors past track 4 sector 1: that stays a data sector. The directory ends at the first slot whose first name byte
+ * is 0: that slot was never used, and it and all later ones are free and are not looked at, whatever they hold. A slot
  * before the end is erased, and free too, when its byte 0 is zero; else it is live and holds a file. It says the file's kind
- * and name, how many sectors the file has (its count), which they are (its map, a bit for each data sector) and which is the
- * first. The other 1,560 are the data sectors. Each holds 510 bytes of a file and the address of the file's next sector; that
- * is its chain. A file that can be read (section 7) begins with a header of 9 bytes, and its body follows. Every call on a
- * disk but varnucht_sector and varnucht_next checks the whole disk first: you need not call varnucht_check before it.
- * varnucht_report_add refuses no disk: it counts it.
+ * and name, how many sectors the file has (its count), which they are (its map, a bit for each sector that can be data) and
+ * which is the first. The sectors that are not the directory's are the data sectors: 1,560, or 1,561 - 10 * n where n is
+ * above 0. Each holds 510 bytes of a file and the address of the file's next sector; that is its chain. A file that can be
+ * read (section 7) begins with a header of 9 bytes, and its body follows. A live slot of kind 21 is no file but a
+ * subdirectory: it has a name and no sectors, and other live slots say that they are in it (section 7). What is said of files
+ * below holds of it too. Every call on a disk but varnucht_sector and varnucht_next checks the whole disk first: you need not
+ * call varnucht_check before it. varnucht_report_add refuses no disk: it counts it.
  */
 #ifndef VARNUCHT_H
 #define VARNUCHT_H
@@ -65,39 +71,43 @@ static inline unsigned varnucht_free(uint64_t answer) { return (unsigned)(answer
 enum varnucht_size {
     VARNUCHT_IMAGE_BYTES = 819200,      /* an image has exactly so many */
     VARNUCHT_SECTOR_BYTES = 512,
-    VARNUCHT_DATA_SECTORS = 1560,       /* free on an empty disk */
-    VARNUCHT_SLOTS = 80,
+    VARNUCHT_DATA_SECTORS = 1560,       /* free on an empty disk with four directory tracks, where they are most */
+    VARNUCHT_SLOTS = 778,               /* with 39 directory tracks, where they are most */
     VARNUCHT_NAME_BYTES = 10,
     VARNUCHT_INFO_BYTES = 11,           /* kind information of a save */
     VARNUCHT_EXEC_BYTES = 3,            /* execution bytes of a save */
     VARNUCHT_ENTRY_BYTES = 258,         /* one file of a listing */
-    VARNUCHT_LISTING_BYTES = 20640,     /* `out` of varnucht_list: 80 * 258 */
+    VARNUCHT_LISTING_BYTES = 200724,    /* `out` of varnucht_list: 778 * 258 */
+    VARNUCHT_TREE_BYTES = 1556,         /* `slots` of varnucht_tree: 778 * 2 */
     VARNUCHT_BODY_BYTES = 795591,       /* `out` of varnucht_read; the longest body on an empty disk: 510 * 1,560 - 9 */
     VARNUCHT_SAVE_LIST_BYTES = 3124,    /* `list` of varnucht_save: 2 * 1,562, the data sectors and two of the directory */
     VARNUCHT_CHANGE_LIST_BYTES = 2,     /* `list` of every other change */
     VARNUCHT_REPORT_BYTES = 496         /* a report: 124 numbers of four bytes */
 };
 
-/* 3. REFUSALS, in the words of the rules (document 01), in the order in which they are tested: 1 first; then 2 to 9 at every
- * live slot, the lowest slot first and at a slot the lowest number; then 10, 11 and 25 likewise; then the lowest that
- * applies of 12 to 20. So 12 to 20 say that the disk itself is good. varnucht_check_release alone tests 22 too, directly
- * after 7 at a slot. varnucht_sector tests 1 and then 21, and looks at no directory. varnucht_next refuses nothing. The calls
- * on reports test 20 and then 31. 3 is given no more, by any call: its number stays reserved, and "1 to 11" below is without
- * it.
+/* 3. REFUSALS, in the words of the rules (document 01), in the order in which they are tested: 1 first; then 24; then 2 to 9
+ * at every live slot, the lowest slot first and at a slot the lowest number; then 10, 11 and 25 likewise; then the lowest
+ * that applies of 12 to 20. So 12 to 20 say that the disk itself is good. varnucht_check_release alone tests 22 too, directly
+ * after 7 at a slot. varnucht_tree alone tests 26 at every live slot, the lowest slot first, and then 27 and 28 likewise;
+ * both come before 12 to 20. varnucht_erase alone tests 29, after 17 and before 20. varnucht_sector tests 1 and then 21, and
+ * looks at no directory. varnucht_next refuses nothing. The calls on reports test 20 and then 31. 3 is given no more, by any
+ * call: its number stays reserved, and "1 to 11" below is without it.
  *
- * The slot comes with 2 to 11, 22 and 25; with 13 and 14 of varnucht_read, varnucht_open and varnucht_start, where it is the
- * file's; with 16, where it is that of the file which has the new name; and with 17. With all others, 13 and 14 of
- * varnucht_save too, it is 0. */
+ * The slot comes with 2 to 11, 22 and 25 to 28; with 13 and 14 of varnucht_read, varnucht_open, varnucht_start and
+ * varnucht_tree, where it is the file's; with 16, where it is that of the file which has the new name; and with 17 and 29.
+ * With all others, 13 and 14 of varnucht_save too, it is 0. */
 enum varnucht_reason {
     VARNUCHT_ACCEPTED = 0,
-    /* The disk is not good. Every call can give these and 25 but varnucht_sector, which can give 1, varnucht_next, and the
-       calls on reports. */
+    /* The disk is not good. Every call can give these, 24 and 25 but varnucht_sector, which can give 1, varnucht_next, and
+       the calls on reports. */
     VARNUCHT_NOT_AN_IMAGE = 1,          /* the image is not 819,200 bytes */
     VARNUCHT_KIND_UNKNOWN = 2,          /* the kind is not known (1 to 12 and 16 to 23 are) */
     VARNUCHT_NAME_MISSING = 3,          /* reserved, given no more: where the first name byte is 0 the directory ends */
-    VARNUCHT_COUNT_OUT_OF_RANGE = 4,    /* the count is not 1 to 1,560 */
+    VARNUCHT_COUNT_OUT_OF_RANGE = 4,    /* the count is not 1 to the number of data sectors, or a subdirectory's (kind 21) is
+                                           not 0 */
     VARNUCHT_BITS_DIFFER = 5,           /* the map's set bits are not as many as the count */
-    VARNUCHT_FIRST_NOT_OWN = 6,         /* the first address is not a data sector, or its bit is clear */
+    VARNUCHT_FIRST_NOT_OWN = 6,         /* the first address is not a data sector, or its bit is clear, or the map has a bit
+                                           inside the directory (not given for kind 21) */
     VARNUCHT_LENGTH_TOO_GREAT = 7,      /* carried kind, and 510 * count is below 9 + length */
     VARNUCHT_SECTOR_SHARED = 8,         /* the map shares a bit with an earlier live slot */
     VARNUCHT_NAME_TWICE = 9,            /* the name is an earlier live slot's, capitals or not (section 7) */
@@ -108,21 +118,29 @@ enum varnucht_reason {
     /* The request is not good, or cannot be met. Each call says which of these it can give. */
     VARNUCHT_NAME_NOT_USABLE = 12,      /* the name is not usable: section 7 */
     VARNUCHT_WRONG_KIND = 13,           /* the kind asked for (save: 16 to 20) or found (read, open, start: 16 to 20 and 1
-                                           to 4) is not one that this call takes */
+                                           to 4; tree: 21) is not one that this call takes */
     VARNUCHT_START_OUT_OF_RANGE = 14,   /* start page above 31, or offset outside 32,768 to 49,151 (save, start of kinds 16
                                            to 20) */
     VARNUCHT_NAME_NOT_FOUND = 15,       /* no live slot has the name, capitals or not */
     VARNUCHT_NAME_TAKEN = 16,           /* a live slot has the new name, capitals or not; varnucht_rename says more */
     VARNUCHT_FILE_PROTECTED = 17,       /* protected (erase, rename) */
-    VARNUCHT_NO_FREE_SLOT = 18,         /* no slot before the end is erased and there is no end: 80 files are there (save) */
+    VARNUCHT_NO_FREE_SLOT = 18,         /* no slot before the end is erased and there is no end: as many files are
+                                           there as the directory has slots (save) */
     VARNUCHT_TOO_FEW_SECTORS = 19,      /* fewer free sectors than the save takes */
     VARNUCHT_BUFFER_TOO_SHORT = 20,     /* a lent output buffer is too short; tested last, and the buffer is unchanged */
     VARNUCHT_NO_SUCH_SECTOR = 21,       /* no such drive, track or sector (varnucht_sector alone) */
     /* The disk is not fit to go out. */
     VARNUCHT_WASTE_SECTORS = 22,        /* carried kind, and the count is above the least that its length needs: the least n
                                            with 510 * n at least 9 + length (varnucht_check_release alone) */
-    /* The disk is not good, as with 1 to 11; the same calls can give it, but varnucht_sector. */
+    /* The disk is not good, as with 1 to 11; the same calls can give these, but varnucht_sector. */
+    VARNUCHT_TRACKS_OUT_OF_RANGE = 24,  /* the number of directory tracks beyond four, byte 255 of slot 1, is 36 to 254 */
     VARNUCHT_BODY_TOO_LONG = 25,        /* kind 1 to 4, and 510 * count is below 9 + the length in the file's header */
+    /* The subdirectories of the disk do not fit together (varnucht_tree alone). Every other call takes such a disk still. */
+    VARNUCHT_CODE_NOT_OWN = 26,         /* a directory with code 0 or an earlier directory's code */
+    VARNUCHT_DIRECTORY_MISSING = 27,    /* a live slot's byte 254 is not 0 and no directory's code: what it is in is gone */
+    VARNUCHT_DIRECTORY_IN_ITSELF = 28,  /* a directory lies inside itself at some depth */
+    /* A subdirectory is not empty. */
+    VARNUCHT_DIRECTORY_NOT_EMPTY = 29,  /* a directory whose code, not 0, is another live slot's byte 254 (erase) */
     /* The shelf is full. */
     VARNUCHT_REPORT_FULL = 31           /* a disk or join that would pass 65,535 disks (the calls on reports alone) */
 };
@@ -134,9 +152,11 @@ static inline const char *varnucht_words(unsigned refusal) {
     case VARNUCHT_NOT_AN_IMAGE: return "the image is not 819,200 bytes";
     case VARNUCHT_KIND_UNKNOWN: return "the kind is not known";
     case VARNUCHT_NAME_MISSING: return "the first name byte is 0 (given no more)";
-    case VARNUCHT_COUNT_OUT_OF_RANGE: return "the count is not 1 to 1,560";
+    case VARNUCHT_COUNT_OUT_OF_RANGE:
+        return "the count is not 1 to the number of data sectors, or a directory's is not 0";
     case VARNUCHT_BITS_DIFFER: return "the map's set bits are not as many as the count";
-    case VARNUCHT_FIRST_NOT_OWN: return "the first address is not a data sector, or its bit is clear";
+    case VARNUCHT_FIRST_NOT_OWN:
+        return "the first address is not a data sector, or its bit is clear, or the map has a bit inside the directory";
     case VARNUCHT_LENGTH_TOO_GREAT: /* with a multiplication sign */
         return "carried kind, and 510 \xc3\x97 count is below 9 + length";
     case VARNUCHT_SECTOR_SHARED: return "the map shares a bit with an earlier live slot";
@@ -147,7 +167,7 @@ static inline const char *varnucht_words(unsigned refusal) {
                "kind, remainder, pages";
     case VARNUCHT_NAME_NOT_USABLE: return "the name is not usable";
     case VARNUCHT_WRONG_KIND:
-        return "the kind asked for (save) or found (read, start address) is not one that this call takes";
+        return "the kind asked for (save) or found (read, start address, tree) is not one that this call takes";
     case VARNUCHT_START_OUT_OF_RANGE:
         return "start page above 31, or offset outside 32,768 to 49,151 (save, start address)";
     case VARNUCHT_NAME_NOT_FOUND: return "no live slot has the name, capitals or not";
@@ -159,35 +179,41 @@ static inline const char *varnucht_words(unsigned refusal) {
     case VARNUCHT_NO_SUCH_SECTOR: return "no such drive, track or sector";
     case VARNUCHT_WASTE_SECTORS:
         return "carried kind, and the count is above the least that its length needs (waste sectors behind the file)";
+    case VARNUCHT_TRACKS_OUT_OF_RANGE:
+        return "the number of directory tracks beyond four, byte 255 of slot 1, is 36 to 254";
     case VARNUCHT_BODY_TOO_LONG: /* with a multiplication sign */
         return "kind 1 to 4, and 510 \xc3\x97 count is below 9 + the length in the header";
+    case VARNUCHT_CODE_NOT_OWN: return "a directory with code 0 or an earlier directory's code (tree)";
+    case VARNUCHT_DIRECTORY_MISSING: return "a live slot's byte 254 is not 0 and no directory's code (tree)";
+    case VARNUCHT_DIRECTORY_IN_ITSELF: return "a directory lies inside itself at some depth (tree)";
+    case VARNUCHT_DIRECTORY_NOT_EMPTY: return "a directory whose code, not 0, is another live slot's byte 254 (erase)";
     case VARNUCHT_REPORT_FULL: return "a disk or join that would pass 65,535 disks";
     default: return "not a number of refusal";
     }
 }
 
-/* 4. THE CALLS THAT READ. They change nothing but `out`, or `report`. `image` is the disk; anything but 819,200 bytes is
+/* 4. THE CALLS THAT READ. They change nothing but `out`, `slots` or `report`. `image` is the disk; anything but 819,200 bytes is
  * refused 1, but not by varnucht_next, which refuses nothing, nor by varnucht_report_add, which counts it. A name has 1 to 10
- * bytes (section 7). What a call does not fill of `out` stays as it was. */
+ * bytes (section 7). What a call does not fill of `out` or `slots` stays as it was. */
 
 /* Whether the disk is good. Its directory up to its end, sector maps and chains agree exactly when this accepts. Value: 0.
- * Refusals: 1 to 11, 25. */
+ * Refusals: 1 to 11, 24, 25. */
 uint64_t varnucht_check(const uint8_t *image, size_t image_len);
 
 /* Whether the disk is good and fit to go out: no file of a carried kind has waste sectors behind it, where old texts hide. A
  * file has them where its count is above the least that its length needs. Every other call accepts such a disk still.
- * Value: 0. Refusals: 1 to 11, 22, 25. Stack: 1,352 bytes. */
+ * Value: 0. Refusals: 1 to 11, 22, 24, 25. Stack: 1,592 bytes. */
 uint64_t varnucht_check_release(const uint8_t *image, size_t image_len);
 
 /* Every file, hidden ones too, by rising slot, at 258 bytes each from the front of `out`; section 6 says how to read them.
- * Value: how many files, 0 to 80. Free: the free sectors, 0 to 1,560. `out`: 258 bytes for each file, and
- * VARNUCHT_LISTING_BYTES always suffice. Refusals: 1 to 11, 25, 20. */
+ * Value: how many files, 0 to 778. Free: the free sectors, 0 to 1,560. `out`: 258 bytes for each file, and
+ * VARNUCHT_LISTING_BYTES always suffice. Refusals: 1 to 11, 24, 25, 20. */
 uint64_t varnucht_list(const uint8_t *image, size_t image_len, uint8_t *out, size_t out_len);
 
 /* A file's body, of kind 16 to 20 or 1 to 4, to the front of `out`. Value: its length in bytes, 0 to 795,591, and of kinds 1
  * to 4 at most 65,535. `out`: as long as the body, and VARNUCHT_BODY_BYTES always suffice. varnucht_open tells the length of
  * every file that can be read, and a listing that of kinds 16 to 20 (varnucht_entry_length).
- * Refusals: 1 to 11, 25, 12, 13, 15, 20. */
+ * Refusals: 1 to 11, 24, 25, 12, 13, 15, 20. */
 uint64_t varnucht_read(const uint8_t *image, size_t image_len, const uint8_t *name, size_t name_len, uint8_t *out,
                        size_t out_len);
 
@@ -213,8 +239,8 @@ uint64_t varnucht_read(const uint8_t *image, size_t image_len, const uint8_t *na
  * than that the call answers and touches nothing but `out`. */
 
 /* Finds a file. Value: the length of its body in bytes, 0 to 795,591. Slot: the sector that the body begins in, 0 to 1,599.
- * Free: the place of its first byte there, 9. Refusals: 1 to 11, 25, 12, 13, 15, as varnucht_read has them.
- * Stack: 1,432 bytes. */
+ * Free: the place of its first byte there, 9. Refusals: 1 to 11, 24, 25, 12, 13, 15, as varnucht_read has them.
+ * Stack: 1,672 bytes. */
 uint64_t varnucht_open(const uint8_t *image, size_t image_len, const uint8_t *name, size_t name_len);
 
 /* The next bytes, to the front of `out`: as many as it holds or as are left.
@@ -259,8 +285,20 @@ static inline size_t varnucht_reader_next(struct varnucht_reader *reader, const 
 
 /* The address that a file is loaded to. Value: page * 16,384 + offset - 16,384, which is 16,384 to 540,671; of kinds 1 to 4
  * the start in the file's header as it stands, 0 to 65,535, and never 14.
- * Refusals: 1 to 11, 25, 12, 13, 14, 15. */
+ * Refusals: 1 to 11, 24, 25, 12, 13, 14, 15. */
 uint64_t varnucht_start(const uint8_t *image, size_t image_len, const uint8_t *name, size_t name_len);
+
+/* What lies beneath a subdirectory: the files and subdirectories in it, those in these, and so on, to whatever depth. To the
+ * front of `slots` come the numbers of their slots, each once, two bytes to a number, low byte first (varnucht_listed reads
+ * them). Those in one directory come by rising slot, and a subdirectory is directly followed by all that lies beneath it.
+ *   name   the subdirectory's; an empty one (length 0) is the root, and beneath it lies every file of the disk
+ * Value: how many, 0 to 778. `slots`: two bytes for each, and VARNUCHT_TREE_BYTES always suffice; a buffer of L bytes has
+ * room for L / 2 numbers. A listing has all else that the slots say, and varnucht_entry_code and varnucht_entry_parent tell
+ * which of them is in which.
+ * Refusals: 1 to 11, 24, 25, 26, 27, 28, 12, 13 (not a subdirectory), 15, 20. On a disk with 255 subdirectories, each inside
+ * the one before, which are as many as there can be, Stack: 35,536 bytes. */
+uint64_t varnucht_tree(const uint8_t *image, size_t image_len, const uint8_t *name, size_t name_len, uint8_t *slots,
+                       size_t slots_len);
 
 /* A raw sector of one of two disks, whatever they hold: no directory is looked at.
  *   one, two   the images of drives 1 and 2. Both must have 819,200 bytes, whichever is chosen; they may be the same bytes
@@ -294,20 +332,20 @@ enum varnucht_report_place {
     VARNUCHT_REPORT_KINDS = 33,         /* + k, 0 to 63: how many files have kind k, hidden ones too */
     VARNUCHT_REPORT_FILE_SECTORS = 97,  /* the sectors of all files */
     VARNUCHT_REPORT_FREE_SECTORS = 98,  /* the free sectors of the accepted disks */
-    VARNUCHT_REPORT_CLASSES = 99,       /* + c, 0 to 11: how many files have 0 sectors, 1, 2 to 3, 4 to 7, .., 512 to 1,023,
-                                           1,024 and more. They add up to the files. From 111 on nothing is counted, and
-                                           what stands there stays */
+    VARNUCHT_REPORT_CLASSES = 99,       /* + c, 0 to 11: how many files have 0 sectors (subdirectories, kind 21), 1, 2 to 3,
+                                           4 to 7, .., 512 to 1,023, 1,024 and more. They add up to the files. From 111 on
+                                           nothing is counted, and what stands there stays */
     VARNUCHT_REPORT_CLASS_COUNT = 12
 };
 
 /* Adds a disk to a report: any bytes, which are only read. A disk that varnucht_check refuses is counted by the number that
  * it gives, and nowhere else. Value: how many disks are in the report then, 1 to 65,535. Refusals: 20 where `report` is too
- * short to be one, then 31 where 65,535 disks are in it. Stack: 2,504 bytes. */
+ * short to be one, then 31 where 65,535 disks are in it. Stack: 1,640 bytes. */
 uint64_t varnucht_report_add(const uint8_t *image, size_t image_len, uint8_t *report, size_t report_len);
 
 /* Joins `other`, which is only read, to `report`. Value: how many disks are in the report then, 0 to 65,535. Refusals: 20
  * where one of them is too short to be a report, then 31 where they have more than 65,535 disks together.
- * Stack: 2,492 bytes. */
+ * Stack: 112 bytes. */
 uint64_t varnucht_report_join(uint8_t *report, size_t report_len, const uint8_t *other, size_t other_len);
 
 /* The number at a place of a report, 0 to 123. */
@@ -339,7 +377,8 @@ static inline unsigned varnucht_report_class_first(unsigned c) { return c == 0 ?
  *   - if any sector is missing, varnucht_list, varnucht_read and varnucht_start answer exactly as before the change, free
  *     sectors included: it has not happened, nothing is lost or used up, and it can be asked for again;
  *   - if none is missing, it is the changed disk, byte for byte;
- *   - in either case every file that the change did not ask for by name keeps its slot and its sectors, byte for byte.
+ *   - in either case every file that the change did not ask for by name keeps its slot and its sectors, byte for byte, and
+ *     the disk its name and its directory tracks (section 6).
  * You may rely on that only if no sector reaches the storage before one that stands earlier in the list, and none reaches it
  * in part. Where a write fails, the image in memory is ahead of the file: read it again from there before the next change.
  *
@@ -358,29 +397,31 @@ static inline unsigned varnucht_listed(const uint8_t *list, size_t i) { return l
  *            are kept and any beyond are ignored; fewer are filled with 0, so an empty slice is three zeros and not 255
  *   info     what the SAM keeps of the kind, such as the mode of a screen. Eleven bytes are kept and any beyond are ignored;
  *            fewer are filled with 0
- *   body     the file's bytes, none allowed, at most 795,591 on an empty disk
+ *   body     the file's bytes, none allowed, at most 795,591 on an empty disk with four directory tracks
  * The save takes the least n sectors with 510 * n at least 9 + body_len, and names those n and last the slot's. Where the
  * slot is the directory's end and an old name stands in the next one, that slot's bytes 0 and 1 are set to 0, so that the
- * name does not come back; its sector, if it is another, is named between them.
- * Value: n + 1 or n + 2. `list`: two bytes for each, 2 * (n + 2) always suffice. Refusals: 1 to 11, 25, 12, 13, 14, 16, 18,
- * 19, 20. */
+ * name does not come back; its sector, if it is another, is named between them. A save into slot 1 keeps what that says of
+ * the disk: its name, its random word and its directory tracks (bytes 210 to 219, 252, 253 and 255).
+ * Value: n + 1 or n + 2. `list`: two bytes for each, 2 * (n + 2) always suffice. Refusals: 1 to 11, 24, 25, 12, 13, 14, 16,
+ * 18, 19, 20. */
 uint64_t varnucht_save(uint8_t *image, size_t image_len, uint32_t kind, const uint8_t *name, size_t name_len, uint32_t page,
                        uint32_t offset, const uint8_t *exec, size_t exec_len, const uint8_t *info, size_t info_len,
                        const uint8_t *body, size_t body_len, uint8_t *list, size_t list_len);
 
-/* Erases a file: its slot and its sectors are free from then on. Value: 1. Refusals: 1 to 11, 25, 12, 15, 17, 20. */
+/* Erases a file: its slot and its sectors are free from then on. A subdirectory is erased where nothing is in it, else it is
+ * refused 29. Value: 1. Refusals: 1 to 11, 24, 25, 12, 15, 17, 29, 20. */
 uint64_t varnucht_erase(uint8_t *image, size_t image_len, const uint8_t *name, size_t name_len, uint8_t *list,
                         size_t list_len);
 
 /* Gives a file a new name (section 7). It may be the file's own with other capitals. Refused 16 where another file has the
  * name, capitals or not (slot: that file's), or where the file has it already, byte for byte (slot: its own). Value: 1.
- * Refusals: 1 to 11, 25, 12 (either name), 15, 16, 17, 20. */
+ * Refusals: 1 to 11, 24, 25, 12 (either name), 15, 16, 17, 20. */
 uint64_t varnucht_rename(uint8_t *image, size_t image_len, const uint8_t *name, size_t name_len, const uint8_t *new_name,
                          size_t new_name_len, uint8_t *list, size_t list_len);
 
 /* Mark a file: hide sets the mark that show clears, protect the one that release clears. Nothing else changes. Where the
  * mark is so already the call is accepted and names its sector all the same. A hidden file is listed and found like any
- * other. A protected one cannot be erased or renamed. Value: 1. Refusals: 1 to 11, 25, 12, 15, 20. */
+ * other. A protected one cannot be erased or renamed. Value: 1. Refusals: 1 to 11, 24, 25, 12, 15, 20. */
 uint64_t varnucht_hide(uint8_t *image, size_t image_len, const uint8_t *name, size_t name_len, uint8_t *list,
                        size_t list_len);
 uint64_t varnucht_show(uint8_t *image, size_t image_len, const uint8_t *name, size_t name_len, uint8_t *list,
@@ -399,19 +440,23 @@ enum varnucht_entry_field {
     VARNUCHT_ENTRY_SECTORS = 13,        /* 2 bytes, high byte first */
     VARNUCHT_ENTRY_FIRST_TRACK = 15,    /* where the file's first sector is */
     VARNUCHT_ENTRY_FIRST_SECTOR = 16,
-    VARNUCHT_ENTRY_MAP = 17,            /* 195 bytes: bit b mod 8 of byte b / 8 says whether data sector b is the file's */
+    VARNUCHT_ENTRY_MAP = 17,            /* 195 bytes: bit b mod 8 of byte b / 8 says whether the sector of bit b is the
+                                           file's: track 4 + b / 10, and from 760 on track 128 + (b - 760) / 10; sector
+                                           b mod 10 + 1 */
     VARNUCHT_ENTRY_INFO = 223,          /* 11 bytes */
     VARNUCHT_ENTRY_PAGE = 238,          /* bits 0 to 4; this and the next three of kinds 16 to 20 alone */
     VARNUCHT_ENTRY_OFFSET = 239,        /* 2 bytes, low byte first */
     VARNUCHT_ENTRY_PAGES = 241,         /* whole pages of 16,384 bytes in the length */
     VARNUCHT_ENTRY_REMAINDER = 242,     /* 2 bytes, low byte first, bits 0 to 13: the rest of the length */
-    VARNUCHT_ENTRY_EXEC = 244           /* 3 bytes */
+    VARNUCHT_ENTRY_EXEC = 244,          /* 3 bytes */
+    VARNUCHT_ENTRY_CODE = 252,          /* of a subdirectory (kind 21) alone: its code */
+    VARNUCHT_ENTRY_PARENT = 256         /* the code of the subdirectory that it is in, 0 for the root */
 };
 
 /* Entry i of a listing, i below the value that varnucht_list answered. */
 static inline const uint8_t *varnucht_entry(const uint8_t *listing, size_t i) { return listing + VARNUCHT_ENTRY_BYTES * i; }
 
-/* The slot's number, 1 to 80. */
+/* The slot's number, 1 to 778. */
 static inline unsigned varnucht_entry_slot(const uint8_t *entry) {
     return entry[VARNUCHT_ENTRY_SLOT] + 256u * entry[VARNUCHT_ENTRY_SLOT + 1];
 }
@@ -444,7 +489,15 @@ static inline size_t varnucht_entry_name_len(const uint8_t *entry) {
     return len;
 }
 
-/* How many sectors the file takes, 1 to 1,560. */
+/* Whether it is a subdirectory, kind 21; its code, 1 to 255, where it is one (0 on a disk that varnucht_tree refuses 26),
+ * else 0; and the code of the subdirectory that it is in, 0 for the root. */
+static inline int varnucht_entry_directory(const uint8_t *entry) { return varnucht_entry_kind(entry) == 21; }
+static inline unsigned varnucht_entry_code(const uint8_t *entry) {
+    return varnucht_entry_directory(entry) ? entry[VARNUCHT_ENTRY_CODE] : 0u;
+}
+static inline unsigned varnucht_entry_parent(const uint8_t *entry) { return entry[VARNUCHT_ENTRY_PARENT]; }
+
+/* How many sectors the file takes, 1 to 1,560; a subdirectory takes 0. */
 static inline unsigned varnucht_entry_sectors(const uint8_t *entry) {
     return 256u * entry[VARNUCHT_ENTRY_SECTORS] + entry[VARNUCHT_ENTRY_SECTORS + 1];
 }
@@ -465,6 +518,36 @@ static inline unsigned varnucht_entry_offset(const uint8_t *entry) {
 static inline const uint8_t *varnucht_entry_info(const uint8_t *entry) { return entry + VARNUCHT_ENTRY_INFO; }
 static inline const uint8_t *varnucht_entry_exec(const uint8_t *entry) { return entry + VARNUCHT_ENTRY_EXEC; }
 
+/* WHAT A DISK SAYS OF ITSELF, in slot 1, whether a file is there or not. `image` is one that varnucht_check accepts, or any
+ * whose first 256 bytes are there. */
+
+/* How many tracks of the first side the directory has, 4 to 39; 0 where slot 1 gives no such number, which is refused 24. */
+static inline unsigned varnucht_directory_tracks(const uint8_t *image) {
+    unsigned more = image[255] == 255 ? 0 : image[255];
+    return more <= 35 ? 4 + more : 0;
+}
+
+/* How many slots a directory of so many tracks has, 80 to 778, and how many data sectors are left, 1,211 to 1,560. */
+static inline unsigned varnucht_directory_slots(unsigned tracks) { return tracks > 4 ? 20 * tracks - 2 : 80; }
+static inline unsigned varnucht_directory_data(unsigned tracks) { return tracks > 4 ? 1601 - 10 * tracks : 1560; }
+
+/* The disk's name, put into the VARNUCHT_NAME_BYTES at `name`; and how many bytes it has without the spaces and zeros at its
+ * end. Bit 7 of its first byte is no part of it, and is given as 0. A disk without a name has 0 in its first byte, or 255 as
+ * SAMDOS fills it, and this answers 0. Like any name it may hold any bytes. */
+static inline size_t varnucht_disk_name(const uint8_t *image, uint8_t *name) {
+    size_t len = VARNUCHT_NAME_BYTES;
+    for (size_t i = 0; i < VARNUCHT_NAME_BYTES; i++) {
+        name[i] = image[210 + i] & (i == 0 ? 127 : 255);
+    }
+    if (name[0] == 0 || name[0] == 127) {
+        return 0;
+    }
+    while (len > 0 && (name[len - 1] == 32 || name[len - 1] == 0)) {
+        len--;
+    }
+    return len;
+}
+
 /* 7. NAMES AND KINDS
  *
  * A name is given as 1 to 10 bytes with no 0 behind them, so "TUNES" has length 5. A shorter name is filled with spaces (32)
@@ -475,7 +558,13 @@ static inline const uint8_t *varnucht_entry_exec(const uint8_t *entry) { return 
  *
  * A kind is a number. 1 to 12 and 16 to 23 are known, and their files are listed, erased, renamed and marked. Only the
  * carried kinds, 16 to 20, and those of the Spectrum with a header of the Plus D, 1 to 4, have a body and a start address
- * for these calls. Only the carried kinds can be saved. */
+ * for these calls. Only the carried kinds can be saved.
+ *
+ * Kind 21 is a subdirectory, which MasterDOS makes: a slot with a name and no sectors. It is listed, renamed, marked and,
+ * where nothing is in it, erased like a file. Byte 250 of its slot is its code, and byte 254 of every live slot is the code
+ * of the subdirectory that it is in, or 0: then it is in the root. Subdirectories may be in each other. A name is unique over
+ * the whole disk, whatever it is in, so no call but varnucht_tree looks at the codes, and varnucht_erase at those of a
+ * subdirectory. A save goes to the root. */
 enum varnucht_kind {
     VARNUCHT_KIND_ZX_BASIC = 1,         /* kinds of the Spectrum */
     VARNUCHT_KIND_ZX_NUMBERS = 2,
@@ -486,7 +575,9 @@ enum varnucht_kind {
     VARNUCHT_KIND_NUMBERS = 17,         /* a numeric array */
     VARNUCHT_KIND_STRINGS = 18,         /* a string array */
     VARNUCHT_KIND_CODE = 19,            /* machine code, or any bytes */
-    VARNUCHT_KIND_SCREEN = 20
+    VARNUCHT_KIND_SCREEN = 20,
+    /* a subdirectory */
+    VARNUCHT_KIND_DIRECTORY = 21
 };
 
 /* 8. WHAT IS PROVED AND WHERE IT RUNS

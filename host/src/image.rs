@@ -1,5 +1,6 @@
 //! Images: 819,200 bytes of any content.
 use crate::calls;
+use crate::directory::{Directory, DiskName};
 use crate::drives::Drives;
 use crate::place::{Drive, SECTOR_LENGTH, Sector, SectorNumber, Track};
 use crate::refusal::{Refusal, Refused};
@@ -16,10 +17,26 @@ pub const IMAGE_LENGTH: usize = 819_200;
 pub struct Image(Box<[u8; IMAGE_LENGTH]>);
 
 impl Image {
-    /// A new image, all bytes zero: an accepted disk without a file.
+    /// A new image, all bytes zero: an accepted disk without a file, with four directory tracks.
     pub fn blank() -> Image {
         // By way of a vector, since an array made here would lie on the stack first.
         Image(vec![0; IMAGE_LENGTH].try_into().expect("the vector has this length"))
+    }
+
+    /// A new image with a directory of this size: an accepted disk without a file. All bytes are zero but that which says the
+    /// size.
+    ///
+    /// ```
+    /// use varnucht::{Directory, Disk, Image};
+    ///
+    /// let disk = Disk::open(Image::blank_with(Directory::new(39).unwrap()))?;
+    /// assert_eq!((disk.listing().free_slots(), disk.listing().free()), (778, 1_211));
+    /// # Ok::<(), varnucht::Unsound>(())
+    /// ```
+    pub fn blank_with(directory: Directory) -> Image {
+        let mut image = Image::blank();
+        directory.put(&mut image);
+        image
     }
 
     /// The image with these bytes, which are not copied where the vector has no more room than it needs. Refused 1 where
@@ -52,9 +69,19 @@ impl Image {
         bytes.into_vec()
     }
 
-    /// Whether the image is an accepted disk: refused 2 to 11 and 25, with the slot. [`Disk::open`](crate::Disk::open) asks
-    /// the same and keeps the answer in the type. Every slot before the directory's end is looked at, and every sector of
-    /// every file.
+    /// How large its directory is, as slot 1 says, whatever else the image holds. Refused 24 where that is no size.
+    pub fn directory(&self) -> Result<Directory, Refused> {
+        Directory::of(self)
+    }
+
+    /// The disk's name, as slot 1 says, whatever else the image holds; none where it has none. A save keeps it.
+    pub fn name(&self) -> Option<DiskName> {
+        DiskName::of(self)
+    }
+
+    /// Whether the image is an accepted disk: refused 24, or 2 to 11 and 25 with the slot.
+    /// [`Disk::open`](crate::Disk::open) asks the same and keeps the answer in the type. Every slot before the directory's
+    /// end is looked at, and every sector of every file.
     pub fn check(&self) -> Result<(), Refused> {
         calls::check(self.as_bytes()).decode().map(|_| ())
     }

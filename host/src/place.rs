@@ -8,7 +8,8 @@ pub const SECTOR_LENGTH: usize = 512;
 /// A disk has 1,600 sectors: two sides of 80 tracks of 10.
 pub const SECTORS: usize = 1_600;
 
-/// All but the directory's 40 sectors are data.
+/// Where the directory has four tracks, all but its 40 sectors are data; with more tracks fewer are. A map has a bit for each
+/// of these.
 pub const DATA_SECTORS: usize = 1_560;
 
 /// One of the two drives.
@@ -123,7 +124,7 @@ impl SectorNumber {
         SectorNumber((2 * (track % 128) + track / 128) * 10 + sector - 1)
     }
 
-    /// The number of the data sector that a bit of a map stands for; none for 1,560 and above.
+    /// The number of the sector that a bit of a map stands for; none for 1,560 and above.
     pub(crate) fn of_bit(bit: u16) -> Option<SectorNumber> {
         let track = match bit {
             0..760 => 4 + bit / 10,

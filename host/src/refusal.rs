@@ -13,11 +13,11 @@ pub enum Refusal {
     UnknownKind,
     /// 3: the first name byte is 0. It is given no more, since the directory ends there, and the number stays reserved.
     NoFirstNameByte,
-    /// 4: the count is not 1 to 1,560.
+    /// 4: the count is not 1 to the number of data sectors, or a directory's is not 0.
     Count,
     /// 5: the map's set bits are not as many as the count.
     MapCount,
-    /// 6: the first address is not a data sector, or its bit is clear.
+    /// 6: the first address is not a data sector, or its bit is clear, or the map has a bit inside the directory.
     FirstAddress,
     /// 7: carried kind, and its sectors are too few for its length.
     TooFewSectors,
@@ -52,8 +52,18 @@ pub enum Refusal {
     NoSuchSector,
     /// 22: carried kind, and the file has more sectors than its length needs. The check before a release alone gives it.
     WasteSectors,
+    /// 24: slot 1 says a number of directory tracks that no disk has.
+    DirectoryTracks,
     /// 25: a kind of the Spectrum, 1 to 4, and its sectors are too few for the length in its header.
     BodyTooLong,
+    /// 26: a directory has code 0, or an earlier directory's code. [`Disk::tree`](crate::Disk::tree) alone gives it.
+    CodeNotOwn,
+    /// 27: the directory that a file or a directory is in is not there. [`Disk::tree`](crate::Disk::tree) alone gives it.
+    DirectoryMissing,
+    /// 28: a directory lies inside itself. [`Disk::tree`](crate::Disk::tree) alone gives it.
+    DirectoryInItself,
+    /// 29: a directory that something is in cannot be erased.
+    DirectoryNotEmpty,
     /// 31: a report that would pass 65,535 disks.
     ReportFull,
     /// A number that this table does not have. No call of today's library gives one.
@@ -61,16 +71,20 @@ pub enum Refusal {
 }
 
 /// The table of document 01 with the rows that document 02 adds, by rising number.
-const TABLE: [(u8, Refusal, &str); 24] = [
+const TABLE: [(u8, Refusal, &str); 29] = [
     (1, Refusal::ImageLength, "the image is not 819,200 bytes"),
     (2, Refusal::UnknownKind, "the kind is not known"),
     (3, Refusal::NoFirstNameByte, "the first name byte is 0 (given no more)"),
-    (4, Refusal::Count, "the count is not 1 to 1,560"),
+    (
+        4,
+        Refusal::Count,
+        "the count is not 1 to the number of data sectors, or a directory's is not 0",
+    ),
     (5, Refusal::MapCount, "the map's set bits are not as many as the count"),
     (
         6,
         Refusal::FirstAddress,
-        "the first address is not a data sector, or its bit is clear",
+        "the first address is not a data sector, or its bit is clear, or the map has a bit inside the directory",
     ),
     (7, Refusal::TooFewSectors, "carried kind, and 510 × count is below 9 + length"),
     (8, Refusal::SharedSector, "the map shares a bit with an earlier live slot"),
@@ -86,7 +100,7 @@ const TABLE: [(u8, Refusal, &str); 24] = [
     (
         13,
         Refusal::WrongKind,
-        "the kind asked for (save) or found (read, start address) is not one that this call takes",
+        "the kind asked for (save) or found (read, start address, tree) is not one that this call takes",
     ),
     (
         14,
@@ -110,9 +124,34 @@ const TABLE: [(u8, Refusal, &str); 24] = [
         "carried kind, and the count is above the least that its length needs (waste sectors behind the file)",
     ),
     (
+        24,
+        Refusal::DirectoryTracks,
+        "the number of directory tracks beyond four, byte 255 of slot 1, is 36 to 254",
+    ),
+    (
         25,
         Refusal::BodyTooLong,
         "kind 1 to 4, and 510 × count is below 9 + the length in the header",
+    ),
+    (
+        26,
+        Refusal::CodeNotOwn,
+        "a directory with code 0 or an earlier directory's code (tree)",
+    ),
+    (
+        27,
+        Refusal::DirectoryMissing,
+        "a live slot's byte 254 is not 0 and no directory's code (tree)",
+    ),
+    (
+        28,
+        Refusal::DirectoryInItself,
+        "a directory lies inside itself at some depth (tree)",
+    ),
+    (
+        29,
+        Refusal::DirectoryNotEmpty,
+        "a directory whose code, not 0, is another live slot's byte 254 (erase)",
     ),
     (31, Refusal::ReportFull, "a disk or join that would pass 65,535 disks"),
 ];
@@ -151,7 +190,7 @@ impl Refusal {
     }
 }
 
-/// The number of a slot of the directory, 1 to 80.
+/// The number of a slot of the directory, 1 to 778.
 #[derive(Clone, Copy, Debug, PartialEq, Eq, PartialOrd, Ord, Hash)]
 pub struct Slot(NonZeroU16);
 

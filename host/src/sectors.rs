@@ -3,10 +3,11 @@ use crate::image::Image;
 use crate::place::{DATA_SECTORS, SECTOR_LENGTH, SectorNumber};
 use crate::store::{Store, WriteError};
 
-/// The longest body that a disk can hold: 510 bytes in each of its 1,560 data sectors, less the nine header bytes.
+/// The longest body that a disk can hold: 510 bytes in each of the 1,560 data sectors that it has with four directory tracks,
+/// less the nine header bytes.
 pub const LONGEST_BODY: usize = 510 * DATA_SECTORS - 9;
 
-/// The bytes of a list with room for every change: all data sectors and two of the directory, two bytes to a number.
+/// The bytes of a list with room for every change: 1,560 data sectors and two of the directory, two bytes to a number.
 pub(crate) const LIST_LENGTH: usize = 2 * (DATA_SECTORS + 2);
 
 /// The sectors that a change altered, in the order in which they are to be written, with the bytes that they hold now.

@@ -1,4 +1,6 @@
 //! The safe interface, by subject. Here is what the subjects share.
+#[path = "api/bigger.rs"]
+mod bigger;
 #[path = "api/changing.rs"]
 mod changing;
 #[path = "api/pieces.rs"]
@@ -11,6 +13,8 @@ mod reports;
 mod table;
 #[path = "api/texts.rs"]
 mod texts;
+#[path = "api/tree.rs"]
+mod tree;
 #[path = "api/types.rs"]
 mod types;
 #[path = "api/words.rs"]

@@ -1,4 +1,6 @@
 //! The tool, run as a process, by subject. `tool/support.rs` is what the subjects share.
+#[path = "tool/bigger.rs"]
+mod bigger;
 #[path = "tool/commands.rs"]
 mod commands;
 #[path = "tool/flushes.rs"]
@@ -7,6 +9,8 @@ mod flushes;
 mod input;
 #[path = "tool/lock.rs"]
 mod lock;
+#[path = "tool/looking.rs"]
+mod looking;
 #[path = "tool/lost.rs"]
 mod lost;
 #[path = "tool/making.rs"]
@@ -19,11 +23,15 @@ mod messages;
 mod names;
 #[path = "tool/report.rs"]
 mod report;
+#[path = "tool/saving.rs"]
+mod saving;
 #[path = "tool/standard.rs"]
 mod standard;
 #[path = "tool/support.rs"]
 mod support;
 #[path = "tool/terminal.rs"]
 mod terminal;
+#[path = "tool/tree.rs"]
+mod tree;
 #[path = "tool/writing.rs"]
 mod writing;

@@ -37,8 +37,8 @@ fn the_script_makes_the_disk_anew() {
 #[test]
 fn the_tool_prints_what_is_kept() {
     let image = sample("sample.mgt");
-    assert_eq!(on("check", &image, NONE).done(), "accepted\n");
-    assert_eq!(on("check", &image, ["--release"]).done(), "accepted\n");
+    assert_eq!(on("check", &image, NONE).done(), ACCEPTED);
+    assert_eq!(on("check", &image, ["--release"]).done(), ACCEPTED);
     assert_eq!(
         on("list", &image, NONE).done(),
         fs::read_to_string(sample("list.txt")).unwrap()
@@ -116,6 +116,6 @@ fn the_readmes_lines_run_as_they_are_printed() {
         assert_eq!((run.status, run.err.as_str()), (0, ""), "{line}");
     }
     assert!(fs::read(folder.path("copy.bin")).expect("the copy is there") == body(10_000));
-    assert_eq!(folder.names(), ["copy.bin", "new.mgt", "tunes.bin"]);
+    assert_eq!(folder.names(), ["big.mgt", "copy.bin", "new.mgt", "tunes.bin"]);
     println!("{} lines", lines.len());
 }

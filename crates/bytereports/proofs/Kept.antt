@@ -6,21 +6,19 @@ use mathlib.Core.Option.{none, some}
 use borrow.Author.Tests.{lt-ltb, le-ltb}
 use lib.ListN.{length, getD}
 use Rattle.buffers.specs.Bytes.{put}
-use Rattle.buffers.proofs.Lists.{length-tab}
 use Rattle.refusals.specs.Order.{Reply, refuse}
-use Rattle.refusals.specs.Answers.{Outcome, done, refused, Out, out, filled, outcomeOf}
-use Rattle.refusals.specs.declared.Answer.{Answer}
-use Rattle.refusals.specs.declared.Answer.the-variants.{Done, No}
-use Rattle.refusals.specs.declared.Refused.{Refused}
+use Rattle.refusals.specs.Answers.{Outcome, done, refused, Out, out, filled}
 use Rattle.disk.specs.Look.{look}
 use Rattle.reports.specs.Numbers.{numberAt, reportOf}
 use Rattle.reports.specs.Calls.{disksIn, raised, full, adding, joining}
 use Rattle.reports.proofs.Called.{length-raised, put-whole}
-use Rattle.bytereports.specs.Bytes.{numbersIn, inBytes, kept, addingBytes, joiningBytes}
+use Rattle.bytereports.specs.Bytes.{numbersIn, inBytes, addingBytes, joiningBytes}
+use Rattle.bytereports.proofs.Fours.{length-numbers}
 
-length-numbers : (b : List ℕ) → length (numbersIn b) ≡ 111
-unfolding numbersIn
-length-numbers b = length-tab 111 _
+-- the bytes after a call: those of its numbers at the front, and the rest stays; "Nothing lent changes" where it is refused
+abbrev pub kept : Outcome → List ℕ → List ℕ → List ℕ
+kept (done v f) b r = put b 0 (inBytes r)
+kept (refused x) b r = b
 
 -- the same reply to both
 kept-filled : (q : Reply) (n : ℕ) (f : ℕ → ℕ) (r b : List ℕ) → length r ≡ 111 → (o : Outcome) (l : List ℕ) → out o l ≡ filled q (done n 0) (raised r f) r
@@ -32,13 +30,6 @@ kept-filled none n f r b h o l e =
 kept-filled (some x) n f r b h o l e =
     let p : o ≡ refused x = ap (λ (x : Out). x .outcome) e in
     ap (λ (o : Outcome). out o (kept o b l)) p
-
--- by the case of the answer
-pub kept-done : (a : Answer) (v f : ℕ) (b r : List ℕ) → a ≡ Done v f → {b′ : List ℕ} → b′ ≡ put b 0 (inBytes r) → b′ ≡ kept (outcomeOf a) b r
-kept-done a v f b r e p = p ∙ ap (λ (a : Answer). kept (outcomeOf a) b r) (sym e)
-
-pub kept-no : (a : Answer) (x : Refused) (b r : List ℕ) → a ≡ No x → b ≡ kept (outcomeOf a) b r
-kept-no a x b r e = ap (λ (a : Answer). kept (outcomeOf a) b r) (sym e)
 
 module _ (b d : List ℕ) where
   pub adding-short : length b < 496 → {o : Outcome} → o ≡ refused (refuse 20 0) → out o b ≡ addingBytes b d
@@ -52,11 +43,14 @@ module _ (b d : List ℕ) where
       kept-filled (full (disksIn (numbersIn b) + 1)) (disksIn (numbersIn b) + 1) (numberAt (reportOf (look d))) (numbersIn b) b (length-numbers b) o l e
       ∙ rw (le-ltb (length b) 496 h)
 
-  -- a is the answer to the call on the numbers, and l the report that it leaves
-  pub adding-kept : 496 ≤ length b → {r : List ℕ} → r ≡ numbersIn b → {a c : Answer} {l : List ℕ} → out (outcomeOf a) l ≡ adding r d
-      → c ≡ a → {b′ : List ℕ} → b′ ≡ kept (outcomeOf a) b l → out (outcomeOf c) b′ ≡ addingBytes b d
-  adding-kept h p {a} {c} {l} e q k =
-      ap₂ (λ (c : Answer) (b : List ℕ). out (outcomeOf c) b) q k ∙ adding-bytes h (outcomeOf a) l (e ∙ ap (λ (r : List ℕ). adding r d) p)
+  pub adding-full : 496 ≤ length b → {x : ℕ} → x ≡ disksIn (numbersIn b) → 65535 < x + 1 → {o : Outcome} → o ≡ refused (refuse 31 0) → out o b ≡ addingBytes b d
+  unfolding addingBytes
+  adding-full h e k q = ap (λ (o : Outcome). out o b) q ∙ rw (le-ltb (length b) 496 h, ← e, lt-ltb 65535 _ k)
+
+  pub adding-done : 496 ≤ length b → {x : ℕ} → x ≡ disksIn (numbersIn b) → x + 1 ≤ 65535
+      → {b′ : List ℕ} → b′ ≡ put b 0 (inBytes (raised (numbersIn b) (numberAt (reportOf (look d))))) → out (done (x + 1) 0) b′ ≡ addingBytes b d
+  unfolding addingBytes
+  adding-done h {x} e k q = ap (out (done (x + 1) 0)) q ∙ rw (le-ltb (length b) 496 h, ← e, le-ltb 65535 _ k)
 
 module _ (b other : List ℕ) where
   pub joining-short : length b < 496 → {o : Outcome} → o ≡ refused (refuse 20 0) → out o b ≡ joiningBytes b other
@@ -75,7 +69,12 @@ module _ (b other : List ℕ) where
       (length-numbers b) o l e
       ∙ rw (le-ltb (length b) 496 h, le-ltb (length other) 496 m)
 
-  pub joining-kept : 496 ≤ length b → 496 ≤ length other → {r s : List ℕ} → r ≡ numbersIn b → s ≡ numbersIn other → {a c : Answer} {l : List ℕ}
-      → out (outcomeOf a) l ≡ joining r s → c ≡ a → {b′ : List ℕ} → b′ ≡ kept (outcomeOf a) b l → out (outcomeOf c) b′ ≡ joiningBytes b other
-  joining-kept h m p t {a} {c} {l} e q k =
-      ap₂ (λ (c : Answer) (b : List ℕ). out (outcomeOf c) b) q k ∙ joining-bytes h m (outcomeOf a) l (e ∙ ap₂ joining p t)
+  pub joining-full : 496 ≤ length b → 496 ≤ length other → {x y : ℕ} → x ≡ disksIn (numbersIn b) → y ≡ disksIn (numbersIn other) → 65535 < x + y
+      → {o : Outcome} → o ≡ refused (refuse 31 0) → out o b ≡ joiningBytes b other
+  unfolding joiningBytes
+  joining-full h m e f k q = ap (λ (o : Outcome). out o b) q ∙ rw (le-ltb (length b) 496 h, le-ltb (length other) 496 m, ← e, ← f, lt-ltb 65535 _ k)
+
+  pub joining-done : 496 ≤ length b → 496 ≤ length other → {x y : ℕ} → x ≡ disksIn (numbersIn b) → y ≡ disksIn (numbersIn other) → x + y ≤ 65535
+      → {b′ : List ℕ} → b′ ≡ put b 0 (inBytes (raised (numbersIn b) (λ k. getD (numbersIn other) k 0))) → out (done (x + y) 0) b′ ≡ joiningBytes b other
+  unfolding joiningBytes
+  joining-done h m {x} {y} e f k q = ap (out (done (x + y) 0)) q ∙ rw (le-ltb (length b) 496 h, le-ltb (length other) 496 m, ← e, ← f, le-ltb 65535 _ k)

@@ -1,3 +1,4 @@
 pub mod Fours
+pub mod Raising
+pub mod Counting
 pub mod Kept
-pub mod Held

@@ -4,13 +4,12 @@ use mathlib.Core.List.{List, [], _∷_, _++_}
 use mathlib.Core.Path.{_≡_}
 use lib.Dec.{ltb}
 use lib.ListN.{length, getD}
-use Rattle.buffers.specs.Bytes.{tab, word, put}
+use Rattle.buffers.specs.Bytes.{tab, word}
 use Rattle.refusals.specs.Order.{Reply, _else_, row}
-use Rattle.refusals.specs.Answers.{Outcome, done, refused, Out, filled}
+use Rattle.refusals.specs.Answers.{done, Out, filled}
 use Rattle.disk.specs.Look.{look}
 use Rattle.reports.specs.Numbers.{numberAt, reportOf}
 use Rattle.reports.specs.Calls.{disksIn, raised, full}
-use Rattle.reports.specs.Shelf.{Disks, Made}
 
 -- 124 numbers, of which the last 13 are kept as they are
 abbrev pub reportBytes : ℕ
@@ -28,10 +27,15 @@ unfoldable pub inBytes : List ℕ → List ℕ
 inBytes [] = []
 inBytes (x ∷ xs) = fourOf x ++ inBytes xs
 
--- the bytes after a call: those of its numbers at the front, and the rest stays; "Nothing lent changes" where it is refused
-abbrev pub kept : Outcome → List ℕ → List ℕ → List ℕ
-kept (done v f) b r = put b 0 (inBytes r)
-kept (refused x) b r = b
+-- bytes before and after numbers at their front were raised: as many, and past the numbers the same
+pub record SameRest (b b′ : List ℕ) : Type 0 where
+  pub long : length b′ ≡ length b
+  pub rest : (i : ℕ) → 444 ≤ i → getD b′ i 0 ≡ getD b i 0
+
+-- and the numbers that they then hold
+pub record Numbered (b b′ r : List ℕ) : Type 0 where
+  pub same : SameRest b b′
+  pub numbers : numbersIn b′ ≡ r
 
 -- "a lent output buffer is too short"
 abbrev pub short : List ℕ → Reply
@@ -49,15 +53,3 @@ joiningBytes b other =
     let r = numbersIn b in
     let o = numbersIn other in
     filled (short b else short other else full (disksIn r + disksIn o)) (done (disksIn r + disksIn o) 0) (inBytes (raised r (λ k. getD o k 0))) b
-
--- bytes that hold the report over these disks
-pub record Holds (ds : Disks) (b : List ℕ) : Type 0 where
-  pub room : reportBytes ≤ length b
-  pub made : Made ds (numbersIn b)
-
--- after a call: the disks in the report, the bytes that hold it, and the bytes past its numbers, which stay
-pub record Leaves (ds : Disks) (b : List ℕ) (r : Out) : Type 0 where
-  pub disks : r .outcome ≡ done (length ds) 0
-  pub holds : Holds ds (r .buffer)
-  pub long : length (r .buffer) ≡ length b
-  pub rest : (i : ℕ) → 444 ≤ i → getD (r .buffer) i 0 ≡ getD b i 0

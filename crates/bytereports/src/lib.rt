@@ -1,39 +1,58 @@
-// Reports for the app's C layer, as lent bytes: four to a number, low byte first. The front of a longer buffer is used.
+// Reports as the app lends them: numbers of four bytes each, low byte first, at the front of a buffer. A number is raised where
+// it lies, so that a call copies nothing and a disk costs what it changes.
 ghost use mathlib.Core.Path.{_≡_};
-ghost use Prim.Native.Nat.{_+_, _*_, _≤_, _<_};
-ghost use lib.ListN.{length};
-ghost use Rattle.buffers.specs.Bytes.{put, word};
+ghost use Prim.Native.Nat.{_+_, _*_, _^_, _≤_, _<_};
+ghost use lib.ListN.{length, getD};
+ghost use Rattle.buffers.specs.Bytes.{put};
 ghost use Rattle.refusals.specs.Answers.{outcomeOf, out};
-ghost use Rattle.bytereports.specs.Bytes.{numbersIn, fourOf, inBytes, kept, addingBytes, joiningBytes};
+ghost use Rattle.directory.specs.Places.{slots};
+ghost use Rattle.directory.specs.Directory.{directory, liveAmong};
+ghost use Rattle.disk.specs.Look.{look};
+ghost use Rattle.reports.specs.Numbers.{filesReport, reportOf, numberAt};
+ghost use Rattle.reports.specs.Calls.{disksIn, raisedAt, raised};
+ghost use Rattle.bytereports.specs.Bytes.{numbersIn, fourOf, Numbered, addingBytes, joiningBytes};
 use refusals::Answer;
 use refusals::Reason;
-use reports::Report;
-use reports::Reported;
+use refusals::Verdict;
 
 // The bytes of a report: 124 numbers, of which the last 13 are not used.
 pub const REPORT_BYTES: usize = 496;
 
-// Four bytes as one number, low byte first; bytes past the end count as 0.
-fn four_at(bytes: &[u8], at: usize) -> u32
-    requires { ⌜ at ≤ 440 ⌝ }
-    ensures { λ r. ⌜ r ≡ word 4 (now (bytes .entry)) at 0 ⌝ }
+const NUMBERS: usize = 111;
+
+// The most disks that a report is over.
+const MOST_DISKS: usize = 65535;
+
+// Where its numbers stand: the accepted disks, and then those refused by each number, from 1 to 32.
+const ACCEPTED: usize = 0;
+
+const REFUSED_END: usize = 33;
+
+// Live files of kind 0 to 63, file sectors, free sectors, and files of class 0 to 11.
+const KINDS: usize = 33;
+
+const FILE_SECTORS: usize = 97;
+
+const FREE_SECTORS: usize = 98;
+
+const CLASSES: usize = 99;
+
+fn wide(x: u8) -> u32
+    ensures { λ r. ⌜ (r ≡ x) × (r < 256) ⌝ }
 {
-    let low = buffers::num_at(bytes, at) + 256 * buffers::num_at(bytes, at + 1);
-    let high = buffers::num_at(bytes, at + 2) + 256 * buffers::num_at(bytes, at + 3);
-    (low + 65536 * high) as u32
+    x as u32
 }
 
-// The report that bytes hold.
-pub fn report_in(bytes: &[u8]) -> Report
-    ensures { λ r. ⌜ r .numbers ≡ numbersIn (now (bytes .entry)) ⌝ }
+// One of a report's numbers: four bytes, which the compiler makes one load.
+fn number_at(bytes: &[u8], k: usize) -> u32
+    requires { ⌜ (k < 111) × (496 ≤ length (now bytes)) ⌝ }
+    ensures { λ r. ⌜ (r ≡ getD (numbersIn (now (bytes .entry))) k 0) × (r < 2 ^ 32) ⌝ }
 {
-    let mut numbers = [0u32; reports::NUMBERS];
-    let mut k: usize = 0;
-    while k < reports::NUMBERS {
-        numbers[k] = four_at(bytes, 4 * k);
-        k += 1;
-    }
-    Report { numbers }
+    let at = 4 * k;
+    wide(bytes[at])
+        + 256 * wide(bytes[at + 1])
+        + 65536 * wide(bytes[at + 2])
+        + 16777216 * wide(bytes[at + 3])
 }
 
 // Puts a number's four bytes at a place.
@@ -47,33 +66,75 @@ fn put_four(bytes: &mut [u8], at: usize, x: u32)
     bytes[at + 3] = (x / 16777216 % 256) as u8;
 }
 
-// Puts numbers to the front of bytes.
-fn put_numbers(bytes: &mut [u8], numbers: &[u32])
-    requires { ⌜ 4 * length (now numbers) ≤ length (now bytes) ⌝ }
-    ensures { λ _. ⌜ now (bytes .exit) ≡ put (now (bytes .entry)) 0 (inBytes (now (numbers .entry))) ⌝ }
+// One of the numbers with more to it, modulo 2^32.
+fn raise(bytes: &mut [u8], k: usize, by: u32)
+    requires { ⌜ (k < 111) × (496 ≤ length (now bytes)) ⌝ }
+    ensures { λ _. ⌜ Numbered (now (bytes .entry)) (now (bytes .exit)) (raisedAt (numbersIn (now (bytes .entry))) k by) ⌝ }
 {
-    let mut k: usize = 0;
-    while k < numbers.len() {
-        put_four(bytes, 4 * k, numbers[k]);
-        k += 1;
+    let sum = std::num::wrapping_add_u32(number_at(bytes, k), by);
+    put_four(bytes, 4 * k, sum);
+}
+
+// The files of a disk, of which there are so many, by their kinds and classes.
+fn count_files(bytes: &mut [u8], image: &[u8], files: usize)
+    requires { ⌜ (496 ≤ length (now bytes)) × (files ≡ liveAmong (directory (now image)) slots) ⌝ }
+    ensures { λ _. ⌜ Numbered (now (bytes .entry)) (now (bytes .exit)) (raised (numbersIn (now (bytes .entry))) (numberAt (filesReport (directory (now (image .entry))) slots))) ⌝ }
+{
+    let mut seen: usize = 0;
+    let mut i: usize = 0;
+    while seen < files {
+        let s = directory::slot_at(image, i);
+        i += 1;
+        if slots::is_live(s) {
+            seen += 1;
+            raise(bytes, KINDS + slots::kind_of(s), 1);
+            raise(bytes, CLASSES + reports::class_of(slots::count_of(s)), 1);
+        }
     }
 }
 
-// The report that a call left, put back to its bytes; they stay where the call was refused.
-fn keep(bytes: &mut [u8], given: Reported) -> Answer
-    requires { ⌜ 496 ≤ length (now bytes) ⌝ }
-    ensures { λ r. ⌜ (r ≡ given .answer) × (now (bytes .exit) ≡ kept (outcomeOf (given .answer)) (now (bytes .entry)) (given .report .numbers)) ⌝ }
+// An accepted disk: one more of these, its file sectors and its free sectors.
+fn count_accepted(bytes: &mut [u8], sectors: usize, free: usize)
+    requires { ⌜ (496 ≤ length (now bytes)) × (sectors < 2 ^ 32) × (free < 2 ^ 32) ⌝ }
+    ensures { λ _. ⌜ Numbered (now (bytes .entry)) (now (bytes .exit)) (raisedAt (raisedAt (raisedAt (numbersIn (now (bytes .entry))) 0 1) 97 sectors) 98 free) ⌝ }
 {
-    let answer = given.answer;
-    let report = given.report;
-    let numbers = report.numbers;
-    match answer {
-        Answer::Done(_, _) => {
-            put_numbers(bytes, &numbers);
-            answer
+    raise(bytes, ACCEPTED, 1);
+    raise(bytes, FILE_SECTORS, sectors as u32);
+    raise(bytes, FREE_SECTORS, free as u32);
+}
+
+// A disk, by its check.
+fn count_disk(bytes: &mut [u8], image: &[u8])
+    requires { ⌜ 496 ≤ length (now bytes) ⌝ }
+    ensures { λ _. ⌜ Numbered (now (bytes .entry)) (now (bytes .exit)) (raised (numbersIn (now (bytes .entry))) (numberAt (reportOf (look (now (image .entry)))))) ⌝ }
+{
+    let found = disk::examine(image);
+    let verdict = found.verdict;
+    match verdict {
+        Verdict::Unsound(r) => {
+            let reason = r.reason;
+            raise(bytes, refusals::number_of(reason), 1);
         }
-        Answer::No(_) => answer,
+        Verdict::Sound => {
+            let used = found.used;
+            count_accepted(bytes, used.count, surveys::free_of(used));
+            count_files(bytes, image, found.files);
+        }
     }
+}
+
+// The disks in a report: accepted, and refused by each number.
+fn disks_in(bytes: &[u8]) -> usize
+    requires { ⌜ 496 ≤ length (now bytes) ⌝ }
+    ensures { λ r. ⌜ (r ≡ disksIn (numbersIn (now (bytes .entry)))) × (r ≤ 33 * 2 ^ 32) ⌝ }
+{
+    let mut disks: usize = 0;
+    let mut k: usize = 0;
+    while k < REFUSED_END {
+        disks += number_at(bytes, k) as usize;
+        k += 1;
+    }
+    disks
 }
 
 // A disk added to a report: the disks in it after.
@@ -83,8 +144,24 @@ pub fn add(image: &[u8], bytes: &mut [u8]) -> Answer
     if bytes.len() < REPORT_BYTES {
         return refusals::no(Reason::BufferTooShort, 0);
     }
-    let added = reports::add(report_in(bytes), image);
-    keep(bytes, added)
+    let disks = disks_in(bytes) + 1;
+    if MOST_DISKS < disks {
+        return refusals::no(Reason::ReportFull, 0);
+    }
+    count_disk(bytes, image);
+    Answer::Done(disks, 0)
+}
+
+// The numbers of another report, added to those of one.
+fn add_numbers(bytes: &mut [u8], other: &[u8])
+    requires { ⌜ (496 ≤ length (now bytes)) × (496 ≤ length (now other)) ⌝ }
+    ensures { λ _. ⌜ Numbered (now (bytes .entry)) (now (bytes .exit)) (raised (numbersIn (now (bytes .entry))) (λ k. getD (numbersIn (now (other .entry))) k 0)) ⌝ }
+{
+    let mut k: usize = 0;
+    while k < NUMBERS {
+        raise(bytes, k, number_at(other, k));
+        k += 1;
+    }
 }
 
 // Another report joined to one: the disks in both.
@@ -97,6 +174,10 @@ pub fn join(bytes: &mut [u8], other: &[u8]) -> Answer
     if other.len() < REPORT_BYTES {
         return refusals::no(Reason::BufferTooShort, 0);
     }
-    let joined = reports::join(report_in(bytes), report_in(other));
-    keep(bytes, joined)
+    let disks = disks_in(bytes) + disks_in(other);
+    if MOST_DISKS < disks {
+        return refusals::no(Reason::ReportFull, 0);
+    }
+    add_numbers(bytes, other);
+    Answer::Done(disks, 0)
 }

@@ -1,4 +1,4 @@
--- Laws of a file's sectors, of the sectors that its links lead to, and of its length.
+-- Laws of a file's sectors, and of the sectors that its links lead to.
 use Prim.Native.Nat.{ℕ, zero, suc, _+_, _-_, _≤_, _<_}
 use mathlib.Core.Path.{_≡_, refl, sym, ap, ap₂, _∙_, fun-ext}
 use mathlib.Core.Bool.{Bool, true, false, not, cond, _&&_, _||_, true≢false, false≢true}
@@ -14,9 +14,9 @@ use Rattle.buffers.proofs.Tests.{or-neither}
 use Rattle.geometry.specs.Disk.{bitOf}
 use Rattle.maps.specs.Bits.{has}
 use Rattle.maps.proofs.Laws.{has-past}
-use Rattle.slots.specs.Slot.{Facts, facts, kindOf, spectrum, mapOf, lengthOf}
-use Rattle.chains.specs.File.{File, sectorAt, sectorsOf, fileOf}
-use Rattle.chains.specs.Chain.{nextOf, isLast, passing, strays, broken, headerLength, firstSector, linked, fileLength}
+use Rattle.slots.specs.Slot.{Facts, mapOf}
+use Rattle.chains.specs.File.{sectorAt, sectorsOf, fileOf}
+use Rattle.chains.specs.Chain.{nextOf, isLast, passing, strays, broken, linked}
 
 -- ---- the sectors of a slot's own map
 
@@ -150,13 +150,3 @@ steps-chain x sec w = rw (w .own 0 (omega arith)) (steps-strays (x .map) sec (x 
 
 pub linked-own : (x : Facts) (sec : ℕ → List ℕ) → broken x sec ≡ false → (i : ℕ) → i < x .count → has (x .map) (linked sec (x .first) i) ≡ true
 linked-own x sec e i h = chain-steps x sec e .own i (omega arith)
-
--- ---- the length of a body
-
-pub length-header : (f : File) → spectrum (kindOf (f .bytes)) ≡ true → fileLength f ≡ headerLength (firstSector f)
-unfolding fileLength
-length-header f e = rw e
-
-pub length-slot : (f : File) → spectrum (kindOf (f .bytes)) ≡ false → fileLength f ≡ lengthOf (facts (f .bytes))
-unfolding fileLength
-length-slot f e = rw e

@@ -11,7 +11,7 @@ use Rattle.maps.specs.Bits.{has}
 use Rattle.slots.specs.Slot.{mapOf}
 use Rattle.chains.specs.File.{File, fileOf, sectorAt}
 use Rattle.chains.proofs.Laws.{file-agree}
-use Rattle.chains.specs.Chain.{laterReply}
+use Rattle.headers.specs.Header.{laterReply}
 use Rattle.refusals.specs.Order.{sweepFrom}
 use Rattle.refusals.proofs.First.{none-sweepFrom}
 use Rattle.directory.specs.Places.{slots}

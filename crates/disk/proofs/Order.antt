@@ -17,8 +17,8 @@ use Rattle.slots.specs.Rows.{directoryRows, fileRows, strict}
 use Rattle.slots.specs.Tracks.{badTracks, dataCount, inDirectory}
 use Rattle.slots.proofs.Tracks.{tracks-good, good-tracks, tracks-bad, bad-tracks}
 use Rattle.chains.specs.File.{File}
-use Rattle.chains.specs.Chain.{chainRows, laterReply}
-use Rattle.chains.proofs.Turns.{later-rises}
+use Rattle.headers.specs.Header.{laterReply, chainRows}
+use Rattle.headers.proofs.Rows.{later-rises}
 use Rattle.directory.specs.Places.{slots}
 use Rattle.directory.specs.Directory.{held}
 use Rattle.surveys.specs.Survey.{cross, rowsAt, surveyAt, surveyBy}

@@ -11,13 +11,14 @@ use lib.ListN.{getD}
 use Rattle.buffers.proofs.Tests.{and-both, both-and, or-either, either-or, or-neither}
 use Rattle.maps.specs.Bits.{has, bitsOf}
 use Rattle.refusals.specs.Order.{Row, Clear}
-use Rattle.slots.specs.Slot.{facts, known, carried, spectrum, directoryKind, kindOf, countOf, mapOf, firstOf, pagesOf, remainderOf, lengthOf}
-use Rattle.slots.specs.Rows.{directoryRows, fileRows, own}
+use Rattle.slots.specs.Slot.{facts, known, carried, spectrum, kindOf, countOf, mapOf, firstOf, pagesOf, remainderOf, lengthOf, directoryKind}
+use Rattle.slots.specs.Rows.{own, directoryRows, fileRows}
+use Rattle.chains.specs.Chain.{broken}
+use Rattle.headers.specs.Header.{headerDiffers, headerLength, later, chainRows}
 use Rattle.slots.specs.Tracks.{dataCount, dataBit, inDirectory}
 use Rattle.slots.proofs.KindLaws.{directory-is, is-directory, directory-not, not-directory}
 use Rattle.slots.proofs.Tracks.{outside-data, data-outside, empty-outside}
 use Rattle.chains.proofs.Laws.{map-small}
-use Rattle.chains.specs.Chain.{broken, headerDiffers, headerLength, chainRows, later}
 use Rattle.disk.specs.Sound.{Known, Carried, Spectrum, Agrees}
 
 -- ---- Booleans

@@ -19,9 +19,10 @@ use Rattle.slots.specs.Rows.{own}
 use Rattle.slots.proofs.KindLaws.{carried-not, read-either}
 use Rattle.names.proofs.Names.{not-same}
 use Rattle.chains.specs.File.{File}
-use Rattle.chains.specs.Chain.{later, fileLength}
-use Rattle.chains.proofs.Laws.{map-small, length-header, length-slot}
+use Rattle.chains.proofs.Laws.{map-small}
 use Rattle.chains.proofs.Whole.{whole, of-whole}
+use Rattle.headers.specs.Header.{later, fileLength}
+use Rattle.headers.proofs.Laws.{length-header, length-slot}
 use Rattle.directory.specs.Places.{slots}
 use Rattle.directory.specs.Directory.{held}
 use Rattle.surveys.specs.Survey.{earlier, cross}

@@ -7,8 +7,8 @@ use mathlib.Core.Option.{none}
 use lib.Dec.{eqb}
 use Rattle.refusals.specs.Order.{Reply, _else_, row, sweep}
 use Rattle.geometry.specs.Disk.{imageSize}
+use Rattle.headers.specs.Header.{laterReply}
 use Rattle.slots.specs.Tracks.{badTracks}
-use Rattle.chains.specs.Chain.{laterReply}
 use Rattle.directory.specs.Places.{slots}
 use Rattle.directory.specs.Directory.{held}
 use Rattle.surveys.specs.Survey.{surveyBy}

@@ -24,7 +24,7 @@ fn all_chains(image: &[u8], files: usize) -> Verdict
         i += 1;
         if slots::is_live(s) {
             seen += 1;
-            match chains::later_rows(image, s, i) {
+            match headers::later_rows(image, s, i) {
                 Verdict::Unsound(r) => {
                     return Verdict::Unsound(r);
                 }

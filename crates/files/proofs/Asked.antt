@@ -19,7 +19,7 @@ use Rattle.slots.specs.Slot.{kindOf, spectrum, readable, nameOf, pageOf, offset
 use Rattle.names.specs.Name.{sameName, askable, padded}
 use Rattle.names.proofs.Names.{not-same}
 use Rattle.chains.specs.File.{File}
-use Rattle.chains.specs.Chain.{fileLength}
+use Rattle.headers.specs.Header.{fileLength}
 use Rattle.directory.specs.Places.{slots}
 use Rattle.directory.specs.Directory.{held, Directory, liveAmong}
 use Rattle.directory.specs.Find.{find}

@@ -12,7 +12,8 @@ use Rattle.geometry.proofs.Laws.{place-inside, place-or-end}
 use Rattle.maps.specs.Bits.{has}
 use Rattle.slots.specs.Slot.{mapOf, firstOf, facts}
 use Rattle.chains.specs.File.{sectorsOf, fileOf}
-use Rattle.chains.specs.Chain.{fileLength, nextOf, linked, bodyByte, body}
+use Rattle.chains.specs.Chain.{nextOf, linked}
+use Rattle.headers.specs.Header.{fileLength, bodyByte, body}
 use Rattle.chains.proofs.Laws.{sectors-own, map-small, link-at, linked-own}
 use Rattle.files.specs.Steps.{Readable}
 

@@ -9,7 +9,7 @@ use Rattle.refusals.specs.Order.{Refusal, refuse, Reply, _else_}
 use Rattle.refusals.specs.Answers.{Outcome, done, refused, unless}
 use Rattle.slots.specs.Slot.{kindOf, carried, spectrum, pageOf, offsetOf}
 use Rattle.slots.proofs.KindLaws.{carried-read, spectrum-read, uncarried-read, carried-not}
-use Rattle.chains.specs.Chain.{headerStart, firstSector}
+use Rattle.headers.specs.Header.{headerStart, firstSector}
 use Rattle.chains.specs.File.{File, fileOf}
 use Rattle.directory.specs.Directory.{slotOr}
 use Rattle.disk.specs.Look.{look}

@@ -9,7 +9,7 @@ use Rattle.buffers.specs.Bytes.{any}
 use Rattle.refusals.specs.Order.{Refusal, SlotRow, rowAt, FirstOf}
 use Rattle.slots.specs.Slot.{kindOf, spectrum, readable, nameOf, pageOf, offsetOf}
 use Rattle.names.specs.Name.{sameName, askable, padded}
-use Rattle.chains.specs.Chain.{fileLength}
+use Rattle.headers.specs.Header.{fileLength}
 use Rattle.directory.specs.Places.{slots}
 use Rattle.directory.specs.Directory.{held, liveAmong}
 use Rattle.directory.specs.Find.{find}

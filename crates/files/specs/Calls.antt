@@ -10,7 +10,7 @@ use Rattle.refusals.specs.Answers.{Outcome, done, unless, Out, filled, refusalO
 use Rattle.slots.specs.Slot.{kindOf, spectrum, readable, pageOf, offsetOf}
 use Rattle.names.specs.Name.{askable}
 use Rattle.chains.specs.File.{File}
-use Rattle.chains.specs.Chain.{headerStart, firstSector, fileLength, body}
+use Rattle.headers.specs.Header.{headerStart, firstSector, fileLength, body}
 use Rattle.directory.specs.Places.{slots}
 use Rattle.directory.specs.Directory.{held, Directory, liveAmong}
 use Rattle.surveys.specs.Survey.{free}

@@ -9,7 +9,7 @@ ghost use Rattle.refusals.specs.Answers.{numberOf, outcomeOf, out, refused};
 ghost use Rattle.geometry.specs.Disk.{imageSize};
 ghost use Rattle.slots.specs.Slot.{kindOf, readable};
 ghost use Rattle.chains.specs.File.{fileOf};
-ghost use Rattle.chains.specs.Chain.{body};
+ghost use Rattle.headers.specs.Header.{body};
 ghost use Rattle.directory.specs.Places.{slots};
 ghost use Rattle.directory.specs.Directory.{directory, liveAmong};
 ghost use Rattle.disk.specs.Look.{look};
@@ -116,7 +116,7 @@ fn start_at(image: &[u8], s: &[u8], slot: usize) -> Answer
 {
     let kind = slots::kind_of(s);
     if slots::is_spectrum(kind) {
-        return Answer::Done(chains::header_start(chains::first_sector(image, s)), 0);
+        return Answer::Done(headers::header_start(headers::first_sector(image, s)), 0);
     }
     if !slots::is_carried(kind) {
         return refusals::no(Reason::WrongKind, slot);
@@ -147,7 +147,7 @@ fn copy_body(image: &[u8], s: &[u8], buf: &mut [u8])
     requires { ⌜ Readable (now image) (now s) ⌝ }
     ensures { λ _. ⌜ now (buf .exit) ≡ put (now (buf .entry)) 0 (body (fileOf (now (image .entry)) (now (s .entry)))) ⌝ }
 {
-    let len = chains::file_length(image, s);
+    let len = headers::file_length(image, s);
     let mut at = geometry::bit_place(slots::first_of(s));
     let mut from: usize = 9;
     let mut done: usize = 0;
@@ -170,7 +170,7 @@ fn read_at(image: &[u8], s: &[u8], slot: usize, buf: &mut [u8]) -> Answer
     if !slots::is_readable(slots::kind_of(s)) {
         return refusals::no(Reason::WrongKind, slot);
     }
-    let len = chains::file_length(image, s);
+    let len = headers::file_length(image, s);
     if buf.len() < len {
         return refusals::no(Reason::BufferTooShort, 0);
     }

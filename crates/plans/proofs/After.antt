@@ -25,7 +25,8 @@ use Rattle.names.proofs.Names.{same-sym, same-eq, same-of}
 use Rattle.slots.specs.Tracks.{dataCount, dataBit}
 use Rattle.slots.proofs.Tracks.{count-data}
 use Rattle.chains.specs.File.{File}
-use Rattle.chains.specs.Chain.{headerLength, headerStart, fileLength, linked, bodyByte, body}
+use Rattle.chains.specs.Chain.{linked}
+use Rattle.headers.specs.Header.{headerLength, headerStart, fileLength, bodyByte, body}
 use Rattle.chains.proofs.Laws.{map-small}
 use Rattle.directory.specs.Places.{slots, slotAt}
 use Rattle.directory.specs.Directory.{held, Directory}

@@ -17,7 +17,7 @@ use Rattle.slots.specs.Slot.{kindOf, nameOf, offsetOf}
 use Rattle.names.specs.Name.{sameName, Same, askable, padded}
 use Rattle.names.proofs.Names.{same-sym, same-via, same-of}
 use Rattle.chains.specs.File.{File}
-use Rattle.chains.specs.Chain.{fileLength, body}
+use Rattle.headers.specs.Header.{fileLength, body}
 use Rattle.directory.specs.Places.{slots}
 use Rattle.directory.specs.Directory.{held, Directory, directory}
 use Rattle.directory.specs.Find.{hit, find}

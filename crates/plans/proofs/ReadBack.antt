@@ -18,7 +18,7 @@ use Rattle.slots.proofs.KindLaws.{carried-not, carried-read}
 use Rattle.names.specs.Name.{askable, padded}
 use Rattle.names.proofs.Names.{same-eq}
 use Rattle.chains.specs.File.{File}
-use Rattle.chains.specs.Chain.{fileLength, body}
+use Rattle.headers.specs.Header.{fileLength, body}
 use Rattle.directory.specs.Directory.{held}
 use Rattle.directory.specs.Find.{find}
 use Rattle.directory.proofs.Search.{some-find, find-none}

@@ -14,8 +14,8 @@ use Rattle.slots.specs.Slot.{kindOf, spectrum, readable}
 use Rattle.names.specs.Name.{askable}
 use Rattle.slots.proofs.KindLaws.{spectrum-read}
 use Rattle.chains.specs.File.{File}
-use Rattle.chains.specs.Chain.{firstSector, headerLength, headerStart, fileLength, bodyByte, body}
-use Rattle.chains.proofs.Laws.{length-header}
+use Rattle.headers.specs.Header.{firstSector, headerLength, headerStart, fileLength, bodyByte, body}
+use Rattle.headers.proofs.Laws.{length-header}
 use Rattle.disk.specs.Look.{look}
 use Rattle.disk.specs.Check.{checkDisk}
 use Rattle.disk.specs.Sound.{Spectrum}

@@ -7,7 +7,7 @@ use Rattle.buffers.specs.Bytes.{tab, put}
 use Rattle.refusals.specs.Order.{refuse}
 use Rattle.refusals.specs.Answers.{done, refused, out}
 use Rattle.chains.specs.File.{File}
-use Rattle.chains.specs.Chain.{firstSector, headerLength, headerStart, bodyByte}
+use Rattle.headers.specs.Header.{firstSector, headerLength, headerStart, bodyByte}
 use Rattle.files.specs.Calls.{reading, starting}
 
 -- a name that finds this file: "13 and 14 are not given for kinds 1 to 4, read or asked their start"

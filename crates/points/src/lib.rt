@@ -7,6 +7,8 @@ use refusals::Answer;
 use refusals::Refused;
 use refusals::Verdict;
 
+pub mod disks; // disks of few files, and a full one
+
 pub const LARGEST: usize = 18446744073709551615;
 
 // An empty disk.
@@ -15,6 +17,25 @@ pub fn blank() -> [u8; 819200]
     ensures { λ r. ⌜ 819200 ≡ length r ⌝ }
 {
     [0; 819200]
+}
+
+// A byte of a lent buffer, where it has one there.
+pub fn set(bytes: &mut [u8], at: usize, b: u8) {
+    if at < bytes.len() {
+        bytes[at] = b;
+    }
+}
+
+pub fn low(n: usize) -> u8 {
+    (n % 256) as u8
+}
+
+// The link of the sector at a place.
+pub fn link(image: &mut [u8], at: usize, track: usize, sector: usize) {
+    if at < 819200 {
+        set(image, at + 510, low(track));
+        set(image, at + 511, low(sector));
+    }
 }
 
 pub fn say(text: &[u8]) {

@@ -70,7 +70,7 @@ fn saved(what: &[u8], image: &mut [u8], name: &[u8], list: &mut [u16]) {
     points::told(answer, list);
 }
 
-// The first bytes of slot `i`, counted from 0.
+// The first bytes of slot `i`, counted from 0. Where 81 would be lies the data sector of NEW 2, at track 4 sector 2.
 fn slot_bytes(image: &[u8], i: usize) {
     let s = directory::slot_at(image, i);
     points::three(
@@ -155,16 +155,31 @@ fn erased_before_the_end(image: &mut [u8], list: &mut [u16]) {
     slot_bytes(image, 3);
 }
 
-// Slot 3 behind an end at slot 2, and with a name in slot 2.
-fn behind(what: &[u8], image: &mut [u8], kind: u8, name: &[u8], rest: &[u8]) {
+fn third(image: &mut [u8], kind: u8, name: &[u8], rest: &[u8]) {
     put(image, 512, kind);
     buffers::copy_into(image, 513, name);
     buffers::copy_into(image, 523, rest);
+}
+
+// Slot 3 behind an end at slot 2, and with a name in slot 2.
+fn behind(what: &[u8], image: &mut [u8], kind: u8, name: &[u8], rest: &[u8]) {
+    third(image, kind, name, rest);
     points::say(b"behind the end: ");
     points::checked(what, image);
     put(image, 257, b'-');
     points::say(b"before it: ");
     points::checked(what, image);
+    put(image, 257, 0);
+}
+
+// The same under the release check: a carried file with a sector more than its length needs.
+fn waste(image: &mut [u8]) {
+    third(image, 19, b"RUBBISH   ", b"\x00\x02\x04\x05\x30");
+    points::say(b"behind the end: ");
+    points::released(b"246 bytes in 2 sectors", image);
+    put(image, 257, b'-');
+    points::say(b"before it: ");
+    points::released(b"246 bytes in 2 sectors", image);
     put(image, 257, 0);
 }
 
@@ -229,6 +244,15 @@ fn faults_of_chains(image: &mut [u8]) {
         b"RUBBISH   ",
         b"\x00\x01\x04\x05\x10",
     );
+    put(image, 43009, 246);
+    put(image, 43010, 1);
+    behind(
+        b"length 502 of kind 4 in 1 sector",
+        image,
+        4,
+        b"RUBBISH   ",
+        b"\x00\x01\x04\x05\x10",
+    );
     put(image, 43518, 9);
     behind(
         b"a last link 9 0",
@@ -244,6 +268,7 @@ fn faults(image: &mut [u8]) {
     saved(b"a first file", image, b"FIRST", &mut list);
     faults_of_a_slot(image);
     faults_of_files(image);
+    waste(image);
     faults_of_chains(image);
 }
 

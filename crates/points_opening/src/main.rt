@@ -1,7 +1,6 @@
-// Points of document 01: check, listing, reading, start addresses and the raw sector; of document 02: reading in pieces.
-mod disks; // the disks that are tried
-mod damages; // disks that the check refuses, or only just accepts
-mod pieces; // a file opened, and its body piece by piece
+// Points of document 01: listing, reading and start addresses.
+ghost use mathlib.Core.Path.{_≡_};
+ghost use lib.ListN.{length};
 
 // A read into a buffer of dots.
 pub fn read_dots(what: &[u8], image: &[u8], name: &[u8]) {
@@ -12,21 +11,21 @@ pub fn read_dots(what: &[u8], image: &[u8], name: &[u8]) {
 fn first_file(image: &mut [u8], buf: &mut [u8]) {
     points::checked(b"an empty disk", image);
     points::listed(b"an empty disk", image, buf);
-    disks::file_a(image);
+    points::disks::file_a(image);
     points::checked(b"one file of 2 sectors", image);
     points::listed(b"one file of 2 sectors", image, buf);
     read_dots(b"one file of 2 sectors", image, b"FILE A");
 }
 
 fn second_file(image: &mut [u8], buf: &mut [u8]) {
-    disks::file_b(image);
+    points::disks::file_b(image);
     points::checked(b"a chain that descends", image);
     points::listed(b"a chain that descends", image, buf);
     read_dots(b"a chain that descends", image, b"FILE B");
 }
 
 fn third_file(image: &mut [u8], buf: &mut [u8]) {
-    disks::file_c(image);
+    points::disks::file_c(image);
     points::checked(b"a file in slot 21", image);
     points::listed(b"a file in slot 21", image, buf);
     points::number(b"slots of the listing: ", buffers::num_at(buf, 0));
@@ -36,25 +35,24 @@ fn third_file(image: &mut [u8], buf: &mut [u8]) {
 }
 
 fn rubbish_erased(image: &mut [u8], buf: &mut [u8]) {
-    disks::rubbish(image);
+    points::disks::rubbish(image);
     points::checked(b"an erased slot with rubbish", image);
     points::listed(b"an erased slot with rubbish", image, buf);
-    damages::changed(b"the same slot live", image, 512, 19, 255);
 }
 
 fn file_erased(image: &mut [u8], buf: &mut [u8]) {
-    disks::set(image, 256, 0);
+    points::set(image, 256, 0);
     points::checked(b"slot 2 erased", image);
     points::listed(b"slot 2 erased", image, buf);
     read_dots(b"the file erased", image, b"FILE B");
-    disks::set(image, 256, 19);
+    points::set(image, 256, 19);
 }
 
 fn file_hidden(image: &mut [u8], buf: &mut [u8]) {
-    disks::set(image, 0, 211);
+    points::set(image, 0, 211);
     points::checked(b"a file hidden and protected", image);
     points::listed(b"a file hidden and protected", image, buf);
-    disks::set(image, 0, 19);
+    points::set(image, 0, 19);
 }
 
 fn names(image: &[u8]) {
@@ -84,9 +82,9 @@ fn rooms(image: &[u8]) {
 }
 
 fn start_line(image: &mut [u8], page: u8, low: u8, high: u8) {
-    disks::set(image, 236, page);
-    disks::set(image, 237, low);
-    disks::set(image, 238, high);
+    points::set(image, 236, page);
+    points::set(image, 237, low);
+    points::set(image, 238, high);
     points::number(b"page byte ", page as usize);
     points::number(b", offset ", low as usize + 256 * high as usize);
     points::say(b": ");
@@ -110,49 +108,21 @@ fn wrong_length(what: &[u8], image: &[u8]) {
     points::started(what, image, b"FILE A");
 }
 
+fn too_long() -> [u8; 819201]
+    ensures { λ r. ⌜ 819201 ≡ length r ⌝ }
+{
+    [0; 819201]
+}
+
 fn longer() {
-    let image = disks::too_long();
+    let image = too_long();
     wrong_length(b"an image one byte long", &image);
 }
 
-fn raw<'a>(one: &'a [u8], two: &'a [u8], drive: usize, track: usize, sector: usize) {
-    points::number(b"drive ", drive);
-    points::number(b" track ", track);
-    points::number(b" sector ", sector);
-    points::number(
-        b": number ",
-        drives::raw_refusal(one, two, drive, track, sector),
-    );
-    let part = drives::raw_sector(one, two, drive, track, sector);
-    points::number(b", bytes ", part.len());
-    points::number(b", the first ", buffers::num_at(part, 0));
-    points::say(b"\n");
-}
-
-fn raw_calls<'a>(one: &'a [u8], two: &'a [u8]) {
-    raw(one, two, 1, 4, 1);
-    raw(one, two, 2, 4, 1);
-    raw(one, two, 1, 0, 1);
-    raw(one, two, 2, 207, 10);
-    raw(one, two, 0, 4, 1);
-    raw(one, two, 3, 4, 1);
-    raw(one, two, points::LARGEST, 4, 1);
-    raw(one, two, 1, 80, 1);
-    raw(one, two, 1, 4, 11);
-    raw(one, two, 1, points::LARGEST, points::LARGEST);
-    points::say(b"drive 1 one byte short: ");
-    raw(buffers::part_at(one, 0, 819199), two, 2, 4, 1);
-    points::say(b"drive 2 one byte short: ");
-    raw(one, buffers::part_at(two, 0, 819199), 1, 4, 1);
-    points::say(b"drive 2 one byte short: ");
-    raw(one, buffers::part_at(two, 0, 819199), 3, 4, 1);
-}
-
 fn full_disk(image: &mut [u8], buf: &mut [u8]) {
-    disks::full(image);
+    points::disks::full(image);
     points::checked(b"one file of 1560 sectors", image);
     points::listed(b"one file of 1560 sectors", image, buf);
-    damages::changed(b"length 795592 in 1560 sectors", image, 240, 200, 35);
 }
 
 fn disks_of_few_files(image: &mut [u8], buf: &mut [u8]) {
@@ -175,17 +145,11 @@ fn lengths(image: &[u8]) {
 
 fn main() {
     let mut image = points::blank();
-    let mut other = points::blank();
-    disks_of_few_files(&mut image, &mut other);
-    damages::slot_damages(&mut image);
-    damages::chain_damages(&mut image);
-    damages::orders(&mut image);
+    let mut buf = points::blank();
+    disks_of_few_files(&mut image, &mut buf);
     names(&image);
     rooms(&image);
-    pieces::played(&image);
     starts(&mut image);
     lengths(&image);
-    disks::set(&mut other, 40960, 200);
-    raw_calls(&image, &other);
-    full_disk(&mut image, &mut other);
+    full_disk(&mut image, &mut buf);
 }

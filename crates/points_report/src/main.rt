@@ -2,12 +2,6 @@
 use geometry::Address;
 use refusals::Answer;
 
-fn set(bytes: &mut [u8], at: usize, b: u8) {
-    if at < bytes.len() {
-        bytes[at] = b;
-    }
-}
-
 fn answered(what: &[u8], answer: Answer) {
     points::say(what);
     match answer {
@@ -22,17 +16,6 @@ fn answered(what: &[u8], answer: Answer) {
     }
 }
 
-fn low(n: usize) -> u8 {
-    (n % 256) as u8
-}
-
-fn link(image: &mut [u8], at: usize, track: usize, sector: usize) {
-    if at < 819200 {
-        set(image, at + 510, low(track));
-        set(image, at + 511, low(sector));
-    }
-}
-
 // A chain of so many sectors, from map bit 0 on.
 fn chain(image: &mut [u8], count: usize) {
     let mut bit: usize = 0;
@@ -40,11 +23,11 @@ fn chain(image: &mut [u8], count: usize) {
         let at = geometry::bit_place(bit);
         bit += 1;
         if bit == count {
-            link(image, at, 0, 0);
+            points::link(image, at, 0, 0);
         } else {
             match geometry::address_of(bit) {
-                Address::Sector(track, sector) => link(image, at, track, sector),
-                Address::NoBit => link(image, at, 0, 0),
+                Address::Sector(track, sector) => points::link(image, at, track, sector),
+                Address::NoBit => points::link(image, at, 0, 0),
             }
         }
     }
@@ -65,12 +48,12 @@ fn mark_first(map: &mut [u8], count: usize) {
 fn one_file(image: &mut [u8], count: usize) {
     let mut map = [0u8; 195];
     mark_first(&mut map, count);
-    set(image, 0, 5);
+    points::set(image, 0, 5);
     buffers::copy_into(image, 1, b"FILE      ");
-    set(image, 11, low(count / 256));
-    set(image, 12, low(count));
-    set(image, 13, 4);
-    set(image, 14, 1);
+    points::set(image, 11, points::low(count / 256));
+    points::set(image, 12, points::low(count));
+    points::set(image, 13, 4);
+    points::set(image, 14, 1);
     buffers::copy_into(image, 15, &map);
     chain(image, count);
 }
@@ -138,9 +121,9 @@ fn shelf(image: &mut [u8], report: &mut [u8]) {
     one_file(image, 7);
     added(b"a disk of one file", image, report);
     cut_added(image, report);
-    set(image, 0, 13);
+    points::set(image, 0, 13);
     refused_added(image, report);
-    set(image, 0, 0);
+    points::set(image, 0, 0);
 }
 
 // That report and another, joined either way.
@@ -160,10 +143,10 @@ fn joined(image: &[u8], first: [u8; 496]) {
 // A report of 65,534 disks, and one more than it can be over.
 fn fullest(image: &[u8]) {
     let mut report = [0u8; 496];
-    set(&mut report, 0, 254);
-    set(&mut report, 1, 255);
+    points::set(&mut report, 0, 254);
+    points::set(&mut report, 1, 255);
     let mut other = [0u8; 496];
-    set(&mut other, 4, 2);
+    points::set(&mut other, 4, 2);
     let early = bytereports::join(&mut report, &other);
     answered(b"65534 joined by 2", early);
     added(b"65534 and a disk", image, &mut report);

@@ -1,25 +1,19 @@
 // The disk that is tried, built from the documents' own numbers: a carried file, one of kind 4, and one of kind 5.
 ghost use Prim.Native.Nat.{_<_};
 
-pub(crate) fn set(image: &mut [u8], at: usize, b: u8) {
-    if at < image.len() {
-        image[at] = b;
-    }
-}
-
 // Two bytes, the low one first.
 pub(crate) fn word(image: &mut [u8], at: usize, low: u8, high: u8)
     requires { ⌜ at < 819200 ⌝ }
 {
-    set(image, at, low);
-    set(image, at + 1, high);
+    points::set(image, at, low);
+    points::set(image, at + 1, high);
 }
 
 // A slot's kind, name, count, first address and the map's first byte.
 fn entry(image: &mut [u8], at: usize, kind: u8, name: &[u8], rest: &[u8])
     requires { ⌜ at < 40960 ⌝ }
 {
-    set(image, at, kind);
+    points::set(image, at, kind);
     buffers::copy_into(image, at + 1, name);
     buffers::copy_into(image, at + 11, rest);
 }

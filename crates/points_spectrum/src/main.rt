@@ -40,7 +40,7 @@ fn asked(what: &[u8], image: &[u8], name: &[u8]) {
 }
 
 fn kind(what: &[u8], image: &mut [u8], byte: u8) {
-    disks::set(image, 256, byte);
+    points::set(image, 256, byte);
     asked(what, image, b"SPECTRUM");
 }
 
@@ -55,9 +55,9 @@ fn kinds(image: &mut [u8]) {
 
 // A carried kind there: then the length that the slot has is tested.
 fn carried_kind(image: &mut [u8]) {
-    disks::set(image, 256, 16);
+    points::set(image, 256, 16);
     points::checked(b"kind 16", image);
-    disks::set(image, 256, 4);
+    points::set(image, 256, 4);
 }
 
 fn length(what: &[u8], image: &mut [u8], low: u8, high: u8) {
@@ -105,7 +105,7 @@ fn rooms(image: &[u8]) {
 
 // The header's other bytes are not compared.
 fn another_header(image: &mut [u8]) {
-    disks::set(image, 41984, 0);
+    points::set(image, 41984, 0);
     buffers::copy_into(image, 41989, b"\x00\x00\x00\x00");
     asked(b"another header", image, b"SPECTRUM");
 }
@@ -130,9 +130,9 @@ fn orders(image: &mut [u8]) {
 
 // With 25 at slot 2 and 11 at slot 1.
 fn orders_of_passes(image: &mut [u8]) {
-    disks::set(image, 40960, 16);
+    points::set(image, 40960, 16);
     changed(b"11 at slot 1, 25 at slot 2", image, 43006, 0, 0);
-    disks::set(image, 512, 63);
+    points::set(image, 512, 63);
     changed(
         b"11 at slot 1, 25 at slot 2, 2 at slot 3",
         image,
@@ -143,8 +143,8 @@ fn orders_of_passes(image: &mut [u8]) {
 }
 
 fn put_back(image: &mut [u8]) {
-    disks::set(image, 512, 5);
-    disks::set(image, 40960, 19);
+    points::set(image, 512, 5);
+    points::set(image, 40960, 19);
     disks::word(image, LENGTH, 249, 1);
     points::checked(b"the disk as it was", image);
 }

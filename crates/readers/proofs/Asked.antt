@@ -11,7 +11,7 @@ use Rattle.buffers.specs.Bytes.{tab}
 use Rattle.buffers.proofs.Lists.{length-tab}
 use Rattle.refusals.specs.Order.{Refusal, SlotRow, FirstOf, bare, rises}
 use Rattle.refusals.specs.Answers.{Out}
-use Rattle.chains.specs.Chain.{fileLength}
+use Rattle.headers.specs.Header.{fileLength}
 use Rattle.disk.specs.Look.{Look, look}
 use Rattle.files.specs.Calls.{fileNamed}
 use Rattle.files.specs.Asked.{row20, readRows, RefusesBy, by-check, by-row}

@@ -13,7 +13,8 @@ use Rattle.geometry.proofs.Laws.{number-small}
 use Rattle.maps.specs.Bits.{has}
 use Rattle.slots.specs.Slot.{mapOf, facts}
 use Rattle.chains.specs.File.{File, sectorsOf, fileOf}
-use Rattle.chains.specs.Chain.{nextOf, linked, fileLength, bodyByte}
+use Rattle.chains.specs.Chain.{nextOf, linked}
+use Rattle.headers.specs.Header.{fileLength, bodyByte}
 use Rattle.chains.proofs.Laws.{sectors-own, map-small, link-at, linked-own}
 use Rattle.files.specs.Steps.{Readable}
 use Rattle.readers.specs.declared.Position.{Position}

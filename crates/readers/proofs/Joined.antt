@@ -13,7 +13,7 @@ use Rattle.refusals.specs.Order.{Reply, _else_, row}
 use Rattle.slots.specs.Slot.{kindOf, readable, facts}
 use Rattle.slots.proofs.Tracks.{data-few}
 use Rattle.chains.specs.File.{File, fileOf}
-use Rattle.chains.specs.Chain.{fileLength, bodyByte, body}
+use Rattle.headers.specs.Header.{fileLength, bodyByte, body}
 use Rattle.directory.specs.Directory.{slotOr}
 use Rattle.disk.specs.Look.{Look, look, extra}
 use Rattle.disk.specs.Check.{checkDisk}

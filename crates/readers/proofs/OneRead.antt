@@ -14,7 +14,7 @@ use Rattle.buffers.proofs.Lists.{length-tab, part-put}
 use Rattle.refusals.specs.Order.{Refusal, refuse, Reply, _else_, row}
 use Rattle.refusals.specs.Answers.{done, refused, Out, out, filled}
 use Rattle.chains.specs.File.{File}
-use Rattle.chains.specs.Chain.{fileLength, bodyByte, body}
+use Rattle.headers.specs.Header.{fileLength, bodyByte, body}
 use Rattle.disk.specs.Look.{look}
 use Rattle.files.specs.Calls.{fileNamed, readLook, reading}
 use Rattle.readers.specs.declared.Place.{Place}

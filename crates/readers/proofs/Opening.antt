@@ -11,7 +11,7 @@ use Rattle.refusals.specs.Order.{Refusal, refuse, Reply, _else_, row}
 use Rattle.slots.specs.Slot.{kindOf, readable, firstOf, facts}
 use Rattle.names.specs.Name.{Same, askable}
 use Rattle.chains.specs.File.{File, fileOf}
-use Rattle.chains.specs.Chain.{fileLength}
+use Rattle.headers.specs.Header.{fileLength}
 use Rattle.directory.specs.Directory.{held, slotOr}
 use Rattle.directory.specs.Find.{find}
 use Rattle.disk.specs.Look.{Look, look, slotsOf}

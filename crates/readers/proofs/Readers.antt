@@ -8,7 +8,7 @@ use lib.ListN.{length, take}
 use Rattle.buffers.specs.Bytes.{part}
 use Rattle.buffers.proofs.Lists.{length-tab, part-put, put-after, length-put}
 use Rattle.refusals.specs.Answers.{done, out}
-use Rattle.chains.specs.Chain.{body}
+use Rattle.headers.specs.Header.{body}
 use Rattle.disk.specs.Look.{look}
 use Rattle.files.specs.Calls.{fileNamed, reading}
 use Rattle.readers.specs.declared.Reader.{Reader}

@@ -7,7 +7,7 @@ use Rattle.refusals.specs.Answers.{refusalOf}
 use Rattle.slots.specs.Slot.{facts}
 use Rattle.names.specs.Name.{askable}
 use Rattle.chains.specs.File.{File}
-use Rattle.chains.specs.Chain.{fileLength}
+use Rattle.headers.specs.Header.{fileLength}
 use Rattle.disk.specs.Look.{Look, look}
 use Rattle.files.specs.Calls.{named, notReadable, fileNamed}
 use Rattle.files.specs.Asked.{row12, row15, foundRow13}

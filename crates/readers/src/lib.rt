@@ -153,7 +153,7 @@ fn begin_at(image: &[u8], s: &[u8], slot: usize) -> Opened
     Opened::At(Place {
         sector: geometry::bit_place(slots::first_of(s)) / 512,
         offset: 9,
-        left: chains::file_length(image, s),
+        left: headers::file_length(image, s),
     })
 }
 

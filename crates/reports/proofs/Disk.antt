@@ -7,7 +7,7 @@ use mathlib.Core.Logic.{_≢_}
 use mathlib.Core.Option.{Option, none, some}
 use native.Mathlib.Omega.{arith}
 use lib.Dec.{eqb}
-use lib.ListN.{length, getD, length-set}
+use lib.ListN.{length, getD}
 use Rattle.geometry.specs.Disk.{imageSize}
 use Rattle.maps.specs.Bits.{bitsOf, join}
 use Rattle.maps.proofs.Laws.{bits-clear, bits-le, bits-join}
@@ -70,10 +70,6 @@ report-refused l r e = ap (held (acceptedReport (extra l) (slotsOf l)) refusedRe
 pub free-small : (u : UsedMap) {f : ℕ} → f ≡ freeOf u → f < 2 ^ 32
 unfolding freeOf
 free-small u e = omega (arith, data-few (u .tracks))
-
-pub length-three : (l : List ℕ) (x y : ℕ) {l′ : List ℕ} → l′ ≡ raisedAt (raisedAt (raisedAt l 0 1) 97 x) 98 y → length l ≡ 111 → length l′ ≡ 111
-unfolding raisedAt
-length-three l x y e h = rw e (simp length-set h)
 
 -- ---- a refused disk is one number more
 

@@ -86,9 +86,6 @@ added-more r other l k w h {x} e p = record { few = omega arith; numbers = raise
         let z : j ≡ k = omega arith in
         rw (le-ltb j k a, only-there k x j z, lt-ltb j (k + 1) (omega arith), z) (omega arith)) (below-or-not k j)) (below-or-not j k)
 
-pub added-long : (r other l : List ℕ) (k : ℕ) → Added r other l k → length l ≡ 111
-added-long r other l k w = w .numbers .long
-
 pub added-all : (r other l : List ℕ) (k : ℕ) → Added r other l k → 111 ≤ k → l ≡ raised r (λ j. getD other j 0)
 added-all r other l k w h =
     raised-is r (λ j. getD other j 0) l (raised-same r _ (λ j. getD other j 0) l (w .numbers) (λ j m. rw (lt-ltb j k (omega arith))))

@@ -3,9 +3,9 @@
 ghost use mathlib.Core.Path.{_≡_};
 ghost use Prim.Native.Nat.{_+_, _*_, _≤_, _<_};
 ghost use Rattle.refusals.specs.Answers.{replyOf};
-ghost use Rattle.slots.specs.Slot.{isLive, isNameless, hidden, protected, kindOf, known, carried, spectrum, readable, nameOf, isNamed, countOf, firstOf, mapOf, pageOf, offsetOf, pagesOf, remainderOf, facts, lengthOf, isDirectory, codeOf, parentOf};
-ghost use Rattle.slots.specs.Tracks.{dataCount, inDirectory, clearAt, innerMap};
-ghost use Rattle.slots.specs.Rows.{ownReplyBy, wasteful, directoryReply, fileReplyBy};
+ghost use Rattle.slots.specs.Slot.{isLive, isNameless, hidden, protected, kindOf, known, carried, spectrum, readable, isDirectory, codeOf, parentOf, nameOf, isNamed, countOf, firstOf, mapOf, pageOf, offsetOf, pagesOf, remainderOf, facts, lengthOf};
+ghost use Rattle.slots.specs.Tracks.{dataCount, innerMap, inDirectory, clearAt};
+ghost use Rattle.slots.specs.Rows.{directoryReply, fileReplyBy, ownReplyBy, wasteful};
 use refusals::Reason;
 use refusals::Verdict;
 

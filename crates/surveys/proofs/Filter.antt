@@ -32,48 +32,48 @@ module _ (f : List ℕ) (b : ℕ) (h : b < 8 * length f) where
   marked-keeps : (c : ℕ) → has f c ≡ true → has (marked f b) c ≡ true
   marked-keeps c e = has-marked f b c h ∙ rw e (or-true (eqb c b))
 
-module _ (f : List ℕ) (key : ℕ) (l : length f ≡ 640) where
+module _ (f : List ℕ) (key : ℕ) (l : length f ≡ 1024) where
   once : List ℕ
-  once = marked f (key % 4937)
+  once = marked f (key % 7741)
 
   twice : List ℕ
-  twice = marked once (key % 5077)
+  twice = marked once (key % 7867)
 
-  length-once : length once ≡ 640
+  length-once : length once ≡ 1024
   unfolding once
-  length-once = length-marked f (key % 4937) ∙ l
+  length-once = length-marked f (key % 7741) ∙ l
 
-  length-twice : length twice ≡ 640
+  length-twice : length twice ≡ 1024
   unfolding twice
-  length-twice = length-marked once (key % 5077) ∙ length-once
+  length-twice = length-marked once (key % 7867) ∙ length-once
 
-  pub length-noted : length (noted f key) ≡ 640
+  pub length-noted : length (noted f key) ≡ 1024
   unfolding noted twice once
-  length-noted = length-marked twice (key % 5087) ∙ length-twice
+  length-noted = length-marked twice (key % 8147) ∙ length-twice
 
   last-keeps : (c : ℕ) → has twice c ≡ true → has (noted f key) c ≡ true
   unfolding noted twice once
-  last-keeps c e = marked-keeps twice (key % 5087) (omega (arith, length-twice)) c e
+  last-keeps c e = marked-keeps twice (key % 8147) (omega (arith, length-twice)) c e
 
   -- the bits that are set stay
   bit-keeps : (c : ℕ) → has f c ≡ true → has (noted f key) c ≡ true
   unfolding twice once
-  bit-keeps c e = last-keeps c (marked-keeps once (key % 5077) (omega (arith, length-once)) c (marked-keeps f (key % 4937) (omega arith) c e))
+  bit-keeps c e = last-keeps c (marked-keeps once (key % 7867) (omega (arith, length-once)) c (marked-keeps f (key % 7741) (omega arith) c e))
 
   pub noted-keeps : (k : ℕ) → isNoted f k ≡ true → isNoted (noted f key) k ≡ true
   unfolding isNoted
   noted-keeps k e =
       let p = and-eq-true-iff _ _ .0 e in
       let q = and-eq-true-iff _ _ .0 (p .1) in
-      rw (bit-keeps (k % 4937) (p .0), bit-keeps (k % 5077) (q .0), bit-keeps (k % 5087) (q .1))
+      rw (bit-keeps (k % 7741) (p .0), bit-keeps (k % 7867) (q .0), bit-keeps (k % 8147) (q .1))
 
   -- and the key's are set
   pub noted-sets : isNoted (noted f key) key ≡ true
   unfolding isNoted noted twice once
   noted-sets =
-      let p : has (noted f key) (key % 4937) ≡ true = last-keeps _ (marked-keeps once (key % 5077) (omega (arith, length-once)) _ (marked-sets f (key % 4937) (omega arith))) in
-      let q : has (noted f key) (key % 5077) ≡ true = last-keeps _ (marked-sets once (key % 5077) (omega (arith, length-once))) in
-      let r : has (noted f key) (key % 5087) ≡ true = marked-sets twice (key % 5087) (omega (arith, length-twice)) in
+      let p : has (noted f key) (key % 7741) ≡ true = last-keeps _ (marked-keeps once (key % 7867) (omega (arith, length-once)) _ (marked-sets f (key % 7741) (omega arith))) in
+      let q : has (noted f key) (key % 7867) ≡ true = last-keeps _ (marked-sets once (key % 7867) (omega (arith, length-once))) in
+      let r : has (noted f key) (key % 8147) ≡ true = marked-sets twice (key % 8147) (omega (arith, length-twice)) in
       rw (p, q, r)
 
 -- ---- a name before a slot
@@ -111,7 +111,7 @@ pub record Kept (d : List ℕ) (i : ℕ) (f : List ℕ) (files : ℕ) : Type 0 w
   pub filtered : Filtered d i f
   pub live : files ≡ liveAmong (directory d) i
 
-pub kept-none : (d f : List ℕ) → length f ≡ 640 → Kept d 0 f 0
+pub kept-none : (d f : List ℕ) → length f ≡ 1024 → Kept d 0 f 0
 kept-none d f l = record { filtered = record { long = l; bits = λ j t h e. absurd (omega arith) }; live = sym (among-none (directory d)) }
 
 pub kept-few : (d : List ℕ) (i : ℕ) (f : List ℕ) (files : ℕ) → Kept d i f files → files ≤ i

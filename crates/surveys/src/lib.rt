@@ -30,28 +30,28 @@ pub struct Survey {
 }
 
 // The bytes of the filter of row 9.
-const FILTER_BYTES: usize = 640;
+const FILTER_BYTES: usize = 1024;
 
 // Whether the filter has all bits of a key.
 fn is_noted(filter: &[u8], key: u64) -> bool
     ensures { λ r. ⌜ r ≡ isNoted (now (filter .entry)) key ⌝ }
 {
-    if !maps::has_bit(filter, (key % 4937) as usize) {
+    if !maps::has_bit(filter, (key % 7741) as usize) {
         return false;
     }
-    if !maps::has_bit(filter, (key % 5077) as usize) {
+    if !maps::has_bit(filter, (key % 7867) as usize) {
         return false;
     }
-    maps::has_bit(filter, (key % 5087) as usize)
+    maps::has_bit(filter, (key % 8147) as usize)
 }
 
 // Sets the bits of a key in the filter.
 fn note(filter: &mut [u8], key: u64)
     ensures { λ _. ⌜ now (filter .exit) ≡ noted (now (filter .entry)) key ⌝ }
 {
-    maps::mark(filter, (key % 4937) as usize);
-    maps::mark(filter, (key % 5077) as usize);
-    maps::mark(filter, (key % 5087) as usize);
+    maps::mark(filter, (key % 7741) as usize);
+    maps::mark(filter, (key % 7867) as usize);
+    maps::mark(filter, (key % 8147) as usize);
 }
 
 // Whether a live slot before slot `i` has that name. The slots are looked at only where the filter has all bits of the name's

@@ -21,7 +21,7 @@ use Rattle.slots.specs.Slot.{kindOf, carried, spectrum, readable, mapOf, facts,
 use Rattle.slots.proofs.KindLaws.{carried-not, read-either}
 use Rattle.names.specs.Name.{askable}
 use Rattle.chains.specs.File.{sectorAt, sectorsOf, fileOf}
-use Rattle.chains.specs.Chain.{fileLength, body}
+use Rattle.headers.specs.Header.{fileLength, body}
 use Rattle.drives.specs.Raw.{isImage, isDrive, rawRefusal}
 use Rattle.drives.proofs.Laws.{accepted}
 use Rattle.directory.specs.Places.{slots}

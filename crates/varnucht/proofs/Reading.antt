@@ -11,7 +11,7 @@ use Rattle.packing.specs.Packed.{clipped, packedAt, clippedAt, Within, FitsAt}
 use Rattle.packing.proofs.Parts.{told-at, clipped-at-is, within-fits, clipped-is}
 use Rattle.slots.specs.Slot.{facts}
 use Rattle.chains.specs.File.{fileOf}
-use Rattle.chains.specs.Chain.{body}
+use Rattle.headers.specs.Header.{body}
 use Rattle.directory.specs.Directory.{slotOr}
 use Rattle.disk.specs.Look.{look}
 use Rattle.files.specs.Calls.{fileNamed}

@@ -1,7 +1,7 @@
-//! The disks of the benchmark, made by `paper::save` and `paper::erase`; in one the sectors of the file are then shuffled,
-//! and in one the last file is made one of the Spectrum.
+//! The disks of the benchmark, made by `paper::save` and `paper::erase`; in one the sectors of the file are then shuffled, in
+//! one the last file is made one of the Spectrum, and in two some files are made directories.
 
-use crate::geometry::{address, bit_place};
+use crate::geometry::{address, bit_place, slot_place};
 use crate::random::Random;
 use paper::Wish;
 use std::rc::Rc;
@@ -23,12 +23,12 @@ pub struct Disk {
 }
 
 pub fn blank() -> Disk {
-    made("blank", 0, 0, unlike)
+    made("blank", 0, 0, 0, unlike)
 }
 
 /// A nearly empty disk.
 pub fn three() -> Disk {
-    made("3 x 900", 3, 900, unlike)
+    made("3 x 900", 0, 3, 900, unlike)
 }
 
 /// The same with old bytes from the directory's end on, slot 4: a save there clears slot 5, which is in another sector.
@@ -45,25 +45,76 @@ pub fn three_and_old() -> Disk {
 }
 
 pub fn eighty() -> Disk {
-    made("80 x 900", 80, 900, unlike)
+    made("80 x 900", 0, 80, 900, unlike)
 }
 
 pub fn eighty_alike() -> Disk {
-    made("80 x 900, names alike", 80, 900, alike)
+    made("80 x 900, names alike", 0, 80, 900, alike)
+}
+
+/// The biggest directory, full: 39 tracks.
+pub fn biggest() -> Disk {
+    made("778 x 100", 35, 778, 100, unlike)
+}
+
+pub fn biggest_alike() -> Disk {
+    made("778 x 100, names alike", 35, 778, 100, alike)
+}
+
+pub fn biggest_drawn() -> Disk {
+    made("778 x 100, names drawn", 35, 778, 100, drawn)
+}
+
+/// A full directory of 20 tracks.
+pub fn twenty_tracks() -> Disk {
+    made("398 x 100", 16, 398, 100, unlike)
+}
+
+/// The same with 100 directories, three in each but the innermost, and the files spread over all of them.
+pub fn nested() -> Disk {
+    in_directories("678 in 100", 100, |code| (code + 1) / 3, |file| (file % 101) as u8)
+}
+
+/// The same with 255 directories, each in the one before, and all files in the innermost.
+pub fn deepest() -> Disk {
+    in_directories("523 in 255 nested", 255, |code| code - 1, |_| 255)
+}
+
+/// The biggest directory with this many directories in its first slots, of codes 1 on, and files in the rest; and the codes of
+/// the directories around each of them.
+fn in_directories(title: &'static str, many: u16, around: fn(u8) -> u8, of_file: fn(u16) -> u8) -> Disk {
+    let Disk { image, last, .. } = biggest();
+    let mut image = image.to_vec();
+    for slot in 1..=778 {
+        let bytes = &mut image[slot_place(slot.into())..][..256];
+        if slot <= many {
+            let code = slot as u8;
+            bytes[0] = 21;
+            bytes[11..210].fill(0);
+            (bytes[250], bytes[254]) = (code, around(code));
+        } else {
+            bytes[254] = of_file(slot);
+        }
+    }
+    Disk {
+        title,
+        image: image.into(),
+        last,
+    }
 }
 
 pub fn seventy_eight() -> Disk {
-    made("78 x 10,191", 78, 10_191, unlike)
+    made("78 x 10,191", 0, 78, 10_191, unlike)
 }
 
 pub fn one() -> Disk {
-    made("1 x 795,591", 1, LONGEST, unlike)
+    made("1 x 795,591", 0, 1, LONGEST, unlike)
 }
 
 /// A disk whose last file is one of the Spectrum, kind 4, with the longest body that a header can say. Eight files of code
 /// stand before it.
 pub fn spectrum() -> Disk {
-    let mut disk = made("9 x 65,535, kind 4", 9, 65_535, unlike);
+    let mut disk = made("9 x 65,535, kind 4", 0, 9, 65_535, unlike);
     let mut image = disk.image.to_vec();
     // Slot 9, and the first of its 129 sectors.
     image[8 * 256] = 4;
@@ -116,22 +167,29 @@ pub fn less_one(disk: &Disk, title: &'static str) -> Disk {
 }
 
 /// Ten bytes that differ from file to file in the first two bytes.
-fn unlike(file: u8) -> [u8; 10] {
+fn unlike(file: u16) -> [u8; 10] {
     let mut name = *b"--disk one";
     name[..2].copy_from_slice(&sign(file));
     name
 }
 
 /// Ten bytes that differ from file to file in the last two bytes alone.
-fn alike(file: u8) -> [u8; 10] {
+fn alike(file: u16) -> [u8; 10] {
     let mut name = *b"disk one--";
     name[8..].copy_from_slice(&sign(file));
     name
 }
 
+/// Ten bytes that can be printed, drawn for each file.
+fn drawn(file: u16) -> [u8; 10] {
+    let mut random = Random::new(file.into());
+    [0; 10].map(|_: u8| random.between(33, 126) as u8)
+}
+
 /// Two bytes for each file. The first are not enough alone, because capitals or not a letter is the same.
-fn sign(file: u8) -> [u8; 2] {
-    [b'!' + file / 2, b'0' + file % 2]
+fn sign(file: u16) -> [u8; 2] {
+    let (turn, of_eighty) = ((file / 80) as u8, (file % 80) as u8);
+    [b'!' + of_eighty / 2, b'0' + of_eighty % 2 + 2 * turn]
 }
 
 /// Bytes without a short period, so that no sector is like the next.
@@ -154,8 +212,10 @@ pub fn wish<'a>(name: &'a [u8], body: &'a [u8]) -> Wish<'a> {
     }
 }
 
-fn made(title: &'static str, files: u8, length: usize, name: fn(u8) -> [u8; 10]) -> Disk {
+/// A disk with so many directory tracks beyond four, and so many files of one length.
+fn made(title: &'static str, extra: u8, files: u16, length: usize, name: fn(u16) -> [u8; 10]) -> Disk {
     let mut image = vec![0; 819_200];
+    image[255] = extra;
     let body = body(length);
     for file in 0..files {
         paper::save(&mut image, &wish(&name(file), &body), &mut [0; LIST_BYTES]).expect("the file has room");

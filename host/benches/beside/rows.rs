@@ -15,6 +15,8 @@ pub enum Work {
     Open,
     /// Reads the file of this reader, which was opened before, in pieces of so many bytes, laid end to end.
     Pieces(Reader, usize),
+    /// Lists all that lies beneath the root.
+    Tree,
     /// Saves a new file with this body.
     Save(Vec<u8>),
     /// Erases the disk's last file.
@@ -34,6 +36,7 @@ pub fn all() -> Vec<Row> {
     let (blank, eighty, seventy_eight, one) = (disks::blank(), disks::eighty(), disks::seventy_eight(), disks::one());
     let (eighty_alike, scattered) = (disks::eighty_alike(), disks::scattered());
     let (three, three_and_old) = (disks::three(), disks::three_and_old());
+    let (biggest, biggest_alike, biggest_drawn) = (disks::biggest(), disks::biggest_alike(), disks::biggest_drawn());
     let disks = [&blank, &eighty, &seventy_eight, &one];
     let row = |disk: &Disk, work, refusal| Row {
         disk: disk.clone(),
@@ -43,19 +46,24 @@ pub fn all() -> Vec<Row> {
     let mut rows = vec![];
     rows.extend([&blank, &three, &three_and_old].map(|disk| row(disk, Work::Check, 0)));
     rows.extend([&eighty, &eighty_alike, &seventy_eight, &one, &scattered].map(|disk| row(disk, Work::Check, 0)));
+    rows.extend([&disks::twenty_tracks(), &biggest, &biggest_alike, &biggest_drawn].map(|disk| row(disk, Work::Check, 0)));
     rows.extend([&eighty, &one].map(|disk| row(disk, Work::CheckRelease, 0)));
     rows.extend(disks.map(|disk| row(disk, Work::List, 0)));
+    rows.push(row(&biggest, Work::List, 0));
     rows.extend(disks.map(|disk| row(disk, Work::Read, if disk.title == blank.title { 15 } else { 0 })));
-    rows.push(row(&scattered, Work::Read, 0));
+    rows.extend([&biggest, &scattered].map(|disk| row(disk, Work::Read, 0)));
     rows.push(row(&disks::spectrum(), Work::Read, 0));
     rows.extend(disks.map(|disk| row(disk, Work::Open, if disk.title == blank.title { 15 } else { 0 })));
     for disk in [&one, &scattered] {
         let opened = paper::open(&disk.image, &disk.last).expect("the file is there");
         rows.extend([512, 4_096].map(|room| row(disk, Work::Pieces(opened, room), 0)));
     }
+    rows.extend([&eighty, &biggest, &disks::nested(), &disks::deepest()].map(|disk| row(disk, Work::Tree, 0)));
     rows.extend(saves(&blank, &eighty, &seventy_eight, &one));
-    rows.extend([&three, &three_and_old].map(|disk| row(disk, Work::Save(disks::body(900)), 0)));
+    let last = disks::less_one(&biggest, "778 x 100 less one");
+    rows.extend([&three, &three_and_old, &last].map(|disk| row(disk, Work::Save(disks::body(900)), 0)));
     rows.extend(disks.map(|disk| row(disk, Work::Erase, if disk.title == blank.title { 15 } else { 0 })));
+    rows.push(row(&biggest, Work::Erase, 0));
     rows.extend([&blank, &eighty, &eighty_alike, &seventy_eight, &one, &scattered].map(|disk| row(disk, Work::Report, 0)));
     rows
 }
@@ -117,6 +125,7 @@ impl Row {
             Work::Read => "read".into(),
             Work::Open => "open".into(),
             Work::Pieces(_, room) => format!("pieces {room}"),
+            Work::Tree => "tree".into(),
             Work::Save(body) => format!("save {}", body.len()),
             Work::Erase => "erase".into(),
             Work::Report => "report add".into(),
@@ -132,8 +141,9 @@ impl Row {
     pub fn buffer_bytes(&self) -> usize {
         match self.work {
             Work::Check | Work::CheckRelease | Work::Open => 0,
-            Work::List => 80 * 258,
+            Work::List => 778 * 258,
             Work::Read | Work::Pieces(..) => LONGEST,
+            Work::Tree => 2 * 778,
             Work::Save(_) | Work::Erase => LIST_BYTES,
             Work::Report => REPORT_BYTES,
         }
@@ -148,6 +158,7 @@ impl Row {
             Work::Read => (side.read)(image, &self.disk.last, buffer),
             Work::Open => (side.open)(image, &self.disk.last),
             Work::Pieces(opened, room) => read_on(side, image, *opened, *room, buffer),
+            Work::Tree => (side.tree)(image, &[], buffer),
             Work::Save(body) => (side.save)(image, &disks::wish(Row::NEW, body), buffer),
             Work::Erase => (side.erase)(image, &self.disk.last, buffer),
             Work::Report => {

@@ -18,12 +18,15 @@ pub fn print_head(timer: Duration) {
     println!(
         "read, open and erase take the last file. Files have kind 19, but the last of a disk 'kind 4'. Their names have ten"
     );
+    println!("bytes that differ in the first two; with 'names alike' in the last two alone, with 'names drawn' anywhere.");
+    println!("'less one', 'erased': the last file was erased before, so the save takes its slot and sectors.");
     println!(
-        "bytes that differ in the first two; with 'names alike' in the last two alone. 'less one', 'erased': the last file"
+        "'old slots': behind its end the directory has old bytes. 398 and 778 files stand on 20 and 39 directory tracks."
     );
     println!(
-        "was erased before, so the save takes its slot and sectors. 'old slots': behind its end the directory has old bytes."
+        "tree takes the root. '678 in 100': so many files in so many directories; 'nested': each in the one before, the files"
     );
+    println!("in the last.");
     println!();
     println!(
         "{:<13} {:<22} {:<10} {:>10} {:>10} {:>10} {:>10} {:>7} {:>7} {:>6}",

@@ -1,6 +1,7 @@
 //! The calls that change no image.
 
 use crate::check::{Purpose, survey, survey_for};
+use crate::extent::Extent;
 use crate::geometry::{Address, Image, PAYLOAD_BYTES, SECTOR_BYTES, SLOT_BYTES, Sector, sector as sector_of, whole};
 use crate::name::asked;
 use crate::refusal::{Reason, Refused};
@@ -33,8 +34,9 @@ pub fn list(image: &[u8], out: &mut [u8]) -> Result<Listed, Refused> {
     let out = out
         .get_mut(..survey.files * ENTRY_BYTES)
         .ok_or(Reason::BufferTooShort.alone())?;
-    for (entry, slot) in out.as_chunks_mut::<ENTRY_BYTES>().0.iter_mut().zip(live_slots(image)) {
-        entry[..2].copy_from_slice(&u16::from(slot.number).to_le_bytes());
+    let entries = out.as_chunks_mut::<ENTRY_BYTES>().0.iter_mut();
+    for (entry, slot) in entries.zip(live_slots(image, survey.extent)) {
+        entry[..2].copy_from_slice(&slot.number.to_le_bytes());
         entry[2..].copy_from_slice(slot.bytes);
     }
     Ok(Listed {
@@ -94,9 +96,13 @@ pub fn start_address(page: u32, offset: u32) -> Option<u32> {
 
 /// The live slot of a name asked for on a disk that passes the check.
 pub fn found<'a>(image: &'a Image, name: &[u8]) -> Result<Slot<'a>, Refused> {
-    survey(image)?;
+    found_among(image, survey(image)?.extent, name)
+}
+
+/// The same where the disk has passed it.
+pub fn found_among<'a>(image: &'a Image, extent: Extent, name: &[u8]) -> Result<Slot<'a>, Refused> {
     let name = asked(name).ok_or(Reason::NameNotUsable.alone())?;
-    find(image, &name).ok_or(Reason::NoSuchName.alone())
+    find(image, extent, &name).ok_or(Reason::NoSuchName.alone())
 }
 
 /// The same with the length of its body, with the demand that its kind has one: the carried kinds and those of the Spectrum.

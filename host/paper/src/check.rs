@@ -1,9 +1,10 @@
-//! The check of a disk: refusals 2, 4 to 11 and 25. Every call but the raw sector begins with it. The check before a release
-//! has one row more, 22.
+//! The check of a disk: refusals 24, 2, 4 to 11 and 25. Every call but the raw sector begins with it. The check before a
+//! release has one row more, 22.
 
-use crate::geometry::{Address, DATA_SECTORS, Image, PAYLOAD_BYTES, SLOTS, sector};
+use crate::extent::Extent;
+use crate::geometry::{Address, Image, PAYLOAD_BYTES, sector};
 use crate::map::Map;
-use crate::name::{Name, folded};
+use crate::names::Names;
 use crate::refusal::{Reason, Refused};
 use crate::slot::{HEADER_BYTES, Slot, live_slots, remainder, sectors_for};
 use crate::spectrum::PlusD;
@@ -19,38 +20,49 @@ pub enum Purpose {
 
 /// What the check learns of the live slots.
 pub struct Survey {
+    /// How large the directory is.
+    pub extent: Extent,
     /// How many slots are live.
     pub files: usize,
-    /// Every data sector that a live slot has.
+    /// Every sector that a live slot has, and those of the directory that have a map bit: none of them is free.
     pub used: Map,
+    /// The map bits of the directory's own sectors.
+    own: Map,
+    /// How many sectors the live slots have.
     used_count: usize,
-    /// The names of the live slots, in front, each with its letters as capitals.
-    names: [Name; SLOTS as usize],
+    names: Names,
 }
 
 impl Survey {
-    const EMPTY: Survey = Survey {
-        files: 0,
-        used: Map::CLEAR,
-        used_count: 0,
-        names: [[0; 10]; SLOTS as usize],
-    };
+    fn empty(extent: Extent) -> Survey {
+        let mut used = Map::CLEAR;
+        used.set_all(extent.own_bits());
+        Survey {
+            extent,
+            files: 0,
+            used,
+            own: used,
+            used_count: 0,
+            names: Names::EMPTY,
+        }
+    }
 
     /// How many data sectors no live slot has.
     pub fn free(&self) -> usize {
-        DATA_SECTORS - self.used_count
+        self.extent.data_sectors() - self.used_count
     }
 
     /// Joins in a slot, or says the first of 2 and 4 to 9 that it gives beside the slots before it; before a release 22 stands
     /// directly after 7.
     fn join(&mut self, slot: &Slot, purpose: Purpose) -> Result<(), Reason> {
         let count = slot.count();
-        own_rules(slot)?;
+        own_rules(slot, self.extent)?;
         let map = slot.map();
         if map.count() != count {
             return Err(Reason::MapUnlikeCount);
         }
-        if !slot.first().bit().is_some_and(|bit| map.has(bit)) {
+        let first_is_own = slot.first().bit().is_some_and(|bit| map.has(bit));
+        if !slot.is_directory() && (!first_is_own || self.own.meets(&map)) {
             return Err(Reason::FirstNotInMap);
         }
         if slot.is_carried() && PAYLOAD_BYTES * count < HEADER_BYTES + slot.length() {
@@ -62,24 +74,27 @@ impl Survey {
         if self.used.meets(&map) {
             return Err(Reason::MapShared);
         }
-        let name = folded(slot.name());
-        if self.names[..self.files].contains(&name) {
+        if !self.names.add(slot.name()) {
             return Err(Reason::NameTwice);
         }
         self.used.join(&map);
         self.used_count += count;
-        self.names[self.files] = name;
         self.files += 1;
         Ok(())
     }
 }
 
-/// Refusals 2 and 4.
-fn own_rules(slot: &Slot) -> Result<(), Reason> {
+/// Refusals 2 and 4. A directory has no sectors, and every file has one at least.
+fn own_rules(slot: &Slot, extent: Extent) -> Result<(), Reason> {
     if !matches!(slot.kind(), 1..=12 | 16..=23) {
         return Err(Reason::KindUnknown);
     }
-    if !(1..=DATA_SECTORS).contains(&slot.count()) {
+    let counts = if slot.is_directory() {
+        0..=0
+    } else {
+        1..=extent.data_sectors()
+    };
+    if !counts.contains(&slot.count()) {
         return Err(Reason::CountOutOfRange);
     }
     Ok(())
@@ -90,19 +105,19 @@ pub fn survey(image: &Image) -> Result<Survey, Refused> {
     survey_for(image, Purpose::Use)
 }
 
-/// The whole check: the directory first, then every chain.
+/// The whole check: the directory first, then every chain. A subdirectory has none.
 pub fn survey_for(image: &Image, purpose: Purpose) -> Result<Survey, Refused> {
     let survey = directory(image, purpose)?;
-    for slot in live_slots(image) {
+    for slot in live_slots(image, survey.extent).filter(|slot| !slot.is_directory()) {
         file(image, &slot).map_err(|reason| reason.at(slot.number))?;
     }
     Ok(survey)
 }
 
-/// Refusals 2 and 4 to 9, and 22 before a release.
+/// Refusals 24, 2 and 4 to 9, and 22 before a release.
 fn directory(image: &Image, purpose: Purpose) -> Result<Survey, Refused> {
-    let mut survey = Survey::EMPTY;
-    for slot in live_slots(image) {
+    let mut survey = Survey::empty(Extent::of(image)?);
+    for slot in live_slots(image, survey.extent) {
         survey.join(&slot, purpose).map_err(|reason| reason.at(slot.number))?;
     }
     Ok(survey)
@@ -152,7 +167,7 @@ mod tests {
     use crate::geometry::{IMAGE_BYTES, slot_place, whole};
     use crate::slot::{COUNT_AT, MAP_AT, NAME_AT, REMAINDER_AT};
 
-    fn put(image: &mut [u8], slot: u8, at: usize, bytes: &[u8]) {
+    fn put(image: &mut [u8], slot: u16, at: usize, bytes: &[u8]) {
         image[slot_place(slot) + at..][..bytes.len()].copy_from_slice(bytes);
     }
 
@@ -197,7 +212,7 @@ mod tests {
     }
 
     /// What the directory of case L, read on to slot 3, gives with some bytes of a slot put over it.
-    fn with(slot: u8, at: usize, bytes: &[u8]) -> Option<Refused> {
+    fn with(slot: u16, at: usize, bytes: &[u8]) -> Option<Refused> {
         let mut image = case_l_read_on();
         put(&mut image, slot, at, bytes);
         directory(whole(&image).expect("a whole image"), Purpose::Use).err()
@@ -208,9 +223,10 @@ mod tests {
         for kind in [13, 15, 24, 63, 64, 128, 192] {
             assert_eq!(with(3, 0, &[kind]), Some(Reason::KindUnknown.at(3)));
         }
-        for kind in [1, 12, 16, 23, 0xc0 | 23, 0] {
+        for kind in [1, 12, 16, 20, 22, 23, 0xc0 | 23, 0] {
             assert_eq!(with(3, 0, &[kind]), None);
         }
+        assert_eq!(with(3, 0, &[21]), Some(Reason::CountOutOfRange.at(3)));
         assert_eq!(with(3, NAME_AT, &[0]), None);
         assert_eq!(with(3, 0, &[63, 0, 0, 0, 0, 0, 0, 0, 0, 0, 0, 255, 255, 255]), None);
         assert_eq!(with(3, COUNT_AT, &[0, 0]), Some(Reason::CountOutOfRange.at(3)));

@@ -5,8 +5,8 @@ use crate::refusal::{Reason, Refused};
 pub const IMAGE_BYTES: usize = 819_200;
 pub const SECTOR_BYTES: usize = 512;
 pub const SLOT_BYTES: usize = 256;
-pub const DATA_SECTORS: usize = 1_560;
-pub const SLOTS: u8 = 80;
+/// The bits of a map, and the data sectors of a disk with four directory tracks.
+pub const MAP_BITS: usize = 1_560;
 
 /// Body and header bytes of a data sector; its last two bytes are the link.
 pub const PAYLOAD_BYTES: usize = 510;
@@ -82,9 +82,11 @@ pub fn sector_mut(image: &mut Image, number: usize) -> &mut Sector {
     &mut image.as_chunks_mut().0[number]
 }
 
-/// Where slot 1 to 80 begins. Twenty slots fill a track of the first side; the second side's track lies between.
-pub fn slot_place(slot: u8) -> usize {
-    let before = usize::from(slot) - 1;
+/// Where slot 1 to 778 begins. Twenty slots fill a track of the first side; the second side's track lies between. Track 4
+/// sector 1 is no part of any directory, so the slots from 81 on stand two places further.
+pub fn slot_place(slot: u16) -> usize {
+    let gap = if slot > 80 { 2 } else { 0 };
+    let before = usize::from(slot) - 1 + gap;
     before / 20 * 10_240 + before % 20 * SLOT_BYTES
 }
 
@@ -128,20 +130,38 @@ mod tests {
     #[test]
     fn every_bit_is_one_sector_and_back() {
         let mut seen = [false; 1_600];
-        for bit in 0..DATA_SECTORS {
+        for bit in 0..MAP_BITS {
             let address = Address::of_bit(bit);
             assert_eq!(address.bit(), Some(bit));
             let number = address.number().expect("a data sector is a sector");
             assert!(!std::mem::replace(&mut seen[number], true), "sector {number} twice");
         }
         let pairs = (0..=255).flat_map(|track| (0..=255).map(move |sector| address(track, sector)));
-        assert_eq!(pairs.filter(|pair| pair.bit().is_some()).count(), DATA_SECTORS);
+        assert_eq!(pairs.filter(|pair| pair.bit().is_some()).count(), MAP_BITS);
     }
 
     #[test]
     fn the_papers_slot_places() {
         for (slot, place) in [(1, 0), (20, 4_864), (21, 10_240), (80, 35_584)] {
             assert_eq!(slot_place(slot), place);
+        }
+    }
+
+    /// Two slots to a sector, in the order of tracks and sectors of the first side, and none on track 4 sector 1.
+    #[test]
+    fn slots_run_on_past_the_gap() {
+        let sectors = (0..39).flat_map(|track| (1..=10).map(move |sector| address(track, sector)));
+        let places = sectors
+            .filter(|address| address.bit() != Some(0))
+            .map(|address| address.number().expect("a sector of the first side") * SECTOR_BYTES)
+            .flat_map(|place| [place, place + SLOT_BYTES]);
+        assert!(places.eq((1..=778).map(slot_place)));
+        for (slot, track, sector) in [(81, 4, 2), (98, 4, 10), (99, 5, 1), (778, 38, 10)] {
+            assert_eq!(
+                Some(slot_place(slot) / SECTOR_BYTES),
+                address(track, sector).number(),
+                "{slot}"
+            );
         }
     }
 }

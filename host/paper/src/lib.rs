@@ -4,13 +4,16 @@
 //! Every call takes any bytes and any numbers. A refused call changes no byte of anything lent.
 //!
 //! - `geometry`: sides, tracks, sectors, map bits, slot places
+//! - `extent`: how many tracks the directory has
 //! - `map`: the 1,560 bits of a slot's map or of the used map
 //! - `name`: names asked for and new names, and when two are the same
+//! - `names`: many names, none twice
 //! - `slot`: what the 256 bytes of a directory slot say, and where the directory ends
 //! - `spectrum`: the header of kinds 1 to 4
-//! - `check`: refusals 1, 2, 4 to 11 and 25, and 22 before a release
+//! - `check`: refusals 24, 2, 4 to 11 and 25, and 22 before a release
 //! - `calls`: the two checks, list, read, start address, raw sector
 //! - `pieces`: a file's body a piece at a time
+//! - `tree`: subdirectories
 //! - `save`: the change that takes slots and sectors
 //! - `changes`: the changes of one directory byte or name
 //! - `report`: a shelf of disks in numbers
@@ -19,15 +22,18 @@
 mod calls;
 mod changes;
 mod check;
+mod extent;
 mod geometry;
 mod map;
 mod name;
+mod names;
 mod pieces;
 mod refusal;
 mod report;
 mod save;
 mod slot;
 mod spectrum;
+mod tree;
 
 pub use calls::{Listed, check, check_release, list, read, sector, start};
 pub use changes::{erase, hide, protect, release, rename, show};
@@ -35,3 +41,4 @@ pub use pieces::{Reader, next, open};
 pub use refusal::Refused;
 pub use report::{REPORT_BYTES, report_add, report_join};
 pub use save::{Wish, save};
+pub use tree::tree;

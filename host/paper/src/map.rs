@@ -1,6 +1,7 @@
-//! A map of the 1,560 data sectors.
+//! A map of 1,560 sectors: those that are data where the directory has four tracks.
 
-use crate::geometry::DATA_SECTORS;
+use crate::geometry::MAP_BITS;
+use std::ops::Range;
 
 pub const MAP_BYTES: usize = 195;
 
@@ -47,6 +48,11 @@ impl Map {
         self.words[bit / 64] >> (bit % 64) & 1 == 1
     }
 
+    /// Sets every bit of a range.
+    pub fn set_all(&mut self, bits: Range<usize>) {
+        bits.for_each(|bit| self.set(bit));
+    }
+
     pub fn set(&mut self, bit: usize) {
         self.words[bit / 64] |= 1 << (bit % 64);
     }
@@ -89,7 +95,7 @@ impl Map {
                     Some(index * 64 + lowest)
                 })
             })
-            .take_while(|bit| *bit < DATA_SECTORS)
+            .take_while(|bit| *bit < MAP_BITS)
     }
 }
 
@@ -99,7 +105,7 @@ mod tests {
 
     #[test]
     fn a_bit_stands_where_the_paper_says() {
-        for bit in 0..DATA_SECTORS {
+        for bit in 0..MAP_BITS {
             let mut bytes = [0; MAP_BYTES];
             bytes[bit / 8] = 1 << (bit % 8);
             let mut map = Map::from_bytes(&bytes);
@@ -117,20 +123,20 @@ mod tests {
     #[test]
     fn clear_bits_are_those_not_set() {
         let mut map = Map::CLEAR;
-        assert!(map.clear_bits().eq(0..DATA_SECTORS));
-        for bit in (0..DATA_SECTORS).filter(|bit| bit % 3 != 1) {
+        assert!(map.clear_bits().eq(0..MAP_BITS));
+        for bit in (0..MAP_BITS).filter(|bit| bit % 3 != 1) {
             map.set(bit);
         }
-        assert!(map.clear_bits().eq((0..DATA_SECTORS).filter(|bit| bit % 3 == 1)));
-        assert_eq!(map.count() + map.clear_bits().count(), DATA_SECTORS);
+        assert!(map.clear_bits().eq((0..MAP_BITS).filter(|bit| bit % 3 == 1)));
+        assert_eq!(map.count() + map.clear_bits().count(), MAP_BITS);
         assert_eq!(Map::from_bytes(&[255; MAP_BYTES]).clear_bits().next(), None);
     }
 
     #[test]
     fn joining_and_meeting() {
         let (mut low, mut high) = (Map::CLEAR, Map::CLEAR);
-        (0..800).for_each(|bit| low.set(bit));
-        (800..DATA_SECTORS).for_each(|bit| high.set(bit));
+        low.set_all(0..800);
+        high.set_all(800..MAP_BITS);
         assert!(!low.meets(&high));
         low.join(&high);
         assert_eq!(low, Map::from_bytes(&[255; MAP_BYTES]));

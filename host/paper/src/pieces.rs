@@ -1,12 +1,12 @@
 //! Document 02, M-100: a file's body a piece at a time.
 
 use crate::calls::readable;
-use crate::geometry::{Address, DATA_SECTORS, Image, PAYLOAD_BYTES, sector, whole};
+use crate::geometry::{Address, Image, MAP_BITS, PAYLOAD_BYTES, sector, whole};
 use crate::refusal::Refused;
 use crate::slot::HEADER_BYTES;
 
 /// The longest body that a disk holds.
-const LONGEST: usize = PAYLOAD_BYTES * DATA_SECTORS - HEADER_BYTES;
+const LONGEST: usize = PAYLOAD_BYTES * MAP_BITS - HEADER_BYTES;
 
 /// What stands for a sector where no byte follows.
 const NO_SECTOR: u32 = 1_600;

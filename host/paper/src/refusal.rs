@@ -4,7 +4,7 @@
 #[derive(Clone, Copy, Debug, PartialEq, Eq)]
 pub struct Refused {
     pub number: u8,
-    pub slot: u8,
+    pub slot: u16,
 }
 
 /// The rows of the paper's table. The value of a case is its number.
@@ -33,13 +33,18 @@ pub enum Reason {
     BufferTooShort = 20,
     NoSuchSector = 21,
     WasteSectors = 22,
+    TracksOutOfRange = 24,
     BodyTooLong = 25,
+    CodeNotOwn = 26,
+    NoSuchDirectory = 27,
+    InsideItself = 28,
+    NotEmpty = 29,
     ReportFull = 31,
 }
 
 impl Reason {
     /// The refusal found at a slot.
-    pub fn at(self, slot: u8) -> Refused {
+    pub fn at(self, slot: u16) -> Refused {
         Refused {
             number: self as u8,
             slot,

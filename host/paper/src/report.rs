@@ -3,7 +3,7 @@
 //! A report is 124 numbers of four bytes each, low byte first. All zero is the report over no disk. A report that other hands
 //! made may hold any numbers: what is added to one of them is added modulo 2^32.
 
-use crate::check::survey;
+use crate::check::{Survey, survey};
 use crate::geometry::{Image, whole};
 use crate::refusal::{Reason, Refused};
 use crate::slot::live_slots;
@@ -35,7 +35,7 @@ pub fn report_add(image: &[u8], report: &mut [u8]) -> Result<usize, Refused> {
     let report = front_mut(report)?;
     let after = room(disks(report), 1)?;
     match checked(image) {
-        Ok((image, free)) => count(image, free, report),
+        Ok((image, survey)) => count(image, &survey, report),
         Err(refused) => more(&mut report[usize::from(refused.number)], 1),
     }
     Ok(after)
@@ -51,22 +51,22 @@ pub fn report_join(report: &mut [u8], other: &[u8]) -> Result<usize, Refused> {
     Ok(after)
 }
 
-/// A disk that the check accepts, and how many of its sectors are free.
-fn checked(image: &[u8]) -> Result<(&Image, usize), Refused> {
+/// A disk that the check accepts, and what it learns of it.
+fn checked(image: &[u8]) -> Result<(&Image, Survey), Refused> {
     let image = whole(image)?;
-    Ok((image, survey(image)?.free()))
+    Ok((image, survey(image)?))
 }
 
 /// Counts an accepted disk and its files.
-fn count(image: &Image, free: usize, report: &mut Numbers) {
+fn count(image: &Image, survey: &Survey, report: &mut Numbers) {
     more(&mut report[ACCEPTED], 1);
-    for slot in live_slots(image) {
+    for slot in live_slots(image, survey.extent) {
         let sectors = slot.count();
         more(&mut report[KINDS_AT + usize::from(slot.kind())], 1);
         more(&mut report[FILE_SECTORS_AT], sectors as u32);
         more(&mut report[CLASSES_AT + class(sectors)], 1);
     }
-    more(&mut report[FREE_SECTORS_AT], free as u32);
+    more(&mut report[FREE_SECTORS_AT], survey.free() as u32);
 }
 
 /// The class of a sector count: 0, 1, 2 to 3, 4 to 7, and so on to 1,024 and more.

@@ -2,6 +2,7 @@
 
 use crate::calls::start_address;
 use crate::check::survey;
+use crate::extent::Extent;
 use crate::geometry::{Address, Image, PAYLOAD_BYTES, SECTOR_BYTES, SLOT_BYTES, Sector, sector_mut, slot_place, whole_mut};
 use crate::map::Map;
 use crate::name::{Name, fresh};
@@ -32,11 +33,11 @@ pub fn save(image: &mut [u8], wish: &Wish, list: &mut [u8]) -> Result<usize, Ref
     if start_address(wish.page, wish.offset).is_none() {
         return Err(Reason::AddressOutOfRange.alone());
     }
-    if let Some(taken) = find(image, &name) {
+    if let Some(taken) = find(image, survey.extent, &name) {
         return Err(Reason::NameTaken.at(taken.number));
     }
-    let taken = free_slot(image).ok_or(Reason::NoFreeSlot.alone())?;
-    let (slot, old_name) = (taken.number, old_name_behind(image, &taken));
+    let taken = free_slot(image, survey.extent).ok_or(Reason::NoFreeSlot.alone())?;
+    let (slot, old_name) = (taken.number, old_name_behind(image, survey.extent, &taken));
     let count = sectors_for(wish.body.len());
     if survey.free() < count {
         return Err(Reason::DiskFull.alone());
@@ -60,14 +61,14 @@ pub fn save(image: &mut [u8], wish: &Wish, list: &mut [u8]) -> Result<usize, Ref
 
 /// The next slot, where the one taken is the directory's end and the next has a first name byte that is not 0. Once the end
 /// has a name that slot would be read, and its old name would come back.
-fn old_name_behind(image: &Image, taken: &Slot) -> Option<u8> {
-    let next = slots(image).nth(taken.number.into())?;
+fn old_name_behind(image: &Image, extent: Extent, taken: &Slot) -> Option<u16> {
+    let next = slots(image, extent).nth(taken.number.into())?;
     (taken.ends_directory() && !next.ends_directory()).then_some(next.number)
 }
 
 /// The directory's sectors in the order of writing: that of the next slot, where it is cleared, then that of the saved slot;
 /// once if they are the same.
-fn directory_sectors(slot: u8, cleared: Option<u8>) -> impl Iterator<Item = usize> {
+fn directory_sectors(slot: u16, cleared: Option<u16>) -> impl Iterator<Item = usize> {
     let saved = slot_place(slot) / SECTOR_BYTES;
     let before = cleared.map(|next| slot_place(next) / SECTOR_BYTES);
     before.filter(|sector| *sector != saved).into_iter().chain([saved])
@@ -134,8 +135,9 @@ fn remainder(wish: &Wish) -> [u8; 2] {
     ((wish.body.len() % PAGE_BYTES) as u16).to_le_bytes()
 }
 
-/// Writes the whole slot. Bytes that have no meaning here are 0, and byte 245 says that there is no date.
-fn write_slot(image: &mut Image, number: u8, wish: &Wish, name: &Name, map: &Map, count: usize) {
+/// Writes the whole slot. Bytes that have no meaning here are 0, and byte 245 says that there is no date. What slot 1 says of
+/// the whole disk stays.
+fn write_slot(image: &mut Image, number: u16, wish: &Wish, name: &Name, map: &Map, count: usize) {
     let mut bytes = [0; SLOT_BYTES];
     let mut put = |at: usize, part: &[u8]| bytes[at..][..part.len()].copy_from_slice(part);
     let first = map.lowest().map_or(Address::END, Address::of_bit);
@@ -151,8 +153,16 @@ fn write_slot(image: &mut Image, number: u8, wish: &Wish, name: &Name, map: &Map
     put(slot::REMAINDER_AT, &remainder(wish));
     put(slot::EXEC_AT, at_most(wish.exec, 3));
     put(slot::DATE_AT, &[255]);
-    image[slot_place(number)..][..SLOT_BYTES].copy_from_slice(&bytes);
+    let place = slot_place(number);
+    for kept in KEPT.into_iter().flatten().filter(|_| number == 1) {
+        bytes[kept] = image[place + kept];
+    }
+    image[place..][..SLOT_BYTES].copy_from_slice(&bytes);
 }
+
+/// The bytes of slot 1 that are about the disk and not about a file: its name, its random word, and the number of its
+/// directory tracks beyond four.
+const KEPT: [std::ops::RangeInclusive<usize>; 3] = [210..=219, 252..=253, 255..=255];
 
 /// The first bytes, up to a number of them.
 fn at_most(bytes: &[u8], most: usize) -> &[u8] {

@@ -1,6 +1,7 @@
 //! What the 256 bytes of a directory slot say.
 
-use crate::geometry::{Address, Image, PAYLOAD_BYTES, SLOT_BYTES, SLOTS, slot_place};
+use crate::extent::Extent;
+use crate::geometry::{Address, Image, PAYLOAD_BYTES, SLOT_BYTES, slot_place};
 use crate::map::{MAP_BYTES, Map};
 use crate::name::{Name, folded};
 
@@ -17,6 +18,11 @@ pub const PAGES_AT: usize = 239;
 pub const REMAINDER_AT: usize = 240;
 pub const EXEC_AT: usize = 242;
 pub const DATE_AT: usize = 245;
+pub const CODE_AT: usize = 250;
+pub const PARENT_AT: usize = 254;
+
+/// The kind of a MasterDOS directory: it takes a slot and no sectors.
+const DIRECTORY: u8 = 21;
 
 /// The bytes before the body in a file's first sector.
 pub const HEADER_BYTES: usize = 9;
@@ -34,17 +40,17 @@ pub fn is_carried(kind: u32) -> bool {
     (16..=20).contains(&kind)
 }
 
-/// A slot by its number, 1 to 80, with its bytes.
+/// A slot by its number, 1 to 778, with its bytes.
 #[derive(Clone, Copy)]
 pub struct Slot<'a> {
-    pub number: u8,
+    pub number: u16,
     pub bytes: &'a [u8; SLOT_BYTES],
 }
 
-/// Every slot, rising.
-pub fn slots(image: &Image) -> impl Iterator<Item = Slot<'_>> {
+/// Every slot of a directory, rising.
+pub fn slots(image: &Image, extent: Extent) -> impl Iterator<Item = Slot<'_>> {
     let pieces = image.as_chunks().0;
-    (1..=SLOTS).map(move |number| Slot {
+    (1..=extent.slots()).map(move |number| Slot {
         number,
         bytes: &pieces[slot_place(number) / SLOT_BYTES],
     })
@@ -52,21 +58,21 @@ pub fn slots(image: &Image) -> impl Iterator<Item = Slot<'_>> {
 
 /// The slots that hold a file, rising. Reading stops at the directory's end: what stands from there on is no file, whatever
 /// it says.
-pub fn live_slots(image: &Image) -> impl Iterator<Item = Slot<'_>> {
-    slots(image)
+pub fn live_slots(image: &Image, extent: Extent) -> impl Iterator<Item = Slot<'_>> {
+    slots(image, extent)
         .take_while(|slot| !slot.ends_directory())
         .filter(|slot| !slot.is_erased())
 }
 
 /// The lowest slot that holds no file: an erased one before the end, else the end.
-pub fn free_slot(image: &Image) -> Option<Slot<'_>> {
-    slots(image).find(|slot| slot.is_erased() || slot.ends_directory())
+pub fn free_slot(image: &Image, extent: Extent) -> Option<Slot<'_>> {
+    slots(image, extent).find(|slot| slot.is_erased() || slot.ends_directory())
 }
 
 /// The live slot of that name, capitals or not. A checked disk has one at most.
-pub fn find<'a>(image: &'a Image, name: &Name) -> Option<Slot<'a>> {
+pub fn find<'a>(image: &'a Image, extent: Extent, name: &Name) -> Option<Slot<'a>> {
     let name = folded(name);
-    live_slots(image).find(|slot| folded(slot.name()) == name)
+    live_slots(image, extent).find(|slot| folded(slot.name()) == name)
 }
 
 impl<'a> Slot<'a> {
@@ -89,6 +95,20 @@ impl<'a> Slot<'a> {
 
     pub fn is_carried(&self) -> bool {
         is_carried(self.kind().into())
+    }
+
+    pub fn is_directory(&self) -> bool {
+        self.kind() == DIRECTORY
+    }
+
+    /// The code by which live slots name a directory; of a file it says nothing.
+    pub fn code(&self) -> u8 {
+        self.bytes[CODE_AT]
+    }
+
+    /// The code of the directory that the slot is in, 0 for the root.
+    pub fn parent(&self) -> u8 {
+        self.bytes[PARENT_AT]
     }
 
     pub fn name(&self) -> &'a Name {
@@ -170,35 +190,49 @@ mod tests {
         }
     }
 
+    /// A disk with this number of directory tracks beyond four, and in each slot a status byte and a first name byte.
+    fn disk(extra: u8, first: u8) -> (Vec<u8>, Extent) {
+        let mut image = vec![0; crate::geometry::IMAGE_BYTES];
+        image[255] = extra;
+        let extent = Extent::of(whole(&image)).expect("a size that the paper knows");
+        for slot in 1..=extent.slots() {
+            image[slot_place(slot)..][..2].copy_from_slice(&[first, b'A']);
+        }
+        (image, extent)
+    }
+
+    fn whole(image: &[u8]) -> &Image {
+        crate::geometry::whole(image).expect("a whole image")
+    }
+
     #[test]
     fn slots_skip_the_second_side() {
-        let mut image = vec![0; crate::geometry::IMAGE_BYTES];
-        for slot in 1..=SLOTS {
-            image[slot_place(slot)..][..2].copy_from_slice(&[slot, b'A']);
+        let (mut image, extent) = disk(0, 19);
+        for slot in 1..=80 {
+            image[slot_place(slot)] = slot as u8;
         }
         image[slot_place(7)] = 0;
-        let image = crate::geometry::whole(&image).expect("a whole image");
-        assert!(slots(image).all(|slot| slot.number == slot.bytes[0] || slot.number == 7));
-        assert_eq!(live_slots(image).count(), 79);
+        let image = whole(&image);
+        assert!(slots(image, extent).all(|slot| slot.number == slot.bytes[0].into() || slot.number == 7));
+        assert_eq!(live_slots(image, extent).count(), 79);
     }
 
     #[test]
     fn reading_stops_at_the_end() {
-        for end in 1..=SLOTS {
-            let mut image = vec![0; crate::geometry::IMAGE_BYTES];
-            for slot in 1..=SLOTS {
-                image[slot_place(slot)..][..2].copy_from_slice(&[19, b'A']);
+        for extra in [0, 1, 35] {
+            let (mut image, extent) = disk(extra, 19);
+            for end in 1..=extent.slots() {
+                for byte_0 in [0, 19, 255] {
+                    image[slot_place(end)..][..2].copy_from_slice(&[byte_0, 0]);
+                    let whole = whole(&image);
+                    assert!(live_slots(whole, extent).map(|slot| slot.number).eq(1..end));
+                    assert_eq!(free_slot(whole, extent).map(|slot| slot.number), Some(end));
+                }
+                image[slot_place(end)..][..2].copy_from_slice(&[19, b'A']);
             }
-            for byte_0 in [0, 19, 255] {
-                image[slot_place(end)..][..2].copy_from_slice(&[byte_0, 0]);
-                let whole = crate::geometry::whole(&image).expect("a whole image");
-                assert!(live_slots(whole).map(|slot| slot.number).eq(1..end));
-                assert_eq!(free_slot(whole).map(|slot| slot.number), Some(end));
-            }
-            image[slot_place(end) + 1] = b'A';
-            let whole = crate::geometry::whole(&image).expect("a whole image");
-            assert_eq!(live_slots(whole).count(), 80);
-            assert!(free_slot(whole).is_none());
+            let whole = whole(&image);
+            assert_eq!(live_slots(whole, extent).count(), extent.slots().into());
+            assert!(free_slot(whole, extent).is_none());
         }
     }
 }

@@ -19,14 +19,16 @@ impl Numbers {
     }
 }
 
-/// Where a byte of meaning lies: a slot's front, its end, its first map byte, or the header or link of a low data sector.
+/// Where a byte of meaning lies: a slot's front, its end, its first map byte, the number of directory tracks, or the header or
+/// link of a low data sector.
 fn place(numbers: &mut Numbers) -> usize {
     let slot = slot_place(1 + numbers.below(4));
-    match numbers.below(5) {
-        0 => slot + numbers.below(18),
-        1 => slot + 236 + numbers.below(8),
-        2 => slot + 15,
-        3 => 40_960 + numbers.below(12) * 512 + 510 + numbers.below(2),
+    match numbers.below(21) {
+        0..4 => slot + numbers.below(18),
+        4..8 => slot + 236 + numbers.below(8),
+        8..12 => slot + 15,
+        20 => 255,
+        12..16 => 40_960 + numbers.below(12) * 512 + 510 + numbers.below(2),
         _ => 40_960 + numbers.below(12) * 512 + numbers.below(9),
     }
 }
@@ -97,7 +99,7 @@ fn calls_hold_on_damaged_disks() {
         image.copy_from_slice(&disk);
     }
     println!("answers by number: {seen:?}");
-    for number in [0, 2, 4, 5, 6, 7, 8, 9, 10, 11, 12, 15, 16] {
+    for number in [0, 2, 4, 5, 6, 7, 8, 9, 10, 11, 12, 15, 16, 24] {
         assert!(seen.contains_key(&number), "no disk gave {number}");
     }
     assert!(!seen.contains_key(&3), "3 is given no more");

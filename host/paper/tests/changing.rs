@@ -11,6 +11,7 @@ fn a_saved_file_byte_by_byte() {
     let mut image = blank();
     image[slot_place(1)..][..256].fill(99);
     image[slot_place(1)] = 0;
+    image[255] = 255;
     image[40_960..][..1_024].fill(99);
     let old = image.clone();
     let bytes = body(600);
@@ -36,7 +37,10 @@ fn a_saved_file_byte_by_byte() {
     slot[221..223].copy_from_slice(&[8, 9]);
     slot[236..242].copy_from_slice(&[3, 64, 156, 0, 88, 2]);
     slot[242..246].copy_from_slice(&[4, 5, 6, 255]);
-    assert_eq!(image[..256], slot);
+    slot[210..220].fill(99);
+    slot[252..254].fill(99);
+    slot[255] = 255;
+    assert_eq!(image[..256], slot, "what is about the disk stays");
 
     let mut sectors = [0; 1_024];
     sectors[..9].copy_from_slice(&[18, 88, 2, 64, 156, 0, 0, 0, 3]);

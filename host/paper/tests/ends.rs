@@ -25,6 +25,9 @@ fn ending(end: usize, byte_0: u8) -> Vec<u8> {
     for slot in end..=80 {
         image[slot_place(slot)..][..256].fill(99);
     }
+    if end == 1 {
+        image[255] = 255;
+    }
     image[slot_place(end)..][..2].copy_from_slice(&[byte_0, 0]);
     image
 }
@@ -62,7 +65,7 @@ fn rubbish_behind_the_end_is_unread() {
             }
             damage(&mut image, number, bad, twin);
             image[slot_place(end)] = 0;
-            assert_eq!(paper::check(&image), refused(number, bad as u8), "slot {end} is erased");
+            assert_eq!(paper::check(&image), refused(number, bad), "slot {end} is erased");
             for byte_0 in [0, 19, 255] {
                 image[slot_place(end)..][..2].copy_from_slice(&[byte_0, 0]);
                 assert_eq!(paper::check(&image), Ok(()), "slot {end} is the end");
@@ -109,13 +112,15 @@ fn a_save_into_the_end_clears_the_old_name_behind_it() {
     }
 }
 
-/// The saved slot and its one sector, as a save on a disk without rubbish writes them. Gives the sector's number.
+/// The saved slot and its one sector, as a save on a disk without rubbish writes them; what slot 1 says of the disk stays.
+/// Gives the sector's number.
 fn expected_save(image: &mut [u8], slot: usize) -> usize {
     let mut clean = files_before(slot);
     let data = put(&mut clean, b"NEW", 0)[0];
-    for (at, length) in [(slot_place(slot), 256), (data * 512, 512)] {
-        image[at..at + length].copy_from_slice(&clean[at..at + length]);
+    for at in (0..256).filter(|at| slot > 1 || !is_kept(*at)) {
+        image[slot_place(slot) + at] = clean[slot_place(slot) + at];
     }
+    image[data * 512..][..512].copy_from_slice(&clean[data * 512..][..512]);
     data
 }
 

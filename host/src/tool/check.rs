@@ -11,13 +11,13 @@ pub fn run(given: &Given) -> Outcome {
     let paths = given.words();
     source::standard_once(given, None)?;
     if let [path] = paths {
-        check(given, path)?;
-        return output::print("accepted\n");
+        let accepted = check(given, path)?;
+        return output::print(format!("{accepted}\n"));
     }
     let mut worst = 0;
     for path in paths {
         match check(given, path) {
-            Ok(()) => output::print(format!("{}: accepted\n", output::shown_file(path)))?,
+            Ok(accepted) => output::print(format!("{}: {accepted}\n", output::shown_file(path)))?,
             Err(failure) => {
                 worst = worst.max(failure.status());
                 failure.words().iter().for_each(|words| output::say(words));
@@ -27,14 +27,17 @@ pub fn run(given: &Given) -> Outcome {
     if worst == 0 { Ok(()) } else { Err(Failure::Said(worst)) }
 }
 
-/// Checks one image, by the check that is asked for.
-fn check(given: &Given, path: &OsStr) -> Outcome {
+/// Checks one image, by the check that is asked for. Gives what is said of an accepted one.
+fn check(given: &Given, path: &OsStr) -> Result<String, Failure> {
     let image = source::image_at(given, path)?;
     let checked = match given.has("--release") {
         true => image.check_release(),
         false => image.check(),
     };
-    checked.map_err(|refused| Failure::unsound(path, explained(image, refused)))
+    match checked.and_then(|()| image.directory()) {
+        Ok(directory) => Ok(format!("accepted, {}", output::tracks(directory))),
+        Err(refused) => Err(Failure::unsound(path, explained(image, refused))),
+    }
 }
 
 /// A refusal; of waste sectors it says too whose they are, where the disk can be listed.

@@ -1,14 +1,14 @@
 //! The table of commands.
 use super::failure::Outcome;
 use super::words::Given;
-use super::{blank, change, check, dump, list, map, read, report, save};
+use super::{blank, change, check, dump, list, map, read, report, save, tree};
 
 /// A command of the tool.
 pub struct Command {
     /// What it is called by.
     pub name: &'static str,
-    /// What it takes, in order: a word for each place. A last place `WORD...` takes one or more, and `[WORD...]` any number,
-    /// none too.
+    /// What it takes, in order: a word for each place. A last place `WORD...` takes one or more, `[WORD...]` any number, none
+    /// too, and `[WORD]` one or none.
     pub places: &'static [&'static str],
     /// Its options.
     pub options: &'static [&'static Choice],
@@ -108,6 +108,12 @@ const THREADS: Choice = valued(
     "how many threads read, 1 to 64 (as many as can run at
 once, at most 16)",
 );
+const TRACKS: Choice = valued(
+    &["--tracks"],
+    "N",
+    "how many tracks the directory has, 4 to 39 (4); more
+than 4 are for MasterDOS",
+);
 const INFO: Choice = valued(&["--info"], "HEX", "up to 11 bytes of kind information (all zero)");
 
 /// What is said of names wherever a command takes one.
@@ -178,8 +184,9 @@ pub const COMMANDS: &[Command] = &[
         options: &[&RELEASE, &NO_WAIT],
         brief: "tell whether a disk is sound, and fit to go out",
         more: &[
-            "Prints `accepted`, or says which slot is wrong and why. Of several images
-each gets its line, with its name in front, and the greatest status is given.",
+            "Prints `accepted` and how many tracks the directory has, or says which slot is
+wrong and why. Of several images each gets its line, with its name in front,
+and the greatest status is given.",
             "The directory ends at its first slot without a name, and what stands behind is
 not looked at.",
             PIPE,
@@ -192,12 +199,30 @@ not looked at.",
         options: &[&NO_WAIT],
         brief: "list the files, hidden ones too",
         more: &[
+            "The disk's name stands above the files, where it has one; how many tracks the
+directory has, and how many of its slots are free, below them.",
             "Marks: `h` hidden, `p` protected. Length and start address are given for the
 kinds that have them: 16 to 20, and 1 to 4 of the Spectrum, which can be read
-and not saved.",
+and not saved. Where the disk has directories the last column says which one a
+file is in; those in the root have none there.",
             PIPE,
         ],
         run: list::run,
+    },
+    Command {
+        name: "tree",
+        places: &["IMAGE", "[NAME]"],
+        options: &[&NO_WAIT],
+        brief: "draw the directories and what lies beneath them",
+        more: &[
+            "With NAME the directory of that name, and what lies beneath it; else all of the
+disk. At each level files and directories stand by rising slot. Where the
+directories do not fit together (26 to 28) no tree can be drawn: `list` shows
+the files all the same, and which directory each is in.",
+            PIPE,
+            NAMES,
+        ],
+        run: tree::run,
     },
     Command {
         name: "map",
@@ -206,7 +231,8 @@ and not saved.",
         brief: "draw the 1,600 sectors and whose they are",
         more: &[
             "A column is a track and a row a sector, 1 to 10; the first side is above the
-second. Each file has a sign, and the signs are named below.",
+second. Each file has a sign, and the signs are named below. There are 80:
+with more files they come again, in other colours.",
             PIPE,
         ],
         run: map::run,
@@ -259,10 +285,16 @@ second. Each file has a sign, and the signs are named below.",
     Command {
         name: "blank",
         places: &["IMAGE"],
-        options: &[],
+        options: &[&TRACKS],
         brief: "make a new image, a disk without a file",
-        more: &["IMAGE is 819,200 zero bytes. One that is there already stays as it is
-(status 3)."],
+        more: &[
+            "IMAGE has 819,200 bytes, all zero but the one that says how many tracks the
+directory has. One that is there already stays as it is (status 3).",
+            "4 tracks have 80 slots and leave 1,560 sectors for files. Each of N above 4
+gives 20 slots more, but the fifth 18, and takes 10 sectors, but the fifth 9:
+39 have 778 slots and leave 1,211 sectors.",
+            NUMBERS,
+        ],
         run: blank::run,
     },
 ];

@@ -4,7 +4,7 @@ use super::failure::Outcome;
 use super::output;
 use super::source;
 use super::words::Given;
-use varnucht::{DATA_SECTORS, Entry, Listing, SECTORS, SectorNumber};
+use varnucht::{Entry, Listing, SECTORS, SectorNumber};
 
 /// Prints the picture.
 pub fn run(given: &Given) -> Outcome {
@@ -19,21 +19,27 @@ type Sign = (char, Paint);
 const FREE: Sign = ('.', Paint::Faint);
 const DIRECTORY: Sign = ('#', Paint::Bold);
 
-/// The signs of files: 80 of them, one for each slot that a disk has.
+/// The signs of files: 80 of them, one for each slot that a directory of four tracks has. With more files they come again.
 const SIGNS: &str = "ABCDEFGHIJKLMNOPQRSTUVWXYZabcdefghijklmnopqrstuvwxyz0123456789!$%&*+-/:;<=>?@^_~";
 
-/// The sign of the file that comes at this place of the listing.
+/// The sign of the file that comes at this place of all files.
 fn sign(place: usize) -> Sign {
-    (SIGNS.chars().nth(place).unwrap_or('?'), Paint::Hue(place))
+    (char::from(SIGNS.as_bytes()[place % SIGNS.len()]), Paint::Hue(place))
+}
+
+/// The files: a subdirectory has no sectors.
+fn files(listing: &Listing) -> impl Iterator<Item = &Entry> {
+    listing.entries().iter().filter(|entry| !entry.kind().is_directory())
 }
 
 /// Whose each sector is, by sector number.
 fn owners(listing: &Listing) -> Vec<Sign> {
-    let directory = |number: &u16| SectorNumber::new(*number).is_some_and(|number| number.track().number() < 4);
+    let directory = |number: SectorNumber| listing.directory().holds(number);
     let mut owners: Vec<Sign> = (0..SECTORS as u16)
-        .map(|number| if directory(&number) { DIRECTORY } else { FREE })
+        .filter_map(SectorNumber::new)
+        .map(|number| if directory(number) { DIRECTORY } else { FREE })
         .collect();
-    for (place, entry) in listing.entries().iter().enumerate() {
+    for (place, entry) in files(listing).enumerate() {
         for number in entry.sectors() {
             owners[usize::from(number.number())] = sign(place);
         }
@@ -76,16 +82,17 @@ fn scale(first_track: usize) -> String {
 /// What the signs mean: the slot and the name of each file, in columns.
 fn legend(text: &mut Painted, listing: &Listing) {
     text.add(DIRECTORY.1, "#");
-    text.add(Paint::Plain, &format!(" directory ({})  ", SECTORS - DATA_SECTORS));
+    text.add(Paint::Plain, &format!(" directory ({})  ", listing.directory().sectors()));
     text.add(FREE.1, ".");
     text.add(Paint::Plain, &format!(" free ({})\n", listing.free()));
-    let words: Vec<String> = listing.entries().iter().map(meaning).collect();
-    let width = words.iter().map(String::len).max().unwrap_or(0);
+    let digits = files(listing).last().map_or(0, |last| last.slot().to_string().len()).max(2);
+    let all: Vec<String> = files(listing).map(|entry| meaning(entry, digits)).collect();
+    let width = all.iter().map(String::len).max().unwrap_or(0);
     // A cell is the sign, a space, the words and two spaces; a line has 80.
     let across = (82 / (width + 4)).max(1);
-    for (place, words) in words.iter().enumerate() {
+    for (place, words) in all.iter().enumerate() {
         let (sign, paint) = sign(place);
-        let ends = (place + 1) % across == 0 || place + 1 == listing.entries().len();
+        let ends = (place + 1) % across == 0 || place + 1 == all.len();
         text.add(paint, &sign.to_string());
         let after = if ends {
             format!(" {words}\n")
@@ -96,7 +103,12 @@ fn legend(text: &mut Painted, listing: &Listing) {
     }
 }
 
-/// The slot, the name and the number of sectors of a file.
-fn meaning(entry: &Entry) -> String {
-    format!("{:>2} {} ({})", entry.slot().number(), entry.name(), entry.sector_count())
+/// The slot, the name and the number of sectors of a file. The slot's number has as many digits as the greatest.
+fn meaning(entry: &Entry, digits: usize) -> String {
+    format!(
+        "{:>digits$} {} ({})",
+        entry.slot().number(),
+        entry.name(),
+        entry.sector_count()
+    )
 }

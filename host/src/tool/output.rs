@@ -3,6 +3,7 @@ use super::failure::{Failure, Outcome};
 use super::system;
 use std::ffi::OsStr;
 use std::io::{self, ErrorKind, Read, Write};
+use varnucht::Directory;
 
 /// A word of the command line as a message shows it: control characters, which could upset a terminal, as escapes.
 pub fn shown(word: &OsStr) -> String {
@@ -50,4 +51,9 @@ pub fn counted(many: usize, one: &str) -> String {
     } else {
         format!("{many} {one}s")
     }
+}
+
+/// How many tracks a directory has.
+pub fn tracks(directory: Directory) -> String {
+    counted(directory.tracks().into(), "directory track")
 }

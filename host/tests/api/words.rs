@@ -12,8 +12,8 @@ fn every_number_prints_with_and_without_a_slot() {
         let words = table::words(number).unwrap_or("a refusal that is not in the table");
         assert_eq!(refusal.words(), words);
         assert_eq!(Refused::from(refusal).to_string(), format!("refusal {number}: {words}"));
-        let at = Answer::from_number(u64::from(number) + 256 * 80).decode().unwrap_err();
-        assert_eq!(at.to_string(), format!("refusal {number} at slot 80: {words}"));
+        let at = Answer::from_number(u64::from(number) + 256 * 778).decode().unwrap_err();
+        assert_eq!(at.to_string(), format!("refusal {number} at slot 778: {words}"));
     }
     assert_eq!(Refusal::from_number(0), None);
     let distinct: HashSet<_> = TABLE.map(|(number, _)| Refusal::from_number(number).unwrap()).into();
@@ -65,7 +65,14 @@ fn provoked() -> Vec<(u8, u16, Refused)> {
     ));
     all.push((21, 0, Track::new(80).unwrap_err()));
     all.push((22, 2, shortened(501).check_release().unwrap_err()));
+    let mut tracks = Image::blank();
+    tracks.as_bytes_mut()[255] = 36;
+    all.push((24, 0, Disk::open(tracks).unwrap_err().into()));
     all.push((25, 2, Disk::open(spectrum(4, 1_012, 0)).unwrap_err().into()));
+    all.push((26, 5, tree::spoilt(5, 250, 7).tree(None).unwrap_err()));
+    all.push((27, 1, tree::spoilt(1, 254, 9).tree(None).unwrap_err()));
+    all.push((28, 4, tree::spoilt(4, 254, 255).tree(None).unwrap_err()));
+    all.push((29, 3, tree::spoilt(1, 0, 0).erase(&name("GAMES")).unwrap_err()));
     all.push((31, 0, reports::full().add(b"").unwrap_err()));
     all
 }

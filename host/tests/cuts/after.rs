@@ -1,12 +1,14 @@
-//! What an accepted change leaves, written once more from document 01, "What each change does", and from document 02, M-103;
-//! and what is seen of it.
+//! What an accepted change leaves, written once more from document 01, "What each change does", and from document 02, M-103 and
+//! M-106; and what is seen of it.
 
 use crate::change::Change;
 use crate::support::asking::Asked;
 use crate::support::calls::{BODY, Call, EXEC, INFO, NAME, NEW, OUT, refusal, value};
 use crate::support::compare::{self, Left};
 use crate::support::fields;
-use crate::support::geometry::{BITS, PAYLOAD, SECTOR, SLOT, SLOTS, address, bit_place, number, sectors_for, slot_place};
+use crate::support::geometry::{
+    BITS, PAYLOAD, SECTOR, SLOT, address, bit_place, is_data, number, sectors_for, slot_place, slots,
+};
 use crate::support::margins::Margins;
 use crate::support::names;
 
@@ -81,15 +83,20 @@ fn saved(change: &Change) -> (Vec<u8>, Vec<usize>) {
     let bits = lowest_free(change);
     let nameless = |slot: usize| change.old[slot_place(slot) + fields::NAME] == 0;
     let free = |slot: &usize| change.old[slot_place(*slot)] == 0 || nameless(*slot);
-    let slot = (1..=SLOTS).find(free).expect("a slot is free");
-    let old_name = Some(slot + 1).filter(|&next| nameless(slot) && next <= SLOTS && !nameless(next));
+    let last = slots(change.facts.extra);
+    let slot = (1..=last).find(free).expect("a slot is free");
+    let old_name = Some(slot + 1).filter(|&next| nameless(slot) && next <= last && !nameless(next));
     let payload = payload(change, bits.len());
     for (i, &bit) in bits.iter().enumerate() {
         let sector = &mut new[bit_place(bit)..][..SECTOR];
         sector[..PAYLOAD].copy_from_slice(&payload[i * PAYLOAD..][..PAYLOAD]);
         sector[PAYLOAD..].copy_from_slice(&bits.get(i + 1).map_or([0, 0], |&next| address(next)));
     }
-    new[slot_place(slot)..][..SLOT].copy_from_slice(&new_slot(change, &bits));
+    let mut bytes = new_slot(change, &bits);
+    for at in fields::KEPT.into_iter().flatten().filter(|_| slot == 1) {
+        bytes[at] = change.old[at];
+    }
+    new[slot_place(slot)..][..SLOT].copy_from_slice(&bytes);
     let mut named: Vec<usize> = bits.iter().map(|&bit| number(bit_place(bit))).collect();
     if let Some(next) = old_name {
         new[slot_place(next)..][..2].fill(0);
@@ -107,7 +114,8 @@ fn lowest_free(change: &Change) -> Vec<usize> {
         .iter()
         .map(|live| &change.old[slot_place(live.slot)..][..SLOT]);
     let maps: Vec<&[u8]> = live.collect();
-    let free = (0..BITS).filter(|&bit| !maps.iter().any(|slot| fields::has_bit(slot, bit)));
+    let data = (0..BITS).filter(|&bit| is_data(bit, change.facts.extra));
+    let free = data.filter(|&bit| !maps.iter().any(|slot| fields::has_bit(slot, bit)));
     free.take(sectors_for(change.asked.slices[BODY].len())).collect()
 }
 

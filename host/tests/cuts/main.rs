@@ -1,7 +1,7 @@
 //! Every accepted change, cut after k of the sectors that it names (document 01, "Words of demand 3"): the disk is accepted;
 //! until the last sector is written, listing, reading and start addresses answer as on the old disk; after it the disk is the
-//! new one; every other file keeps its slot and its sectors; and the directory ends where it ended, or one slot further where
-//! a whole save took its end. The C layer is under test, and `paper` is asked beside it.
+//! new one; every other file keeps its slot and its sectors; what slot 1 says of the disk stays; and the directory ends where it
+//! ended, or one slot further where a whole save took its end. The C layer is under test, and `paper` is asked beside it.
 //!
 //! - `change`: the drawn change, the sectors it names, and what it leaves.
 //! - `after`: what a change must leave, once more from document 01.
@@ -30,8 +30,13 @@ struct Counts {
     changes: [usize; 7],
     /// Saves that clear the slot behind the directory's end: in their slot's sector, and in another.
     clearing: [usize; 2],
+    /// Those on disks with more than four directory tracks, and the saves into slot 1 among all.
+    bigger: usize,
+    first_slot: usize,
     /// The renames among them that alter the case of the file's own name alone.
     turned: usize,
+    /// Erases of directories.
+    directories: usize,
     cuts: usize,
     answers: usize,
 }
@@ -51,9 +56,21 @@ fn every_change_cut_anywhere() {
         }
     }
     println!(
-        "{:?}: {:?} changes, {} renames of case alone, {:?} saves that clear a slot in the same sector and in another, {} cuts, \
-         {} answers",
-        CHANGES, counts.changes, counts.turned, counts.clearing, counts.cuts, counts.answers
+        "{:?}: {:?} changes, {} with bigger directories, {} saves into slot 1, {} renames of case alone, {} erases of \
+         directories, {:?} saves that clear a slot in the same sector and in another, {} cuts, {} answers",
+        CHANGES,
+        counts.changes,
+        counts.bigger,
+        counts.first_slot,
+        counts.turned,
+        counts.directories,
+        counts.clearing,
+        counts.cuts,
+        counts.answers
+    );
+    assert!(
+        !rounds.enough() || counts.bigger.min(10 * counts.first_slot) >= 100,
+        "too few such"
     );
     assert!(
         !rounds.enough() || counts.changes.iter().chain([&counts.turned]).all(|&changes| changes >= 20),
@@ -63,6 +80,7 @@ fn every_change_cut_anywhere() {
         !rounds.enough() || counts.clearing.iter().all(|&saves| saves >= 5),
         "too few saves cleared a slot"
     );
+    assert!(!rounds.enough() || counts.directories >= 5, "too few directories were erased");
 }
 
 /// A save into the directory's end at the edges of sectors and tracks, cut after every sector. The slot behind holds a name,
@@ -71,17 +89,7 @@ fn every_change_cut_anywhere() {
 fn saves_into_the_end_cut_anywhere() {
     let mut counts = Counts::default();
     for end in [1, 2, 3, 19, 20, 21, 22, 40, 41, 60, 61, 79, 80] {
-        for next in [[19, b'X'], [0, b'X'], [19, 0]] {
-            let random = &mut Random::new(8_700_000 + end as u64);
-            let mut disk = disks::of_shape(&ending(end), random);
-            if end < 80 {
-                disk.slot_mut(end + 1)[..2].copy_from_slice(&next);
-            }
-            let change = Change::save(&disk.image, 700, random).expect("it has room");
-            assert_eq!(change.facts.taken, Some(end));
-            assert_eq!(change.facts.cleared, (end < 80 && next[1] != 0).then_some(end + 1));
-            cut(&change, &mut counts, random);
-        }
+        saves_into(0, end, &mut counts);
     }
     println!(
         "{:?} saves, {} cuts, {} answers",
@@ -90,9 +98,46 @@ fn saves_into_the_end_cut_anywhere() {
     assert_eq!(counts.clearing, [14, 10]);
 }
 
+/// The same in bigger directories, across the gap after slot 80 too.
+#[test]
+fn saves_into_the_end_of_bigger_directories_cut_anywhere() {
+    let mut counts = Counts::default();
+    for (extra, ends) in [
+        (1, &[1, 2, 79, 80, 81, 97, 98][..]),
+        (2, &[80, 98, 99, 118]),
+        (35, &[1, 98, 99, 777, 778]),
+    ] {
+        for &end in ends {
+            saves_into(extra, end, &mut counts);
+        }
+    }
+    println!(
+        "{:?} saves, {} cuts, {} answers",
+        counts.clearing, counts.cuts, counts.answers
+    );
+    assert_eq!(counts.clearing, [16, 10]);
+}
+
+/// Three saves into the end at this slot.
+fn saves_into(extra: usize, end: usize, counts: &mut Counts) {
+    for next in [[19, b'X'], [0, b'X'], [19, 0]] {
+        let random = &mut Random::new(8_700_000 + end as u64);
+        let mut disk = disks::of_shape(&ending(extra, end), random);
+        let last = disk.slots();
+        if end < last {
+            disk.slot_mut(end + 1)[..2].copy_from_slice(&next);
+        }
+        let change = Change::save(&disk.image, 700, random).expect("it has room");
+        assert_eq!(change.facts.taken, Some(end));
+        assert_eq!(change.facts.cleared, (end < last && next[1] != 0).then_some(end + 1));
+        cut(&change, counts, random);
+    }
+}
+
 /// A file of one sector in each slot before the end, and rubbish from it on.
-fn ending(end: usize) -> Shape {
+fn ending(extra: usize, end: usize) -> Shape {
     Shape {
+        extra,
         files: (1..end).map(|slot| (slot, 1)).collect(),
         end: Some(end),
         order: Order::Scattered,
@@ -111,10 +156,18 @@ fn the_largest_save_cut_anywhere() {
     assert_eq!(change.named.len(), 1_561);
     cut(&change, &mut Counts::default(), random);
     // All sectors but that of a file before the end, and two of the directory.
-    let mut disk = disks::of_shape(&ending(2), random);
+    let mut disk = disks::of_shape(&ending(0, 2), random);
     disk.slot_mut(3)[..2].copy_from_slice(b"\xffX");
     let change = Change::save(&disk.image, 795_591 - 510, random).expect("the room is there");
     assert_eq!((change.named.len(), &change.named[1_559..]), (1_561, &[1, 0][..]));
+    cut(&change, &mut Counts::default(), random);
+    // All sectors there are, beside a directory, and two of the directory's: the longest list.
+    let mut shape = ending(0, 2);
+    shape.files = vec![(1, 0)];
+    let mut disk = disks::of_shape(&shape, random);
+    disk.slot_mut(3)[..2].copy_from_slice(b"\xffX");
+    let change = Change::save(&disk.image, 795_591, random).expect("no sector is taken");
+    assert_eq!((change.named.len(), &change.named[1_560..]), (1_562, &[1, 0][..]));
     cut(&change, &mut Counts::default(), random);
 }
 
@@ -126,12 +179,14 @@ fn cut(change: &Change, counts: &mut Counts, random: &mut Random) {
         let disk = change.cut(k);
         change.keeps_other_files(&disk);
         change.keeps_the_end(&disk, k == change.named.len());
+        change.keeps_what_is_the_disks(&disk);
         if k < change.named.len() {
             counts.answers += answers.same_on(&disk);
         } else {
             assert!(disk == change.new, "cut after all sectors, the disk is not the new one");
             answers::accepted(&disk);
             change.leaves_no_waste();
+            change.keeps_the_tree();
         }
         counts.cuts += 1;
     }
@@ -141,6 +196,9 @@ fn cut(change: &Change, counts: &mut Counts, random: &mut Random) {
     let sort = CHANGES.iter().position(|&call| call == change.asked.call).expect("a change");
     counts.changes[sort] += 1;
     counts.turned += usize::from(change.turns_letters());
+    counts.directories += usize::from(change.erases_a_directory());
+    counts.bigger += usize::from(change.facts.extra > 0);
+    counts.first_slot += usize::from(change.asked.call == Call::Save && change.facts.taken == Some(1));
 }
 
 /// None, the first, all but the last two, all but the last, all, and some between.

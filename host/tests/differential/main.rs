@@ -7,6 +7,7 @@
 //! - `sectors`: every drive, track and sector of the raw sector call.
 //! - `pieces`: readers, however the asking is cut, and readers of any three numbers.
 //! - `reports`: shelves in numbers, and reports of any bytes.
+//! - `ticks`: marks in either order, marks of two phones merged, and renames taken back.
 //!
 //! `VARNUCHT_SEED` and `VARNUCHT_ROUNDS` draw other tests, or a single one again. `VARNUCHT_TABLE` names a file for the table
 //! of counts, which `--nocapture` shows too.
@@ -20,3 +21,4 @@ mod edges;
 mod pieces;
 mod reports;
 mod sectors;
+mod ticks;

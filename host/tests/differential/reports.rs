@@ -5,6 +5,7 @@ use crate::support::calls::{Call, OUT, Request, TWO};
 use crate::support::compare;
 use crate::support::damage::{self, Outcome};
 use crate::support::disks::{self, Disk};
+use crate::support::geometry::{data, extra};
 use crate::support::margins::Margins;
 use crate::support::random::Random;
 use crate::support::reports::{
@@ -37,7 +38,7 @@ fn holds(disks: usize) -> u64 {
 fn image(random: &mut Random, all: &[&'static damage::Damage]) -> (Vec<u8>, Option<Counts>) {
     if random.one_in(3) {
         let disk = disks::draw(random);
-        let counts = Counts::accepted(&disk.files);
+        let counts = Counts::accepted(&disk.files, disk.data());
         return (disk.image, Some(counts));
     }
     let (mut disk, outcome) = damage::one(random.pick(all), random);
@@ -55,7 +56,7 @@ fn known(disk: &Disk, outcome: Outcome) -> Option<Counts> {
         Outcome::Refused(number, _) => Some(Counts::refused(number)),
         Outcome::Ends(end) => {
             let before = disk.files.partition_point(|file| file.slot < end);
-            Some(Counts::accepted(&disk.files[..before]))
+            Some(Counts::accepted(&disk.files[..before], disk.data()))
         }
         Outcome::Open | Outcome::Accepted => None,
     }
@@ -75,7 +76,7 @@ fn drawn_shelves() {
         let whole = over(&shelf);
         let sum = |from: usize, to: usize| (from..to).map(|at| number(&whole, at)).sum::<u32>();
         assert_eq!(sum(33, 97), sum(99, KEPT), "the classes add up to the files");
-        assert_eq!(sum(97, 99), number(&whole, 0) * 1_560, "a sector is a file's or free");
+        assert_eq!(sum(97, 99) as usize, shelf_data(&shelf), "a data sector is a file's or free");
         assert_eq!(disks_in(&whole), many as u64);
         assert!(whole[4 * KEPT..].iter().all(|byte| *byte == 0));
         let cut = random.below(many + 1);
@@ -90,6 +91,13 @@ fn drawn_shelves() {
         .into_iter()
         .all(|number| numbers[usize::from(number)] > 0);
     assert!(!rounds.enough() || all_given, "{numbers:?}");
+}
+
+/// How many data sectors the accepted disks of a shelf have.
+fn shelf_data(shelf: &[(Vec<u8>, Option<Counts>)]) -> usize {
+    let accepted = |image: &&Vec<u8>| compare::ask(&Request::new(Call::Check, image), &mut Margins::default()).answer == 0;
+    let images = shelf.iter().map(|(image, _)| image).filter(accepted);
+    images.map(|image| data(extra(image))).sum()
 }
 
 /// The report over a list of drawn images, each number followed.
@@ -144,7 +152,7 @@ fn reports_of_any_bytes() {
         two.extend(random.bytes(rest));
         let disk = random.pick(&[&small, &long]);
         for (at, more, by, (answer, after)) in [
-            (0, 1, Counts::accepted(&disk.files), add(&disk.image, &one)),
+            (0, 1, Counts::accepted(&disk.files, disk.data()), add(&disk.image, &one)),
             (0, 1, Counts::refused(1), add(&one, &one)),
             (1, disks_in(&two), Counts::of(&two), join(&one, &two)),
         ] {

@@ -131,7 +131,7 @@ fn the_readmes_program_shows_names_as_the_tool_does() {
     let disk = Disk::open(Image::from_bytes(image.clone()).expect("an image")).expect("a sound disk");
     let lines = disk.listing().entries().iter().map(|entry| {
         let name = entry.name().to_string();
-        format!("{:>2} {name:<10}    1 sectors\n", entry.slot().number())
+        format!("{:>3} {name:<10}    1 sectors\n", entry.slot().number())
     });
     let expected = lines.collect::<String>() + "1552 sectors free\n";
     assert!(expected.contains(r" 5 \x1b[2J\x1b]0;x    1 sectors"), "{expected}");
@@ -168,7 +168,7 @@ fn the_example_saves_and_reads() {
         );
         assert!(accepted(&written));
         assert!(done(run(&tunes, &[&disk, name])) == body, "the saved file reads back");
-        let lines = " 1 -- TUNES      kind 19, sectors   40, length  20000\nfiles 1, free sectors 1520\n";
+        let lines = "  1 -- TUNES      kind 19, sectors   40, length  20000\nfiles 1, free sectors 1520\n";
         assert_eq!(String::from_utf8_lossy(&done(run(&tunes, &[&disk]))), lines);
         let words = "save: refused 16, slot 1: a live slot has the new name, capitals or not\n";
         assert_eq!(refused(run(&tunes, &[&disk, name, &file])), words);

@@ -18,5 +18,7 @@ void check_empty_slices(void);
 void check_size_limits(void);
 void check_pieces(void);
 void check_reports(void);
+void check_bigger(void);
+void check_trees(void);
 
 #endif

@@ -44,6 +44,8 @@ int main(int argc, char **argv) {
     run("sizes", check_size_limits);
     run("pieces", check_pieces);
     run("reports", check_reports);
+    run("bigger directories", check_bigger);
+    run("trees", check_trees);
     printf("held %lu, failed %lu\n", held, failed);
     return failed != 0;
 }

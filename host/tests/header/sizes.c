@@ -1,5 +1,4 @@
-/* The sizes that the header calls always long enough are: on the fullest disks, and there one byte less is too short. A save's
- * list has room for one number more than any disk takes. */
+/* The sizes that the header calls always long enough are: on the fullest disks, and there one byte less is too short. */
 #include <string.h>
 
 #include "expect.h"
@@ -28,20 +27,19 @@ static void check_greatest_body(void) {
     expect(varnucht_refusal(answer) == 0 && varnucht_value(answer) == 540671, "the greatest address", 0);
 }
 
-/* A file in slot 1, the directory's end at slot 2 and an old name in slot 3, which is in another sector: that is named too,
- * behind the data. */
+/* A subdirectory in slot 1, which takes no sector, the directory's end at slot 2 and an old name in slot 3, which is in another
+ * sector: that is named too, behind all data sectors. */
 static void check_longest_list(void) {
-    static const uint8_t first[] = {'A'};
-    const size_t rest = 510 * 1559 - 9;
     memset(image, 0, sizeof image);
-    expect(varnucht_refusal(save(first, 1, 0, 4)) == 0, "a file in slot 1", 0);
+    image[0] = VARNUCHT_KIND_DIRECTORY;
+    image[1] = 'A';
     image[2 * 256] = VARNUCHT_KIND_CODE;
     image[2 * 256 + 1] = 'X';
     expect(varnucht_check(image, sizeof image) == 0, "a slot behind the end is not looked at", 0);
-    expect(save(tunes, 5, rest, 2 * 1561 - 1) == VARNUCHT_BUFFER_TOO_SHORT, "a list too short for both", 0);
-    uint64_t answer = save(tunes, 5, rest, sizeof list);
-    expect(varnucht_refusal(answer) == 0 && varnucht_value(answer) == 1561, "the longest list", 0);
-    expect(varnucht_listed(list, 1559) == 1 && varnucht_listed(list, 1560) == 0, "its last two sectors", 0);
+    expect(save(tunes, 5, VARNUCHT_BODY_BYTES, sizeof list - 1) == VARNUCHT_BUFFER_TOO_SHORT, "one byte too short", 0);
+    uint64_t answer = save(tunes, 5, VARNUCHT_BODY_BYTES, sizeof list);
+    expect(varnucht_refusal(answer) == 0 && varnucht_value(answer) == 1562, "the longest list", 0);
+    expect(varnucht_listed(list, 1560) == 1 && varnucht_listed(list, 1561) == 0, "its last two sectors", 0);
     expect(image[2 * 256] == 0 && image[2 * 256 + 1] == 0, "the old name is gone", 0);
     expect(varnucht_check(image, sizeof image) == 0, "the disk is accepted", 0);
 }
@@ -72,19 +70,22 @@ static void check_greatest_spectrum(void) {
     expect(varnucht_check(image, sizeof image) == VARNUCHT_BODY_TOO_LONG + 256 * 1, "502 bytes do not", 0);
 }
 
-/* Eighty files fill the listing. The one after them is refused 18. */
+/* As many files as the biggest directory has slots fill the listing. The one after them is refused 18. */
 static void check_longest_listing(void) {
     memset(image, 0, sizeof image);
+    image[255] = 35;
+    const unsigned tracks = varnucht_directory_tracks(image);
+    expect(varnucht_directory_slots(tracks) == VARNUCHT_SLOTS, "the most slots", tracks);
     for (unsigned i = 0; i < VARNUCHT_SLOTS; i++) {
-        uint8_t name[2] = {(uint8_t)('A' + i / 10), (uint8_t)('0' + i % 10)};
-        expect(varnucht_refusal(save(name, 2, i, sizeof list)) == 0, "a file of eighty", i);
+        uint8_t name[2] = {(uint8_t)('A' + i / 40), (uint8_t)('0' + i % 40)};
+        expect(varnucht_refusal(save(name, 2, i % 502, sizeof list)) == 0, "a file of 778", i);
     }
-    expect(save(tunes, 5, 0, sizeof list) == VARNUCHT_NO_FREE_SLOT, "the file after eighty", 0);
+    expect(save(tunes, 5, 0, sizeof list) == VARNUCHT_NO_FREE_SLOT, "the file after 778", 0);
     uint64_t answer = varnucht_list(image, sizeof image, out, VARNUCHT_LISTING_BYTES - 1);
     expect(answer == VARNUCHT_BUFFER_TOO_SHORT, "a listing too long", 0);
     answer = varnucht_list(image, sizeof image, out, VARNUCHT_LISTING_BYTES);
     expect(varnucht_refusal(answer) == 0 && varnucht_value(answer) == VARNUCHT_SLOTS, "the longest listing", 0);
-    expect(varnucht_free(answer) == VARNUCHT_DATA_SECTORS - VARNUCHT_SLOTS, "its free sectors", 0);
+    expect(varnucht_free(answer) == varnucht_directory_data(tracks) - VARNUCHT_SLOTS, "its free sectors", 0);
     expect(varnucht_entry_slot(varnucht_entry(out, VARNUCHT_SLOTS - 1)) == VARNUCHT_SLOTS, "its last entry", 0);
 }
 
@@ -93,7 +94,7 @@ typedef uint64_t change(uint8_t *, size_t, const uint8_t *, size_t, uint8_t *, s
 /* Two bytes are enough for every other change and one is not; of an odd number the last holds nothing. */
 static void check_other_lists(void) {
     static change *const changes[] = {varnucht_hide, varnucht_show, varnucht_protect, varnucht_release, varnucht_erase};
-    static const uint8_t first[] = {'A', '0'}, other[] = {'A', 'A'};
+    static const uint8_t first[] = {'A', '0'}, other[] = {'Z', 'Z'};
     const size_t room = VARNUCHT_CHANGE_LIST_BYTES;
     for (unsigned i = 0; i < sizeof changes / sizeof changes[0]; i++) {
         uint64_t answer = changes[i](image, sizeof image, first, 2, list, room - 1);

@@ -2,7 +2,7 @@
 //! image gives what its bytes happen to say.
 
 use super::fields;
-use super::geometry::{BITS, SLOT, SLOTS, bit_of, bit_place, number, sectors_for, slot_place, slot_sector};
+use super::geometry::{self, SLOT, bit_of, bit_place, number, sectors_for, slot_place, slot_sector};
 use super::names::{self, Name};
 
 pub struct Live {
@@ -14,9 +14,21 @@ pub struct Live {
     pub length: usize,
     /// The numbers of the sectors in its map.
     pub sectors: Vec<usize>,
+    /// Of a directory: by which code the live slots in it name it.
+    pub code: u8,
+    /// The code of the directory that it is in; 0 for the root.
+    pub parent: u8,
+}
+
+impl Live {
+    pub fn is_directory(&self) -> bool {
+        fields::is_directory(self.kind)
+    }
 }
 
 pub struct Facts {
+    /// The directory tracks beyond four.
+    pub extra: usize,
     pub live: Vec<Live>,
     /// Names that stand in erased slots, and from the directory's end on.
     pub erased: Vec<Name>,
@@ -32,7 +44,9 @@ pub struct Facts {
 impl Facts {
     /// The image has the length of a disk.
     pub fn of(image: &[u8]) -> Facts {
-        let slots = || (1..=SLOTS).map(|slot| (slot, &image[slot_place(slot)..][..SLOT]));
+        let extra = geometry::extra(image);
+        let last = geometry::slots(extra);
+        let slots = || (1..=last).map(|slot| (slot, &image[slot_place(slot)..][..SLOT]));
         let end = end(image);
         let read = |slot: usize| end.is_none_or(|end| slot < end);
         let live = slots().filter(|&(slot, bytes)| read(slot) && bytes[0] != 0);
@@ -43,15 +57,18 @@ impl Facts {
             protected: bytes[0] & fields::PROTECTED != 0,
             length: length(image, bytes),
             sectors: fields::bits(bytes).into_iter().map(|bit| number(bit_place(bit))).collect(),
+            code: bytes[fields::CODE],
+            parent: bytes[fields::PARENT],
         });
         let live: Vec<Live> = live.collect();
         let erased = slots().filter(|&(slot, bytes)| !read(slot) || bytes[0] == 0);
         let taken = slots().find(|(_, bytes)| bytes[0] == 0 || bytes[fields::NAME] == 0);
         let taken = taken.map(|(slot, _)| slot);
         let named = |slot: &usize| image[slot_place(*slot) + fields::NAME] != 0;
-        let next = taken.filter(|&slot| Some(slot) == end && slot < SLOTS).map(|end| end + 1);
+        let next = taken.filter(|&slot| Some(slot) == end && slot < last).map(|end| end + 1);
         Facts {
-            free: BITS - used(&live),
+            extra,
+            free: geometry::data(extra).saturating_sub(used(&live)),
             live,
             erased: erased.map(|(_, bytes)| fields::name(bytes)).collect(),
             end,
@@ -62,7 +79,7 @@ impl Facts {
 
     /// The directory's sectors that a save changes, in the order of writing; one where no slot is left.
     pub fn directory_sectors(&self) -> Vec<usize> {
-        let saved = slot_sector(self.taken.unwrap_or(SLOTS));
+        let saved = slot_sector(self.taken.unwrap_or(1));
         let before = self.cleared.map(slot_sector).filter(|&sector| sector != saved);
         before.into_iter().chain([saved]).collect()
     }
@@ -95,7 +112,8 @@ fn length(image: &[u8], slot: &[u8]) -> usize {
 
 /// The first slot whose first name byte is 0.
 pub fn end(image: &[u8]) -> Option<usize> {
-    (1..=SLOTS).find(|&slot| image[slot_place(slot) + fields::NAME] == 0)
+    let last = geometry::slots(geometry::extra(image));
+    (1..=last).find(|&slot| image[slot_place(slot) + fields::NAME] == 0)
 }
 
 /// How many sectors the live maps have together.

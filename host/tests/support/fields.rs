@@ -17,6 +17,10 @@ pub const PAGES: usize = 239;
 pub const REMAINDER: usize = 240;
 pub const EXEC: usize = 242;
 
+/// The bytes of slot 1 that are about the disk: its name, its random word, and the directory tracks beyond four. A save keeps
+/// them: document 02, M-106.
+pub const KEPT: [std::ops::RangeInclusive<usize>; 3] = [210..=219, 252..=253, 255..=255];
+
 /// The nine bytes at the front of the first sector of a file that can be read.
 pub const HEADER: usize = 9;
 pub const HEADER_REMAINDER: usize = 1;
@@ -26,6 +30,16 @@ pub const HEADER_PAGES: usize = 7;
 pub const HEADER_PAGE: usize = 8;
 
 pub const KNOWN: [u8; 20] = [1, 2, 3, 4, 5, 6, 7, 8, 9, 10, 11, 12, 16, 17, 18, 19, 20, 21, 22, 23];
+
+/// A directory of MasterDOS: document 02, M-108.
+pub const DIRECTORY: u8 = 21;
+/// Where a directory has its code, and every live slot that of the directory it is in.
+pub const CODE: usize = 250;
+pub const PARENT: usize = 254;
+
+pub fn is_directory(kind: u8) -> bool {
+    kind == DIRECTORY
+}
 
 pub fn is_known(kind: u8) -> bool {
     KNOWN.contains(&kind)
@@ -78,6 +92,12 @@ pub fn has_bit(slot: &[u8], bit: usize) -> bool {
 pub fn set_bit(slot: &mut [u8], bit: usize, on: bool) {
     let byte = &mut slot[MAP + bit / 8];
     *byte = *byte & !(1 << (bit % 8)) | u8::from(on) << (bit % 8);
+}
+
+/// Sets these bits of a slot's map and clears all others.
+pub fn set_map(slot: &mut [u8], bits: &[usize]) {
+    slot[MAP..MAP + MAP_BYTES].fill(0);
+    bits.iter().for_each(|&bit| set_bit(slot, bit, true));
 }
 
 /// The bits of a slot's map, rising.

@@ -3,7 +3,6 @@
 use super::asking::Asked;
 use super::calls::{Call, OUT, TWO};
 use super::disks::File;
-use super::geometry::BITS;
 use super::random::Random;
 
 pub const REPORT: usize = 496;
@@ -40,8 +39,8 @@ impl Counts {
         Counts(std::array::from_fn(|at| number(report, at).into()))
     }
 
-    /// An accepted disk with these files.
-    pub fn accepted(files: &[File]) -> Counts {
+    /// An accepted disk with these files, of so many data sectors.
+    pub fn accepted(files: &[File], data: usize) -> Counts {
         let mut counts = Counts::none();
         counts.0[0] = 1;
         for file in files {
@@ -50,7 +49,7 @@ impl Counts {
             counts.0[97] += sectors as u64;
             counts.0[99 + class(sectors)] += 1;
         }
-        counts.0[98] = BITS as u64 - counts.0[97];
+        counts.0[98] = data as u64 - counts.0[97];
         counts
     }
 

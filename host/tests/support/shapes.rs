@@ -1,11 +1,13 @@
 //! What a drawn disk is like before a byte is written: which slots are live, how many sectors each file has, in which order
 //! free sectors are taken, and what stands where nobody wrote.
 
-use super::geometry::{BITS, IMAGE, SLOTS};
+use super::geometry::{self, BITS, IMAGE, MOST_EXTRA};
 use super::random::Random;
 
 pub struct Shape {
-    /// The live slots, rising, with the sectors of each.
+    /// The directory tracks beyond four.
+    pub extra: usize,
+    /// The live slots, rising, with the sectors of each; one without sectors is a directory.
     pub files: Vec<(usize, usize)>,
     /// The directory's end, behind every live slot; none where every slot has a name.
     pub end: Option<usize>,
@@ -32,21 +34,46 @@ pub enum Ground {
 }
 
 impl Shape {
+    /// Half of the directories have four tracks.
     pub fn draw(random: &mut Random) -> Shape {
+        let extra = match random.below(6) {
+            0..3 => 0,
+            3 => random.pick(&[1, 2, MOST_EXTRA]),
+            _ => random.between(1, MOST_EXTRA),
+        };
+        let slots = geometry::slots(extra);
         let live = match random.below(8) {
-            0 => random.pick(&[0, 1, 79, 80]),
-            1 => random.between(1, SLOTS),
+            0 => random.pick(&[0, 1, slots.min(100) - 1, slots.min(100)]),
+            1 => random.between(1, slots.min(100)),
             2 => 1,
+            3 if random.one_in(12) => random.pick(&[slots - 1, slots]),
             _ => random.between(2, 8),
         };
-        Shape::with(live, sectors(live, random), random)
+        let mut shape = Shape::of(extra, live, sectors(extra, live, random), random);
+        shape.make_directories(random);
+        shape
     }
 
-    /// So many files that have so many sectors together.
+    /// Some of the files, often none, made directories.
+    fn make_directories(&mut self, random: &mut Random) {
+        let often = random.pick(&[0, 0, 1, 2, 3, 5]);
+        for (_, sectors) in self.files.iter_mut().filter(|_| often > 0) {
+            if random.below(6) < often {
+                *sectors = 0;
+            }
+        }
+    }
+
+    /// So many files that have so many sectors together, in a directory of four tracks.
     pub fn with(live: usize, sectors: usize, random: &mut Random) -> Shape {
+        Shape::of(0, live, sectors, random)
+    }
+
+    /// The same in a directory of so many tracks beyond four.
+    pub fn of(extra: usize, live: usize, sectors: usize, random: &mut Random) -> Shape {
         let counts = parts(live, sectors, random);
-        let slots = slots(live, random);
-        let end = end(slots.last().copied().unwrap_or(0), random);
+        let slots = slots(extra, live, random);
+        let end = end(extra, slots.last().copied().unwrap_or(0), random);
         let files = slots.into_iter().zip(counts).collect();
         let order = random.pick(&[Order::Scattered, Order::Scattered, Order::Rising, Order::Falling]);
         let ground = match random.below(5) {
@@ -55,6 +82,7 @@ impl Shape {
             _ => Ground::Rubbish,
         };
         Shape {
+            extra,
             files,
             end,
             order,
@@ -65,7 +93,7 @@ impl Shape {
 
     /// The data sectors in the order in which they are taken.
     pub fn free(&self, random: &mut Random) -> Vec<usize> {
-        let mut free: Vec<usize> = (0..BITS).collect();
+        let mut free: Vec<usize> = (0..BITS).filter(|&bit| geometry::is_data(bit, self.extra)).collect();
         match self.order {
             Order::Scattered => random.shuffle(&mut free),
             Order::Rising => {}
@@ -90,23 +118,25 @@ impl Ground {
 }
 
 /// How many sectors the files of a disk have together: one each, all, all but a few, or any number.
-fn sectors(live: usize, random: &mut Random) -> usize {
+fn sectors(extra: usize, live: usize, random: &mut Random) -> usize {
+    let data = geometry::data(extra);
     if live == 0 {
         return 0;
     }
     match random.below(8) {
         0 => live,
-        1 => BITS,
-        2 => random.between(BITS - 5, BITS),
-        3 => random.between(live, BITS),
-        _ => random.between(live, live * 8),
+        1 => data,
+        2 => random.between(data - 5, data),
+        3 => random.between(live, data),
+        _ => random.between(live, (live * 8).min(data)),
     }
 }
 
 /// The lowest slots, the highest, or any: of all, or of as many as there are files and a few more.
-fn slots(live: usize, random: &mut Random) -> Vec<usize> {
-    let few = (live + random.below(4)).min(SLOTS);
-    let mut slots: Vec<usize> = (1..=SLOTS).collect();
+fn slots(extra: usize, live: usize, random: &mut Random) -> Vec<usize> {
+    let most = geometry::slots(extra);
+    let few = (live + random.below(4)).min(most);
+    let mut slots: Vec<usize> = (1..=most).collect();
     match random.below(6) {
         0 | 1 => {}
         2 => slots.reverse(),
@@ -119,9 +149,11 @@ fn slots(live: usize, random: &mut Random) -> Vec<usize> {
 }
 
 /// Where the directory ends behind its last live slot: directly, anywhere, at the edges of sectors and tracks, or not at all.
-fn end(last: usize, random: &mut Random) -> Option<usize> {
-    let behind: Vec<usize> = (last + 1..=SLOTS).collect();
-    let edges: Vec<usize> = [1, 2, 20, 21, 80].into_iter().filter(|&end| end > last).collect();
+fn end(extra: usize, last: usize, random: &mut Random) -> Option<usize> {
+    let most = geometry::slots(extra);
+    let behind: Vec<usize> = (last + 1..=most).collect();
+    let edges = [1, 2, 20, 21, 80, 81, 98, 99, most - 1, most];
+    let edges: Vec<usize> = edges.into_iter().filter(|&end| end > last && end <= most).collect();
     match random.below(6) {
         _ if behind.is_empty() => None,
         0 => None,

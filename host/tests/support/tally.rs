@@ -17,16 +17,17 @@ pub fn possible(call: Call) -> Vec<u8> {
         Call::List => &[20],
         Call::Read => &[12, 13, 15, 20],
         Call::Open => &[12, 13, 15],
+        Call::Tree => &[26, 27, 28, 12, 13, 15, 20],
         Call::Next => return vec![0],
         Call::Start => &[12, 13, 14, 15],
         Call::Sector => return vec![0, 1, 21],
         Call::ReportAdd | Call::ReportJoin => return vec![0, 20, 31],
         Call::Save => &[12, 13, 14, 16, 18, 19, 20],
-        Call::Erase => &[12, 15, 17, 20],
+        Call::Erase => &[12, 15, 17, 29, 20],
         Call::Rename => &[12, 15, 16, 17, 20],
         Call::Hide | Call::Show | Call::Protect | Call::Release => &[12, 15, 20],
     };
-    let disk = (0..=11).filter(|&number| number != 3).chain([25]);
+    let disk = (0..=11).filter(|&number| number != 3).chain([24, 25]);
     disk.chain(own.iter().copied()).collect()
 }
 

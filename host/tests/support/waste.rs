@@ -4,11 +4,11 @@
 use super::calls::{refusal, slot};
 use super::facts;
 use super::fields;
-use super::geometry::{PAYLOAD, SLOT, SLOTS, slot_place};
+use super::geometry::{PAYLOAD, SLOT, extra, slot_place, slots};
 
 /// The lowest live slot of a carried kind that could do with one sector less, whatever else is wrong with it.
 pub fn lowest(image: &[u8]) -> Option<usize> {
-    (1..facts::end(image).unwrap_or(SLOTS + 1)).find(|&slot| {
+    (1..facts::end(image).unwrap_or(slots(extra(image)) + 1)).find(|&slot| {
         let bytes = &image[slot_place(slot)..][..SLOT];
         let spare = PAYLOAD * fields::count(bytes).saturating_sub(1);
         bytes[0] != 0 && fields::is_carried(fields::kind(bytes)) && spare >= fields::HEADER + fields::length(bytes)
@@ -19,7 +19,7 @@ pub fn lowest(image: &[u8]) -> Option<usize> {
 /// directly after 7; 8, 9, every later slot and all chains come after it.
 pub fn release(check: u64, image: &[u8]) -> u64 {
     let (number, at) = (refusal(check), slot(check));
-    let Some(waste) = (number != 1).then(|| lowest(image)).flatten() else {
+    let Some(waste) = (!matches!(number, 1 | 24)).then(|| lowest(image)).flatten() else {
         return check;
     };
     let before = matches!(number, 2..=9) && (at < waste || at == waste && number <= 7);

@@ -71,7 +71,7 @@ fn offset(random: &mut Random) -> u32 {
 
 /// The length of a body: at the edges of sectors and pages, at exactly the room, one above it, or anything.
 fn body_length(free: usize, random: &mut Random) -> usize {
-    let room = free.clamp(1, BITS);
+    let room = free.max(1);
     let some = random.between(1, room.min(40));
     match random.below(16) {
         0 => 0,

@@ -27,7 +27,7 @@ fn meddled(folder: &Folder, library: &Path, before: &str, words: &str, at: &str,
     let mut shell = Command::new("sh");
     shell.args(["-c", &script]).arg(library).arg(TOOL).args(words.split(' '));
     shell.env("MEDDLE_AT", at).env("MEDDLE", line).current_dir(folder.path(""));
-    shell.stdin(Stdio::null()).output().expect("the shell runs")
+    heeding(&mut shell).stdin(Stdio::null()).output().expect("the shell runs")
 }
 
 /// Lines that make a file, its name, and the rights that it has in the end with the mask 027.

@@ -4,7 +4,7 @@ use std::fs;
 use varnucht::{LONGEST_BODY, Name, SectorNumber};
 
 /// The signs of all sectors, by sector number, from what `map` prints.
-fn signs(map: &str) -> Vec<char> {
+pub fn signs(map: &str) -> Vec<char> {
     let lines: Vec<Vec<char>> = map.lines().map(|line| line.chars().collect()).collect();
     let sign = |number: SectorNumber| {
         let (track, sector) = (usize::from(number.track().number()), usize::from(number.sector().number()));

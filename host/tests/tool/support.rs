@@ -1,13 +1,14 @@
 //! What the tests of the tool share: a folder of their own, and the tool run as a process.
 #![allow(dead_code)] // Each test file uses a part of this.
-use std::ffi::OsStr;
+use std::ffi::{OsStr, c_int};
 use std::fs;
 use std::io::Write;
+use std::os::unix::process::CommandExt;
 use std::path::{Path, PathBuf};
 use std::process::{Command, Output, Stdio};
 use std::sync::atomic::{AtomicUsize, Ordering};
 use std::time::{Duration, Instant, SystemTime};
-use varnucht::{CarriedKind, Disk, Image, NewFile, NewName, Start};
+use varnucht::{CarriedKind, Directory, Disk, Image, NewFile, NewName, Start};
 
 /// The tool.
 pub const TOOL: &str = env!("CARGO_BIN_EXE_varnucht");
@@ -110,6 +111,25 @@ pub fn tool<S: AsRef<OsStr>>(words: impl IntoIterator<Item = S>) -> Command {
     command
 }
 
+unsafe extern "C" {
+    fn signal(number: c_int, action: usize) -> usize;
+}
+
+/// Lets a program heed HUP, INT and TERM, even where the tests themselves were started with some of them ignored, as by `nohup`:
+/// what is ignored stays so in all that is started, and a shell cannot take it back.
+pub fn heeding(command: &mut Command) -> &mut Command {
+    const USUAL: usize = 0;
+    // SAFETY: between the fork and the start of the program this sets what signals do, and nothing else.
+    unsafe {
+        command.pre_exec(|| {
+            for number in [1, 2, 15] {
+                signal(number, USUAL);
+            }
+            Ok(())
+        })
+    }
+}
+
 /// Runs the tool with these words.
 pub fn run<S: AsRef<OsStr>>(words: impl IntoIterator<Item = S>) -> Run {
     Run::of(tool(words).output().expect("the tool runs"))
@@ -178,6 +198,9 @@ pub fn plain(text: &str) -> String {
     })
 }
 
+/// What `check` says of a good disk with a directory of four tracks.
+pub const ACCEPTED: &str = "accepted, 4 directory tracks\n";
+
 /// No more words.
 pub const NONE: [&str; 0] = [];
 
@@ -190,7 +213,12 @@ pub fn body(length: usize) -> Vec<u8> {
 
 /// A disk with these files of code, by name and length.
 pub fn disk<S: AsRef<str>>(files: &[(S, usize)]) -> Disk {
-    let mut disk = Disk::open(Image::blank()).expect("a blank disk is accepted");
+    disk_with(Directory::default(), files)
+}
+
+/// The same with a directory of this size.
+pub fn disk_with<S: AsRef<str>>(directory: Directory, files: &[(S, usize)]) -> Disk {
+    let mut disk = Disk::open(Image::blank_with(directory)).expect("a blank disk is accepted");
     for (name, length) in files {
         let body = body(*length);
         let (name, start) = (

@@ -133,7 +133,7 @@ fn a_signal_takes_the_line_away() {
         .env("LD_PRELOAD", both.join(":"))
         .env("MEDDLE_AT", "flush 12")
         .env("MEDDLE", "kill -INT $PPID");
-    let output = command.output().unwrap();
+    let output = heeding(&mut command).output().unwrap();
     let shown = String::from_utf8_lossy(&output.stderr);
     assert_eq!((output.status.signal(), output.stdout.len()), (Some(2), 0), "{shown}");
     let (written, after) = followed(&shown);

@@ -142,7 +142,7 @@ fn a_file_that_may_not_be_written() {
         powerless(&mut tool(words), &folder).fails(3, "disk.mgt: Permission denied");
         assert!(state(&image) == before);
     }
-    assert_eq!(powerless(&mut tool(["check", path]), &folder).done(), "accepted\n");
+    assert_eq!(powerless(&mut tool(["check", path]), &folder).done(), ACCEPTED);
     assert!(
         powerless(&mut tool(["erase", path, "ONE", "--dry-run"]), &folder)
             .done()

@@ -261,13 +261,15 @@ impl Drop for Scene {
     }
 }
 
-/// A disk with no file: its directory ends at slot 1, and every slot behind holds old bytes, so that saves clear names.
+/// A disk with no file and six directory tracks: its directory ends at slot 1, and every slot behind holds old bytes, so that
+/// saves clear names.
 fn old_directory() -> Vec<u8> {
     let mut image = vec![0; 819_200];
-    for track in 0..4 {
+    for track in 0..6 {
         image[track * 10_240..][..5_120].fill(99);
     }
     image[1] = 0;
+    image[255] = 2;
     image
 }
 

@@ -1,5 +1,7 @@
--- `bytereports::add` meets its contract: 20, or what the call on the numbers gives, as bytes.
-use Rattle.bytereports.proofs.Kept.{adding-short, adding-kept}
+-- `bytereports::add` meets its contract: 20, 31, or the disk is counted.
+use native.Mathlib.Omega.{arith}
+use Rattle.bytereports.proofs.Raising.{numbered-is}
+use Rattle.bytereports.proofs.Kept.{adding-short, adding-full, adding-done}
 use borrow.Author.Needs.{needs}
 use Rattle.bytereports.proofs.add.Statement.{statement}
 use Rattle.bytereports.proofs.add.Tie as tie
@@ -10,23 +12,36 @@ no-requires c κs = search needs
 returns : tie.Need-returns
 returns c = adding-short _ _ (c .before .if1 .taken) (c .no .ensures)
 
-report-in-requires : tie.Need-report-in-requires
-report-in-requires c κs = search needs
+disks-in-requires : tie.Need-disks-in-requires
+disks-in-requires c κs = search needs
 
-add-requires : tie.Need-add-requires
-add-requires c κs = search needs
+add-disks : tie.Need-add-disks
+add-disks c = search needs
 
-keep-requires : tie.Need-keep-requires
-keep-requires c κs = search needs
+no-requires-2 : tie.Need-no-requires-2
+no-requires-2 c κs = search needs
 
 same-length : tie.Need-same-length
 same-length c = search needs
 
 returns-2 : tie.Need-returns-2
 returns-2 c =
-    let k = c .before .before in
-    let a = k .before .before in
-    adding-kept _ _ (a .before .before .before .if1 .left) (a .before .report-in .ensures) (a .add .ensures) (k .keep .ensures .0) (k .keep .ensures .1)
+    let a = c .before .before in
+    adding-full _ _ (a .before .before .if1 .left) (a .disks-in .ensures .0) (c .before .if2 .taken) (c .no2 .ensures)
+
+count-disk-requires : tie.Need-count-disk-requires
+count-disk-requires c κs = search needs
+
+same-length-2 : tie.Need-same-length-2
+same-length-2 c = search needs
+
+returns-3 : tie.Need-returns-3
+returns-3 c =
+    let d = c .before .before in
+    let e = d .before .before in
+    let a = e .before in
+    let h = a .before .before .if1 .left in
+    adding-done _ _ h (a .disks-in .ensures .0) (e .if2 .left) (numbered-is _ _ _ h (λ k. omega (arith, c .slice-known2 .given k)) (d .count-disk .ensures))
 
 pub add-spec : {M : Type 1} → statement M
 add-spec =
@@ -34,8 +49,11 @@ add-spec =
     (tie.spec
     no-requires
     returns
-    report-in-requires
-    add-requires
-    keep-requires
+    disks-in-requires
+    add-disks
+    no-requires-2
     same-length
-    returns-2)
+    returns-2
+    count-disk-requires
+    same-length-2
+    returns-3)

@@ -9,8 +9,16 @@ pub fn blank() -> Vec<u8> {
     vec![0; IMAGE]
 }
 
-pub fn refused<T>(number: u8, slot: u8) -> Result<T, Refused> {
+pub fn refused<T>(number: u8, slot: usize) -> Result<T, Refused> {
+    let slot = slot as u16;
     Err(Refused { number, slot })
+}
+
+/// A blank disk whose directory has so many tracks beyond four.
+pub fn blank_with(extra: u8) -> Vec<u8> {
+    let mut image = blank();
+    image[255] = extra;
+    image
 }
 
 /// A wish that nothing stands against on a blank disk.
@@ -45,8 +53,15 @@ pub fn numbers(list: &[u8]) -> Vec<usize> {
         .collect()
 }
 
+/// Where slot 1 to 778 begins; track 4 sector 1 is passed over.
 pub fn slot_place(slot: usize) -> usize {
-    (slot - 1) / 20 * 10_240 + (slot - 1) % 20 * 256
+    let before = if slot > 80 { slot + 1 } else { slot - 1 };
+    before / 20 * 10_240 + before % 20 * 256
+}
+
+/// Whether a byte of slot 1 is about the disk, so that a save keeps it.
+pub fn is_kept(at: usize) -> bool {
+    matches!(at, 210..=219 | 252 | 253 | 255)
 }
 
 /// The numbers of the sectors that differ.

@@ -5,7 +5,7 @@ use crate::support::asking::Asked;
 use crate::support::calls::{self, CALLS, Call, NAME, OUT};
 use crate::support::disks::{self, Disk};
 use crate::support::fields;
-use crate::support::geometry::{BITS, SECTOR, SLOT, SLOTS, fills, slot_place, slot_sector};
+use crate::support::geometry::{BITS, EXTRA, SECTOR, SLOT, SLOTS, fills, slot_place, slot_sector};
 use crate::support::random::Random;
 use crate::support::shapes::{Ground, Order, Shape};
 
@@ -20,6 +20,7 @@ fn full_to(last: usize) -> Disk {
     let fits = |disk: &Disk| fields::is_carried(disk.files[last - 1].kind);
     let drawn = (0..).map(|seed| {
         let shape = Shape {
+            extra: 0,
             files: (1..=last).map(|slot| (slot, 2)).collect(),
             end: None,
             order: Order::Scattered,
@@ -85,7 +86,7 @@ fn faults_behind_the_end() {
 fn ends_at(disk: &Disk, end: usize) {
     expect(&Asked::new(Call::Check), &disk.image, 0);
     expect(&Asked::new(Call::CheckRelease), &disk.image, 0);
-    for call in CALLS.into_iter().filter(|call| call.takes().contains(&NAME)) {
+    for call in CALLS.into_iter().filter(|call| call.needs_name()) {
         expect(&Asked::new(call), &disk.image, 12);
     }
     let files = end - 1;
@@ -111,6 +112,7 @@ fn rubbish_from_the_end_on() {
             disk.slot_mut(slot).fill(99);
         }
         disk.slot_mut(end)[fields::NAME] = 0;
+        disk.image[EXTRA] = 255;
         ends_at(&disk, end);
     }
 }
@@ -134,6 +136,7 @@ fn ending(end: usize, byte_0: u8, next: Next) -> Disk {
         disk.slot_mut(slot).fill(0x77);
     }
     disk.slot_mut(end)[..2].copy_from_slice(&[byte_0, 0]);
+    disk.image[EXTRA] = 255;
     if end < SLOTS {
         let bytes = match next {
             Next::Live => [19, b'X'],

@@ -2,6 +2,7 @@
 //! document 01 gives is written here too, so that `paper` is not the only one to say it.
 
 mod arguments;
+mod bigger;
 mod bodies;
 mod buffers;
 mod ends;
@@ -11,6 +12,7 @@ mod order;
 mod release;
 mod slots;
 mod spectrum;
+mod tree;
 
 use crate::support::asking::Asked;
 use crate::support::calls::{self, BODY, Call, NAME, OUT};

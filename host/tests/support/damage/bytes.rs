@@ -3,7 +3,7 @@
 use super::{Damage, Outcome};
 use crate::support::disks::Disk;
 use crate::support::fields;
-use crate::support::geometry::{IMAGE, PAYLOAD, SLOT, SLOTS, slot_place};
+use crate::support::geometry::{IMAGE, PAYLOAD, SLOT, slot_place};
 use crate::support::random::Random;
 
 #[rustfmt::skip]
@@ -53,7 +53,7 @@ fn revived(disk: &mut Disk, _: usize, random: &mut Random) -> Option<Outcome> {
 
 fn copied(disk: &mut Disk, index: usize, random: &mut Random) -> Option<Outcome> {
     let from = slot_place(disk.files[index].slot);
-    let to = slot_place(random.between(1, SLOTS));
+    let to = slot_place(random.between(1, disk.slots()));
     disk.image.copy_within(from..from + SLOT, to);
     Some(Outcome::Open)
 }

@@ -3,7 +3,7 @@
 use super::{Damage, Outcome};
 use crate::support::disks::Disk;
 use crate::support::fields;
-use crate::support::geometry::{SLOT, SLOTS, slot_place};
+use crate::support::geometry::{SLOT, slot_place};
 use crate::support::random::Random;
 
 #[rustfmt::skip]
@@ -17,7 +17,7 @@ pub const ALL: &[&Damage] = &[
 
 /// The slots from the end on.
 fn unread(disk: &Disk) -> Option<Vec<usize>> {
-    Some((disk.end?..=SLOTS).collect())
+    Some((disk.end?..=disk.slots()).collect())
 }
 
 /// Drawn bytes in each of them; the end stays without a name.

@@ -3,7 +3,7 @@
 use super::{Damage, Outcome};
 use crate::support::disks::Disk;
 use crate::support::fields;
-use crate::support::geometry::{BITS, address};
+use crate::support::geometry::{BITS, address, is_data};
 use crate::support::random::Random;
 
 #[rustfmt::skip]
@@ -22,7 +22,11 @@ fn first(disk: &mut Disk, index: usize, at: [u8; 2], number: u8) -> Option<Outco
 }
 
 fn first_in_directory(disk: &mut Disk, index: usize, random: &mut Random) -> Option<Outcome> {
-    let at = [random.below(4) as u8, random.between(1, 10) as u8];
+    let inside: Vec<usize> = (0..BITS).filter(|&bit| !is_data(bit, disk.extra)).collect();
+    let at = match inside.is_empty() || random.coin() {
+        true => [random.below(4) as u8, random.between(1, 10) as u8],
+        false => address(random.pick(&inside)),
+    };
     first(disk, index, at, 6)
 }
 

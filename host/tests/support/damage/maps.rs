@@ -3,7 +3,7 @@
 use super::{Damage, Outcome};
 use crate::support::disks::Disk;
 use crate::support::fields;
-use crate::support::geometry::{BITS, address};
+use crate::support::geometry::{BITS, address, is_data};
 use crate::support::random::Random;
 
 #[rustfmt::skip]
@@ -17,6 +17,9 @@ pub const ALL: &[&Damage] = &[
     &Damage { title: "a bit of an earlier file more", own: false, apply: shared_with_earlier },
     &Damage { title: "a bit of a later file more", own: false, apply: shared_with_later },
     &Damage { title: "a bit moved to an earlier file's", own: false, apply: moved_to_earlier },
+    &Damage { title: "a bit moved into the directory", own: true, apply: moved_inside },
+    &Damage { title: "a bit inside the directory and a count more", own: true, apply: counted_inside },
+    &Damage { title: "the first address and its bit inside the directory", own: true, apply: first_inside },
     &Damage { title: "the first address and its bit an earlier file's", own: false, apply: first_of_earlier },
 ];
 
@@ -68,10 +71,9 @@ fn shared_with_earlier(disk: &mut Disk, index: usize, random: &mut Random) -> Op
 }
 
 fn shared_with_later(disk: &mut Disk, index: usize, random: &mut Random) -> Option<Outcome> {
-    if index + 1 == disk.files.len() {
-        return None;
-    }
-    let later = random.between(index + 1, disk.files.len() - 1);
+    let with_sectors = |&later: &usize| !disk.files[later].chain.is_empty();
+    let later = some((index + 1..disk.files.len()).filter(with_sectors).collect())?;
+    let later = random.pick(&later);
     let bit = random.pick(&disk.files[later].chain);
     counted(disk, index, bit);
     Some(Outcome::Refused(8, disk.files[later].slot))
@@ -91,6 +93,27 @@ fn first_of_earlier(disk: &mut Disk, index: usize, random: &mut Random) -> Optio
     let at = address(to);
     disk.slot_mut(slot)[fields::FIRST..fields::MAP].copy_from_slice(&at);
     Some(Outcome::Refused(8, slot))
+}
+
+fn moved_inside(disk: &mut Disk, index: usize, random: &mut Random) -> Option<Outcome> {
+    let to = random.pick(&inside(disk)?);
+    let from = later_bit(disk, index, random)?;
+    Some(Outcome::Refused(6, moved(disk, index, from, to)))
+}
+
+fn counted_inside(disk: &mut Disk, index: usize, random: &mut Random) -> Option<Outcome> {
+    let bit = random.pick(&inside(disk)?);
+    let fits = disk.files[index].chain.len() < disk.data();
+    fits.then(|| Outcome::Refused(6, counted(disk, index, bit)))
+}
+
+/// A file whose chain begins in the directory, with the map to fit.
+fn first_inside(disk: &mut Disk, index: usize, random: &mut Random) -> Option<Outcome> {
+    let to = random.pick(&inside(disk)?);
+    let from = disk.files[index].chain[0];
+    let slot = moved(disk, index, from, to);
+    disk.slot_mut(slot)[fields::FIRST..fields::MAP].copy_from_slice(&address(to));
+    Some(Outcome::Refused(6, slot))
 }
 
 /// One bit cleared and one set, so that the number stays. Gives the slot.
@@ -116,10 +139,8 @@ fn later_bit(disk: &Disk, index: usize, random: &mut Random) -> Option<usize> {
 }
 
 fn bit_of_earlier(disk: &Disk, index: usize, random: &mut Random) -> Option<usize> {
-    (index > 0).then(|| {
-        let earlier = random.below(index);
-        random.pick(&disk.files[earlier].chain)
-    })
+    let earlier = disk.files[..index].iter().flat_map(|file| file.chain.iter().copied());
+    some(earlier.collect()).map(|bits| random.pick(&bits))
 }
 
 /// The bits that are not this file's.
@@ -128,16 +149,24 @@ fn others(disk: &Disk, index: usize) -> Option<Vec<usize>> {
     some((0..BITS).filter(|bit| !chain.contains(bit)).collect())
 }
 
-/// The bits that are no file's.
+/// The bits of the directory's own sectors, its edges often.
+fn inside(disk: &Disk) -> Option<Vec<usize>> {
+    let mut bits: Vec<usize> = (0..BITS).filter(|&bit| !is_data(bit, disk.extra)).collect();
+    let edges = bits.iter().copied().filter(|&bit| bit == 1 || bit + 1 == 10 * disk.extra);
+    bits.extend(edges.collect::<Vec<_>>().repeat(bits.len() / 4));
+    some(bits)
+}
+
+/// The data sectors' bits that are no file's.
 fn free(disk: &Disk) -> Option<Vec<usize>> {
     let mut used = [false; BITS];
     disk.files
         .iter()
         .flat_map(|file| &file.chain)
         .for_each(|&bit| used[bit] = true);
-    some((0..BITS).filter(|&bit| !used[bit]).collect())
+    some((0..BITS).filter(|&bit| !used[bit] && is_data(bit, disk.extra)).collect())
 }
 
-fn some(bits: Vec<usize>) -> Option<Vec<usize>> {
-    if bits.is_empty() { None } else { Some(bits) }
+fn some(numbers: Vec<usize>) -> Option<Vec<usize>> {
+    if numbers.is_empty() { None } else { Some(numbers) }
 }

@@ -3,7 +3,7 @@
 use super::{Damage, Outcome};
 use crate::support::disks::Disk;
 use crate::support::fields;
-use crate::support::geometry::{BITS, fills};
+use crate::support::geometry::{BITS, EXTRA, fills};
 use crate::support::random::Random;
 
 #[rustfmt::skip]
@@ -11,6 +11,7 @@ pub const ALL: &[&Damage] = &[
     &Damage { title: "unknown kind", own: true, apply: unknown_kind },
     &Damage { title: "kind that cannot be read", own: true, apply: kind_not_read },
     &Damage { title: "kind of the Spectrum", own: true, apply: kind_of_spectrum },
+    &Damage { title: "a file made a directory", own: true, apply: made_directory },
     &Damage { title: "hidden or protected turned", own: true, apply: marks },
     &Damage { title: "erased", own: true, apply: erased },
     &Damage { title: "count out of range", own: true, apply: count_outside },
@@ -22,7 +23,7 @@ pub const ALL: &[&Damage] = &[
     &Damage { title: "bytes that no rule reads", own: true, apply: unread },
 ];
 
-fn unknown_kind(disk: &mut Disk, index: usize, random: &mut Random) -> Option<Outcome> {
+pub fn unknown_kind(disk: &mut Disk, index: usize, random: &mut Random) -> Option<Outcome> {
     let slot = disk.files[index].slot;
     let kind = loop {
         let byte = random.byte();
@@ -36,7 +37,7 @@ fn unknown_kind(disk: &mut Disk, index: usize, random: &mut Random) -> Option<Ou
 
 /// A kind made one that is only known: its header is looked at no more.
 fn kind_not_read(disk: &mut Disk, index: usize, random: &mut Random) -> Option<Outcome> {
-    set_kind(disk, index, random.pick(&[5, 6, 12, 21, 22, 23]));
+    set_kind(disk, index, random.pick(&[5, 6, 12, 22, 23]));
     Some(Outcome::Accepted)
 }
 
@@ -52,19 +53,25 @@ fn kind_of_spectrum(disk: &mut Disk, index: usize, random: &mut Random) -> Optio
     })
 }
 
-fn set_kind(disk: &mut Disk, index: usize, kind: u8) {
+/// A directory has no sectors.
+fn made_directory(disk: &mut Disk, index: usize, _: &mut Random) -> Option<Outcome> {
+    set_kind(disk, index, fields::DIRECTORY);
+    Some(Outcome::Refused(4, disk.files[index].slot))
+}
+
+pub fn set_kind(disk: &mut Disk, index: usize, kind: u8) {
     let slot = disk.files[index].slot;
     let byte = &mut disk.slot_mut(slot)[0];
     *byte = *byte & 192 | kind;
 }
 
-fn marks(disk: &mut Disk, index: usize, random: &mut Random) -> Option<Outcome> {
+pub fn marks(disk: &mut Disk, index: usize, random: &mut Random) -> Option<Outcome> {
     let slot = disk.files[index].slot;
     disk.slot_mut(slot)[0] ^= random.pick(&[64, 128, 192]);
     Some(Outcome::Accepted)
 }
 
-fn erased(disk: &mut Disk, index: usize, _: &mut Random) -> Option<Outcome> {
+pub fn erased(disk: &mut Disk, index: usize, _: &mut Random) -> Option<Outcome> {
     let slot = disk.files[index].slot;
     disk.slot_mut(slot)[0] = 0;
     Some(Outcome::Accepted)
@@ -72,7 +79,7 @@ fn erased(disk: &mut Disk, index: usize, _: &mut Random) -> Option<Outcome> {
 
 fn count_outside(disk: &mut Disk, index: usize, random: &mut Random) -> Option<Outcome> {
     let slot = disk.files[index].slot;
-    let count = random.pick(&[0, BITS + 1, BITS + 2, 2_048, 32_768, 65_535]);
+    let count = random.pick(&[0, disk.data() + 1, disk.data() + 2, BITS + 1, 2_048, 32_768, 65_535]);
     fields::set_count(disk.slot_mut(slot), count);
     Some(Outcome::Refused(4, slot))
 }
@@ -96,7 +103,8 @@ fn count_swapped(disk: &mut Disk, index: usize, _: &mut Random) -> Option<Outcom
 fn miscounted(disk: &mut Disk, index: usize, count: usize) -> Option<Outcome> {
     let slot = disk.files[index].slot;
     fields::set_count(disk.slot_mut(slot), count);
-    Some(Outcome::Refused(if (1..=BITS).contains(&count) { 5 } else { 4 }, slot))
+    let number = if (1..=disk.data()).contains(&count) { 5 } else { 4 };
+    Some(Outcome::Refused(number, slot))
 }
 
 fn too_long_by_one(disk: &mut Disk, index: usize, random: &mut Random) -> Option<Outcome> {
@@ -122,10 +130,12 @@ fn too_long(disk: &mut Disk, index: usize, length: usize, random: &mut Random) -
     })
 }
 
-/// Bytes 210 to 238 and 242 to 255: information, start, execution bytes, and those without a name.
+/// Bytes 210 to 238 and 242 to 255: information, start, execution bytes, and those without a name; of slot 1 not that which says
+/// the directory tracks.
 fn unread(disk: &mut Disk, index: usize, random: &mut Random) -> Option<Outcome> {
-    let slot = disk.files[index].slot;
+    let (slot, extra) = (disk.files[index].slot, disk.image[EXTRA]);
     random.fill(&mut disk.slot_mut(slot)[fields::MAP + fields::MAP_BYTES..fields::PAGES]);
     random.fill(&mut disk.slot_mut(slot)[fields::EXEC..]);
+    disk.image[EXTRA] = extra;
     Some(Outcome::Accepted)
 }
