@@ -1,6 +1,6 @@
 /* Varnucht: disk images of the SAM Coupé. Check a disk, list it, read a file's body, whole or piece by piece, give its start
- * address, find a raw sector; save, erase, rename, hide, show, protect and release files; count a shelf of disks. C99 and
- * C++. Link libvarnucht.a.
+ * address, tell what lies beneath a subdirectory, find a raw sector; save, erase, rename, hide, show, protect and release
+ * files; count a shelf of disks. C99 and C++. Link libvarnucht.a.
  *
  * Contents: 1 what a call takes and answers, 2 sizes, 3 refusals, 4 the calls that read, 5 the calls that change, and how
  * to write what they changed, 6 reading a listing, and what a disk says of itself, 7 names and kinds, 8 what is proved and
@@ -13,16 +13,17 @@
  * A slice is a pointer and then its length in bytes. It may have any length and any content: every call on every input ends
  * and answers. NULL with length 0 is an empty slice.
  *
- * A slice with a `const` pointer is only read. A slice without one (`out`, `list`, the `image` of a change) may be changed,
- * and must not overlap any other slice of the same call. Slices that are only read may overlap each other. The likely
- * mistake is a name that points into the image that the call changes, or into the buffer that it fills: copy the name out
- * first.
+ * A slice with a `const` pointer is only read. A slice without one (`out`, `slots`, `list`, the `image` of a change) may be
+ * changed, and must not overlap any other slice of the same call. Slices that are only read may overlap each other. The
+ * likely mistake is a name that points into the image that the call changes, or into the buffer that it fills: copy the name
+ * out first.
  *
  * You own every buffer before, during and after a call. The library allocates nothing, keeps no pointer and has no state:
  * what a call does depends on its arguments alone. So calls on different buffers may run at once on different threads, and
  * calls that only read may share an image. Nobody may read or write a buffer while a call that may change it is running.
  * Nothing outside is called but memcpy, memset and their like. A save needs less than 8 KiB of stack, every other call
- * less than 2 KiB.
+ * less than 2 KiB; but varnucht_tree less than 5 KiB where no more than ten subdirectories lie inside each other, and 128
+ * bytes more for each beyond them: less than 36 KiB on any disk.
  *
  * Every call answers one number with four parts, which the functions below take apart:
  *
@@ -46,9 +47,10 @@
  * and name, how many sectors the file has (its count), which they are (its map, a bit for each sector that can be data) and
  * which is the first. The sectors that are not the directory's are the data sectors: 1,560, or 1,561 - 10 * n where n is
  * above 0. Each holds 510 bytes of a file and the address of the file's next sector; that is its chain. A file that can be
- * read (section 7) begins with a header of 9 bytes, and its body follows. Every call on a disk but varnucht_sector and
- * varnucht_next checks the whole disk first: you need not call varnucht_check before it. varnucht_report_add refuses no
- * disk: it counts it.
+ * read (section 7) begins with a header of 9 bytes, and its body follows. A live slot of kind 21 is no file but a
+ * subdirectory: it has a name and no sectors, and other live slots say that they are in it (section 7). What is said of files
+ * below holds of it too. Every call on a disk but varnucht_sector and varnucht_next checks the whole disk first: you need not
+ * call varnucht_check before it. varnucht_report_add refuses no disk: it counts it.
  */
 #ifndef VARNUCHT_H
 #define VARNUCHT_H
@@ -76,6 +78,7 @@ enum varnucht_size {
     VARNUCHT_EXEC_BYTES = 3,            /* execution bytes of a save */
     VARNUCHT_ENTRY_BYTES = 258,         /* one file of a listing */
     VARNUCHT_LISTING_BYTES = 200724,    /* `out` of varnucht_list: 778 * 258 */
+    VARNUCHT_TREE_BYTES = 1556,         /* `slots` of varnucht_tree: 778 * 2 */
     VARNUCHT_BODY_BYTES = 795591,       /* `out` of varnucht_read; the longest body on an empty disk: 510 * 1,560 - 9 */
     VARNUCHT_SAVE_LIST_BYTES = 3124,    /* `list` of varnucht_save: 2 * 1,562, the data sectors and two of the directory */
     VARNUCHT_CHANGE_LIST_BYTES = 2,     /* `list` of every other change */
@@ -85,13 +88,14 @@ enum varnucht_size {
 /* 3. REFUSALS, in the words of the rules (document 01), in the order in which they are tested: 1 first; then 24; then 2 to 9
  * at every live slot, the lowest slot first and at a slot the lowest number; then 10, 11 and 25 likewise; then the lowest
  * that applies of 12 to 20. So 12 to 20 say that the disk itself is good. varnucht_check_release alone tests 22 too, directly
- * after 7 at a slot. varnucht_sector tests 1 and then 21, and looks at no directory. varnucht_next refuses nothing. The calls
- * on reports test 20 and then 31. 3 is given no more, by any call: its number stays reserved, and "1 to 11" below is without
- * it.
+ * after 7 at a slot. varnucht_tree alone tests 26 at every live slot, the lowest slot first, and then 27 and 28 likewise;
+ * both come before 12 to 20. varnucht_erase alone tests 29, after 17 and before 20. varnucht_sector tests 1 and then 21, and
+ * looks at no directory. varnucht_next refuses nothing. The calls on reports test 20 and then 31. 3 is given no more, by any
+ * call: its number stays reserved, and "1 to 11" below is without it.
  *
- * The slot comes with 2 to 11, 22 and 25; with 13 and 14 of varnucht_read, varnucht_open and varnucht_start, where it is the
- * file's; with 16, where it is that of the file which has the new name; and with 17. With all others, 13 and 14 of
- * varnucht_save too, it is 0. */
+ * The slot comes with 2 to 11, 22 and 25 to 28; with 13 and 14 of varnucht_read, varnucht_open, varnucht_start and
+ * varnucht_tree, where it is the file's; with 16, where it is that of the file which has the new name; and with 17 and 29.
+ * With all others, 13 and 14 of varnucht_save too, it is 0. */
 enum varnucht_reason {
     VARNUCHT_ACCEPTED = 0,
     /* The disk is not good. Every call can give these, 24 and 25 but varnucht_sector, which can give 1, varnucht_next, and
@@ -99,10 +103,11 @@ enum varnucht_reason {
     VARNUCHT_NOT_AN_IMAGE = 1,          /* the image is not 819,200 bytes */
     VARNUCHT_KIND_UNKNOWN = 2,          /* the kind is not known (1 to 12 and 16 to 23 are) */
     VARNUCHT_NAME_MISSING = 3,          /* reserved, given no more: where the first name byte is 0 the directory ends */
-    VARNUCHT_COUNT_OUT_OF_RANGE = 4,    /* the count is not 1 to the number of data sectors */
+    VARNUCHT_COUNT_OUT_OF_RANGE = 4,    /* the count is not 1 to the number of data sectors, or a subdirectory's (kind 21) is
+                                           not 0 */
     VARNUCHT_BITS_DIFFER = 5,           /* the map's set bits are not as many as the count */
     VARNUCHT_FIRST_NOT_OWN = 6,         /* the first address is not a data sector, or its bit is clear, or the map has a bit
-                                           inside the directory */
+                                           inside the directory (not given for kind 21) */
     VARNUCHT_LENGTH_TOO_GREAT = 7,      /* carried kind, and 510 * count is below 9 + length */
     VARNUCHT_SECTOR_SHARED = 8,         /* the map shares a bit with an earlier live slot */
     VARNUCHT_NAME_TWICE = 9,            /* the name is an earlier live slot's, capitals or not (section 7) */
@@ -113,7 +118,7 @@ enum varnucht_reason {
     /* The request is not good, or cannot be met. Each call says which of these it can give. */
     VARNUCHT_NAME_NOT_USABLE = 12,      /* the name is not usable: section 7 */
     VARNUCHT_WRONG_KIND = 13,           /* the kind asked for (save: 16 to 20) or found (read, open, start: 16 to 20 and 1
-                                           to 4) is not one that this call takes */
+                                           to 4; tree: 21) is not one that this call takes */
     VARNUCHT_START_OUT_OF_RANGE = 14,   /* start page above 31, or offset outside 32,768 to 49,151 (save, start of kinds 16
                                            to 20) */
     VARNUCHT_NAME_NOT_FOUND = 15,       /* no live slot has the name, capitals or not */
@@ -130,6 +135,12 @@ enum varnucht_reason {
     /* The disk is not good, as with 1 to 11; the same calls can give these, but varnucht_sector. */
     VARNUCHT_TRACKS_OUT_OF_RANGE = 24,  /* the number of directory tracks beyond four, byte 255 of slot 1, is 36 to 254 */
     VARNUCHT_BODY_TOO_LONG = 25,        /* kind 1 to 4, and 510 * count is below 9 + the length in the file's header */
+    /* The subdirectories of the disk do not fit together (varnucht_tree alone). Every other call takes such a disk still. */
+    VARNUCHT_CODE_NOT_OWN = 26,         /* a directory with code 0 or an earlier directory's code */
+    VARNUCHT_DIRECTORY_MISSING = 27,    /* a live slot's byte 254 is not 0 and no directory's code: what it is in is gone */
+    VARNUCHT_DIRECTORY_IN_ITSELF = 28,  /* a directory lies inside itself at some depth */
+    /* A subdirectory is not empty. */
+    VARNUCHT_DIRECTORY_NOT_EMPTY = 29,  /* a directory whose code, not 0, is another live slot's byte 254 (erase) */
     /* The shelf is full. */
     VARNUCHT_REPORT_FULL = 31           /* a disk or join that would pass 65,535 disks (the calls on reports alone) */
 };
@@ -141,7 +152,8 @@ static inline const char *varnucht_words(unsigned refusal) {
     case VARNUCHT_NOT_AN_IMAGE: return "the image is not 819,200 bytes";
     case VARNUCHT_KIND_UNKNOWN: return "the kind is not known";
     case VARNUCHT_NAME_MISSING: return "the first name byte is 0 (given no more)";
-    case VARNUCHT_COUNT_OUT_OF_RANGE: return "the count is not 1 to the number of data sectors";
+    case VARNUCHT_COUNT_OUT_OF_RANGE:
+        return "the count is not 1 to the number of data sectors, or a directory's is not 0";
     case VARNUCHT_BITS_DIFFER: return "the map's set bits are not as many as the count";
     case VARNUCHT_FIRST_NOT_OWN:
         return "the first address is not a data sector, or its bit is clear, or the map has a bit inside the directory";
@@ -155,7 +167,7 @@ static inline const char *varnucht_words(unsigned refusal) {
                "kind, remainder, pages";
     case VARNUCHT_NAME_NOT_USABLE: return "the name is not usable";
     case VARNUCHT_WRONG_KIND:
-        return "the kind asked for (save) or found (read, start address) is not one that this call takes";
+        return "the kind asked for (save) or found (read, start address, tree) is not one that this call takes";
     case VARNUCHT_START_OUT_OF_RANGE:
         return "start page above 31, or offset outside 32,768 to 49,151 (save, start address)";
     case VARNUCHT_NAME_NOT_FOUND: return "no live slot has the name, capitals or not";
@@ -171,14 +183,18 @@ static inline const char *varnucht_words(unsigned refusal) {
         return "the number of directory tracks beyond four, byte 255 of slot 1, is 36 to 254";
     case VARNUCHT_BODY_TOO_LONG: /* with a multiplication sign */
         return "kind 1 to 4, and 510 \xc3\x97 count is below 9 + the length in the header";
+    case VARNUCHT_CODE_NOT_OWN: return "a directory with code 0 or an earlier directory's code (tree)";
+    case VARNUCHT_DIRECTORY_MISSING: return "a live slot's byte 254 is not 0 and no directory's code (tree)";
+    case VARNUCHT_DIRECTORY_IN_ITSELF: return "a directory lies inside itself at some depth (tree)";
+    case VARNUCHT_DIRECTORY_NOT_EMPTY: return "a directory whose code, not 0, is another live slot's byte 254 (erase)";
     case VARNUCHT_REPORT_FULL: return "a disk or join that would pass 65,535 disks";
     default: return "not a number of refusal";
     }
 }
 
-/* 4. THE CALLS THAT READ. They change nothing but `out`, or `report`. `image` is the disk; anything but 819,200 bytes is
+/* 4. THE CALLS THAT READ. They change nothing but `out`, `slots` or `report`. `image` is the disk; anything but 819,200 bytes is
  * refused 1, but not by varnucht_next, which refuses nothing, nor by varnucht_report_add, which counts it. A name has 1 to 10
- * bytes (section 7). What a call does not fill of `out` stays as it was. */
+ * bytes (section 7). What a call does not fill of `out` or `slots` stays as it was. */
 
 /* Whether the disk is good. Its directory up to its end, sector maps and chains agree exactly when this accepts. Value: 0.
  * Refusals: 1 to 11, 24, 25. */
@@ -272,6 +288,18 @@ static inline size_t varnucht_reader_next(struct varnucht_reader *reader, const 
  * Refusals: 1 to 11, 24, 25, 12, 13, 14, 15. */
 uint64_t varnucht_start(const uint8_t *image, size_t image_len, const uint8_t *name, size_t name_len);
 
+/* What lies beneath a subdirectory: the files and subdirectories in it, those in these, and so on, to whatever depth. To the
+ * front of `slots` come the numbers of their slots, each once, two bytes to a number, low byte first (varnucht_listed reads
+ * them). Those in one directory come by rising slot, and a subdirectory is directly followed by all that lies beneath it.
+ *   name   the subdirectory's; an empty one (length 0) is the root, and beneath it lies every file of the disk
+ * Value: how many, 0 to 778. `slots`: two bytes for each, and VARNUCHT_TREE_BYTES always suffice; a buffer of L bytes has
+ * room for L / 2 numbers. A listing has all else that the slots say, and varnucht_entry_code and varnucht_entry_parent tell
+ * which of them is in which.
+ * Refusals: 1 to 11, 24, 25, 26, 27, 28, 12, 13 (not a subdirectory), 15, 20. On a disk with 255 subdirectories, each inside
+ * the one before, which are as many as there can be, Stack: 35,536 bytes. */
+uint64_t varnucht_tree(const uint8_t *image, size_t image_len, const uint8_t *name, size_t name_len, uint8_t *slots,
+                       size_t slots_len);
+
 /* A raw sector of one of two disks, whatever they hold: no directory is looked at.
  *   one, two   the images of drives 1 and 2. Both must have 819,200 bytes, whichever is chosen; they may be the same bytes
  *   drive      1 or 2
@@ -304,9 +332,9 @@ enum varnucht_report_place {
     VARNUCHT_REPORT_KINDS = 33,         /* + k, 0 to 63: how many files have kind k, hidden ones too */
     VARNUCHT_REPORT_FILE_SECTORS = 97,  /* the sectors of all files */
     VARNUCHT_REPORT_FREE_SECTORS = 98,  /* the free sectors of the accepted disks */
-    VARNUCHT_REPORT_CLASSES = 99,       /* + c, 0 to 11: how many files have 0 sectors, 1, 2 to 3, 4 to 7, .., 512 to 1,023,
-                                           1,024 and more. They add up to the files. From 111 on nothing is counted, and
-                                           what stands there stays */
+    VARNUCHT_REPORT_CLASSES = 99,       /* + c, 0 to 11: how many files have 0 sectors (subdirectories, kind 21), 1, 2 to 3,
+                                           4 to 7, .., 512 to 1,023, 1,024 and more. They add up to the files. From 111 on
+                                           nothing is counted, and what stands there stays */
     VARNUCHT_REPORT_CLASS_COUNT = 12
 };
 
@@ -380,7 +408,8 @@ uint64_t varnucht_save(uint8_t *image, size_t image_len, uint32_t kind, const ui
                        uint32_t offset, const uint8_t *exec, size_t exec_len, const uint8_t *info, size_t info_len,
                        const uint8_t *body, size_t body_len, uint8_t *list, size_t list_len);
 
-/* Erases a file: its slot and its sectors are free from then on. Value: 1. Refusals: 1 to 11, 24, 25, 12, 15, 17, 20. */
+/* Erases a file: its slot and its sectors are free from then on. A subdirectory is erased where nothing is in it, else it is
+ * refused 29. Value: 1. Refusals: 1 to 11, 24, 25, 12, 15, 17, 29, 20. */
 uint64_t varnucht_erase(uint8_t *image, size_t image_len, const uint8_t *name, size_t name_len, uint8_t *list,
                         size_t list_len);
 
@@ -419,7 +448,9 @@ enum varnucht_entry_field {
     VARNUCHT_ENTRY_OFFSET = 239,        /* 2 bytes, low byte first */
     VARNUCHT_ENTRY_PAGES = 241,         /* whole pages of 16,384 bytes in the length */
     VARNUCHT_ENTRY_REMAINDER = 242,     /* 2 bytes, low byte first, bits 0 to 13: the rest of the length */
-    VARNUCHT_ENTRY_EXEC = 244           /* 3 bytes */
+    VARNUCHT_ENTRY_EXEC = 244,          /* 3 bytes */
+    VARNUCHT_ENTRY_CODE = 252,          /* of a subdirectory (kind 21) alone: its code */
+    VARNUCHT_ENTRY_PARENT = 256         /* the code of the subdirectory that it is in, 0 for the root */
 };
 
 /* Entry i of a listing, i below the value that varnucht_list answered. */
@@ -458,7 +489,15 @@ static inline size_t varnucht_entry_name_len(const uint8_t *entry) {
     return len;
 }
 
-/* How many sectors the file takes, 1 to 1,560. */
+/* Whether it is a subdirectory, kind 21; its code, 1 to 255, where it is one (0 on a disk that varnucht_tree refuses 26),
+ * else 0; and the code of the subdirectory that it is in, 0 for the root. */
+static inline int varnucht_entry_directory(const uint8_t *entry) { return varnucht_entry_kind(entry) == 21; }
+static inline unsigned varnucht_entry_code(const uint8_t *entry) {
+    return varnucht_entry_directory(entry) ? entry[VARNUCHT_ENTRY_CODE] : 0u;
+}
+static inline unsigned varnucht_entry_parent(const uint8_t *entry) { return entry[VARNUCHT_ENTRY_PARENT]; }
+
+/* How many sectors the file takes, 1 to 1,560; a subdirectory takes 0. */
 static inline unsigned varnucht_entry_sectors(const uint8_t *entry) {
     return 256u * entry[VARNUCHT_ENTRY_SECTORS] + entry[VARNUCHT_ENTRY_SECTORS + 1];
 }
@@ -519,7 +558,13 @@ static inline size_t varnucht_disk_name(const uint8_t *image, uint8_t *name) {
  *
  * A kind is a number. 1 to 12 and 16 to 23 are known, and their files are listed, erased, renamed and marked. Only the
  * carried kinds, 16 to 20, and those of the Spectrum with a header of the Plus D, 1 to 4, have a body and a start address
- * for these calls. Only the carried kinds can be saved. */
+ * for these calls. Only the carried kinds can be saved.
+ *
+ * Kind 21 is a subdirectory, which MasterDOS makes: a slot with a name and no sectors. It is listed, renamed, marked and,
+ * where nothing is in it, erased like a file. Byte 250 of its slot is its code, and byte 254 of every live slot is the code
+ * of the subdirectory that it is in, or 0: then it is in the root. Subdirectories may be in each other. A name is unique over
+ * the whole disk, whatever it is in, so no call but varnucht_tree looks at the codes, and varnucht_erase at those of a
+ * subdirectory. A save goes to the root. */
 enum varnucht_kind {
     VARNUCHT_KIND_ZX_BASIC = 1,         /* kinds of the Spectrum */
     VARNUCHT_KIND_ZX_NUMBERS = 2,
@@ -530,7 +575,9 @@ enum varnucht_kind {
     VARNUCHT_KIND_NUMBERS = 17,         /* a numeric array */
     VARNUCHT_KIND_STRINGS = 18,         /* a string array */
     VARNUCHT_KIND_CODE = 19,            /* machine code, or any bytes */
-    VARNUCHT_KIND_SCREEN = 20
+    VARNUCHT_KIND_SCREEN = 20,
+    /* a subdirectory */
+    VARNUCHT_KIND_DIRECTORY = 21
 };
 
 /* 8. WHAT IS PROVED AND WHERE IT RUNS

@@ -1,4 +1,4 @@
-//! The seventeen calls on byte slices: safe, and total on every input, but without types that rule anything out.
+//! The eighteen calls on byte slices: safe, and total on every input, but without types that rule anything out.
 //!
 //! Each function hands its slices to the C layer and gives back the [`Answer`]. Nothing is decided here. A refused call
 //! changes no byte of anything lent. In the changes, `list` takes the numbers of the sectors to write, two bytes to a number,
@@ -55,6 +55,22 @@ pub fn next(image: &[u8], sector: u32, offset: u32, left: u32, out: &mut [u8]) -
     // SAFETY: pointers and lengths are those of slices, and `out` is borrowed alone.
     Answer::from_number(unsafe {
         raw::varnucht_next(image.as_ptr(), image.len(), sector, offset, left, out.as_mut_ptr(), out.len())
+    })
+}
+
+/// The slots beneath a directory, or beneath the root where `name` is empty, to the front of `slots`: two bytes to a number,
+/// low byte first. A directory is directly followed by what lies beneath it. Value: how many; 1,556 bytes are always enough.
+pub fn tree(image: &[u8], name: &[u8], slots: &mut [u8]) -> Answer {
+    // SAFETY: pointers and lengths are those of slices, and `slots` is borrowed alone.
+    Answer::from_number(unsafe {
+        raw::varnucht_tree(
+            image.as_ptr(),
+            image.len(),
+            name.as_ptr(),
+            name.len(),
+            slots.as_mut_ptr(),
+            slots.len(),
+        )
     })
 }
 

@@ -46,7 +46,8 @@ impl<'a> NewFile<'a> {
 pub enum Change<'a> {
     /// Save a file under a new name. Refused 16 (the name is taken), 18 (no slot) and 19 (too few sectors).
     Save(NewFile<'a>),
-    /// Erase a file. Refused 15 (no such file) and 17 (protected).
+    /// Erase a file, or a directory that nothing is in. Refused 15 (no such file), 17 (protected) and 29 (a directory that
+    /// something is in).
     Erase(Name),
     /// Give a file another name, or the same with other capitals. Refused 15, 16 (another file has the name, or the file
     /// itself has it byte for byte) and 17.

@@ -10,6 +10,7 @@ use crate::place::SectorNumber;
 use crate::reader::Reader;
 use crate::refusal::Refused;
 use crate::sectors::{LIST_LENGTH, Sectors};
+use crate::tree::Tree;
 use std::error::Error;
 use std::fmt;
 
@@ -151,6 +152,32 @@ impl Disk {
             .map(|done| done.value)
     }
 
+    /// What lies beneath a directory, or beneath the root where no name is given: the files and directories in it, those in
+    /// these, and so on. Refused with the slot 26, 27 and 28 where the directories of the disk do not fit together, and 13
+    /// where the name is that of a file; and 15 where there is no such name.
+    ///
+    /// ```
+    /// use varnucht::{Disk, Image, Name};
+    ///
+    /// // A directory GAMES with code 7, and in it a directory ARCADE with code 8.
+    /// let mut image = Image::blank();
+    /// for (slot, name, code, parent) in [(0, "GAMES", 7, 0), (1, "ARCADE", 8, 7)] {
+    ///     let bytes = &mut image.as_bytes_mut()[256 * slot..][..256];
+    ///     bytes[..11].copy_from_slice(format!("\x15{name:<10}").as_bytes());
+    ///     (bytes[250], bytes[254]) = (code, parent);
+    /// }
+    /// let disk = Disk::open(image)?;
+    /// let root = disk.tree(None)?;
+    /// let games = root.branches().next().unwrap();
+    /// assert_eq!(games.entry().name().to_string(), "GAMES");
+    /// assert_eq!(games.branches().next().unwrap().entry().name().to_string(), "ARCADE");
+    /// assert_eq!((root.len(), disk.tree(Some(&Name::new("games")?))?.len()), (2, 1));
+    /// # Ok::<(), varnucht::Refused>(())
+    /// ```
+    pub fn tree(&self, directory: Option<&Name>) -> Result<Tree, Refused> {
+        Tree::of(&self.image, &self.listing, directory)
+    }
+
     /// Makes a change in memory and gives the sectors that are to be written. Refused as the [`Change`] says; then nothing
     /// has changed.
     ///
@@ -184,7 +211,7 @@ impl Disk {
         self.change(&Change::Save(*file))
     }
 
-    /// Erases a file: [`Change::Erase`]. Refused 15, and 17 with the slot.
+    /// Erases a file, or a directory that nothing is in: [`Change::Erase`]. Refused 15, and 17 and 29 with the slot.
     pub fn erase(&mut self, name: &Name) -> Result<Sectors<'_>, Refused> {
         self.change(&Change::Erase(*name))
     }

@@ -5,7 +5,7 @@ use crate::place::SectorNumber;
 use crate::refusal::Slot;
 use crate::start::Start;
 
-/// A live slot: a file as the directory describes it.
+/// A live slot: a file as the directory describes it, or a subdirectory.
 ///
 /// It holds the slot's number and its 256 bytes; all else is read from those.
 #[derive(Clone, Copy, PartialEq, Eq)]
@@ -57,7 +57,18 @@ impl Entry {
         Name::stored(self.part())
     }
 
-    /// How many sectors the file takes.
+    /// Its code, where it is a directory: [`Entry::parent_code`] of what is in it. None for a file.
+    pub fn code(&self) -> Option<u8> {
+        self.kind().is_directory().then_some(self.bytes[250])
+    }
+
+    /// The code of the directory that it is in, 0 for the root. [`Listing::within`](crate::Listing::within) finds that
+    /// directory.
+    pub fn parent_code(&self) -> u8 {
+        self.bytes[254]
+    }
+
+    /// How many sectors the file takes. A directory takes none.
     pub fn sector_count(&self) -> u16 {
         u16::from_be_bytes([self.bytes[11], self.bytes[12]])
     }

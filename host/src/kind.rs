@@ -41,6 +41,9 @@ const WORDS: [(u8, &str); 20] = [
 ];
 
 impl Kind {
+    /// A directory of MasterDOS.
+    pub const DIRECTORY: Kind = Kind(21);
+
     /// The kind with this number.
     pub fn new(number: u8) -> Kind {
         Kind(number)
@@ -60,6 +63,12 @@ impl Kind {
     /// start stand in that header: [`Disk::length`](crate::Disk::length) and [`Disk::start`](crate::Disk::start) give them.
     pub fn is_spectrum(self) -> bool {
         matches!(self.0, 1..=4)
+    }
+
+    /// Whether it is a directory of MasterDOS, 21. It takes a slot and no sectors: [`Disk::tree`](crate::Disk::tree) gives
+    /// what lies beneath it.
+    pub fn is_directory(self) -> bool {
+        self == Kind::DIRECTORY
     }
 
     /// The carried kind that it is; none for the others, which the library does not save. Of those it reads

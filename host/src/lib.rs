@@ -12,7 +12,8 @@
 //!
 //! Buffers are made as long as they must be, so refusal 20 is ruled out too. What is left is what only the disk itself can
 //! tell: is there a file of that name (15), is the new name free (16), is the file protected (17), is there a slot (18), are
-//! there sectors (19), does the file have a body (13) and a start address (14).
+//! there sectors (19), does the file have a body (13) and a start address (14), do its directories fit together (26 to 28),
+//! is a directory empty (29).
 //!
 //! The types are a convenience. They refuse by the library's own numbers, and tests show that each draws the line where the
 //! library does; what a type lets through still goes to the library, and what it answers is what counts.
@@ -105,6 +106,30 @@
 //! # Ok::<(), varnucht::Refused>(())
 //! ```
 //!
+//! # Subdirectories
+//!
+//! MasterDOS keeps files in directories, and directories in each other. A [`Listing`] has them all side by side, and
+//! [`Listing::within`] tells which directory a file is in; [`Disk::tree`] gives what lies beneath a directory, or beneath the
+//! root, as a [`Tree`]. A name is unique over the whole disk, so every call finds a file whatever directory it is in. A
+//! save goes to the root.
+//!
+//! ```
+//! # use varnucht::{Disk, Image};
+//! # let mut image = Image::blank();
+//! # for (slot, name, code, parent) in [(0, "GAMES", 7, 0), (1, "ARCADE", 8, 7), (2, "MUSIC", 9, 0)] {
+//! #     let bytes = &mut image.as_bytes_mut()[256 * slot..][..256];
+//! #     bytes[..11].copy_from_slice(format!("\x15{name:<10}").as_bytes());
+//! #     (bytes[250], bytes[254]) = (code, parent);
+//! # }
+//! # let disk = Disk::open(image)?;
+//! for branch in disk.tree(None)?.all() {
+//!     println!("{}{}", "  ".repeat(branch.depth()), branch.entry().name());
+//! }
+//! # let depths: Vec<_> = disk.tree(None)?.all().map(|branch| branch.depth()).collect();
+//! # assert_eq!(depths, [0, 1, 0]);
+//! # Ok::<(), varnucht::Refused>(())
+//! ```
+//!
 //! # Before a compilation goes out
 //!
 //! A file may have more sectors than its length needs, and old texts hide in them. Every call accepts such a disk but
@@ -151,7 +176,7 @@
 //! "Document 01" and "the paper" are the rules that the library is proved against. A refusal prints their words. The
 //! directory's end is its first slot whose first name byte is 0: that slot and all later ones are free, and what stands there
 //! is no file and is not looked at; a save clears the old name that would come back when it takes that slot. Below the
-//! types stand [`calls`], the seventeen calls on byte slices, and [`raw`], the C layer itself.
+//! types stand [`calls`], the eighteen calls on byte slices, and [`raw`], the C layer itself.
 #![warn(missing_docs)]
 
 mod answer;
@@ -175,6 +200,7 @@ mod report;
 mod sectors;
 mod start;
 mod store;
+mod tree;
 
 pub use answer::{Accepted, Answer};
 pub use change::{Change, NO_EXECUTION, NewFile};
@@ -193,6 +219,7 @@ pub use report::{MOST_DISKS, REPORT_LENGTH, Report, SectorClass};
 pub use sectors::{LONGEST_BODY, Sectors};
 pub use start::Start;
 pub use store::{Store, WriteError};
+pub use tree::{Branch, Tree, Within};
 
 /// The README's example in Rust, compiled and run with the other examples.
 #[cfg(doctest)]

@@ -23,6 +23,14 @@ unsafe extern "C" {
         out: *mut u8,
         out_len: usize,
     ) -> u64;
+    pub fn varnucht_tree(
+        image: *const u8,
+        image_len: usize,
+        name: *const u8,
+        name_len: usize,
+        slots: *mut u8,
+        slots_len: usize,
+    ) -> u64;
     pub fn varnucht_start(image: *const u8, image_len: usize, name: *const u8, name_len: usize) -> u64;
     pub fn varnucht_sector(
         one: *const u8,

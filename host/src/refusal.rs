@@ -13,7 +13,7 @@ pub enum Refusal {
     UnknownKind,
     /// 3: the first name byte is 0. It is given no more, since the directory ends there, and the number stays reserved.
     NoFirstNameByte,
-    /// 4: the count is not 1 to the number of data sectors.
+    /// 4: the count is not 1 to the number of data sectors, or a directory's is not 0.
     Count,
     /// 5: the map's set bits are not as many as the count.
     MapCount,
@@ -56,6 +56,14 @@ pub enum Refusal {
     DirectoryTracks,
     /// 25: a kind of the Spectrum, 1 to 4, and its sectors are too few for the length in its header.
     BodyTooLong,
+    /// 26: a directory has code 0, or an earlier directory's code. [`Disk::tree`](crate::Disk::tree) alone gives it.
+    CodeNotOwn,
+    /// 27: the directory that a file or a directory is in is not there. [`Disk::tree`](crate::Disk::tree) alone gives it.
+    DirectoryMissing,
+    /// 28: a directory lies inside itself. [`Disk::tree`](crate::Disk::tree) alone gives it.
+    DirectoryInItself,
+    /// 29: a directory that something is in cannot be erased.
+    DirectoryNotEmpty,
     /// 31: a report that would pass 65,535 disks.
     ReportFull,
     /// A number that this table does not have. No call of today's library gives one.
@@ -63,11 +71,15 @@ pub enum Refusal {
 }
 
 /// The table of document 01 with the rows that document 02 adds, by rising number.
-const TABLE: [(u8, Refusal, &str); 25] = [
+const TABLE: [(u8, Refusal, &str); 29] = [
     (1, Refusal::ImageLength, "the image is not 819,200 bytes"),
     (2, Refusal::UnknownKind, "the kind is not known"),
     (3, Refusal::NoFirstNameByte, "the first name byte is 0 (given no more)"),
-    (4, Refusal::Count, "the count is not 1 to the number of data sectors"),
+    (
+        4,
+        Refusal::Count,
+        "the count is not 1 to the number of data sectors, or a directory's is not 0",
+    ),
     (5, Refusal::MapCount, "the map's set bits are not as many as the count"),
     (
         6,
@@ -88,7 +100,7 @@ const TABLE: [(u8, Refusal, &str); 25] = [
     (
         13,
         Refusal::WrongKind,
-        "the kind asked for (save) or found (read, start address) is not one that this call takes",
+        "the kind asked for (save) or found (read, start address, tree) is not one that this call takes",
     ),
     (
         14,
@@ -120,6 +132,26 @@ const TABLE: [(u8, Refusal, &str); 25] = [
         25,
         Refusal::BodyTooLong,
         "kind 1 to 4, and 510 × count is below 9 + the length in the header",
+    ),
+    (
+        26,
+        Refusal::CodeNotOwn,
+        "a directory with code 0 or an earlier directory's code (tree)",
+    ),
+    (
+        27,
+        Refusal::DirectoryMissing,
+        "a live slot's byte 254 is not 0 and no directory's code (tree)",
+    ),
+    (
+        28,
+        Refusal::DirectoryInItself,
+        "a directory lies inside itself at some depth (tree)",
+    ),
+    (
+        29,
+        Refusal::DirectoryNotEmpty,
+        "a directory whose code, not 0, is another live slot's byte 254 (erase)",
     ),
     (31, Refusal::ReportFull, "a disk or join that would pass 65,535 disks"),
 ];

@@ -13,6 +13,8 @@ mod reports;
 mod table;
 #[path = "api/texts.rs"]
 mod texts;
+#[path = "api/tree.rs"]
+mod tree;
 #[path = "api/types.rs"]
 mod types;
 #[path = "api/words.rs"]

@@ -31,5 +31,7 @@ mod standard;
 mod support;
 #[path = "tool/terminal.rs"]
 mod terminal;
+#[path = "tool/tree.rs"]
+mod tree;
 #[path = "tool/writing.rs"]
 mod writing;

@@ -25,10 +25,11 @@ use Rattle.directory.proofs.Search.{find-some}
 use Rattle.disk.specs.Look.{Look, look, slotsOf, extra}
 use Rattle.disk.specs.Check.{checkDisk}
 use Rattle.files.specs.Calls.{fileAt}
+use Rattle.trees.specs.Tree.{occupied}
 use Rattle.steps.specs.Steps.{enact, numbers}
 use Rattle.plans.specs.Change.{Wish, Change, save, erase, rename, mark, marked, between, usable}
 use Rattle.plans.specs.Saving.{passing, freeBit, taken, lowestSlot, slotTaken}
-use Rattle.plans.specs.Plan.{touch, oldName, saveSteps, Plan, no, go, orNo, byName, takenAt, nameTaken, takenBy, renameTaken, isProtected, saveReply, planOf, plan, Result, stopped, made, settle, checked, run, Changed, changed, changedBy, change}
+use Rattle.plans.specs.Plan.{touch, oldName, saveSteps, Plan, no, go, orNo, byName, takenAt, nameTaken, takenBy, renameTaken, isProtected, isOccupied, saveReply, planOf, plan, Result, stopped, made, settle, checked, run, Changed, changed, changedBy, change}
 use Rattle.plans.proofs.Respelt.{taken-found}
 use Rattle.plans.proofs.Ended.{dirs-some}
 use Rattle.plans.proofs.Refused.{save-long}
@@ -136,9 +137,12 @@ mild : (old : ℕ → Bool) (c : Change) (l : Look) → Mild (most c) (planOf ol
 unfolding planOf numbers
 mild old (save w) l = mild-save old l w
 mild old (erase n) l =
-    mild-or 1 (row 12 0 (not (askable n))) (byName l n (λ i f. orNo (isProtected i f) (go (touch l i f 0 (0 ∷ []))))) (small-row 12 0 (not (askable n)) (omega arith) (omega arith))
-    (mild-named l n 1 (λ i f. orNo (isProtected i f) (go (touch l i f 0 (0 ∷ []))))
-    (λ i h. mild-or 1 (isProtected i (fileAt l i)) (go (touch l i (fileAt l i) 0 (0 ∷ []))) (small-protected i (fileAt l i) h) (omega arith)))
+    mild-or 1 (row 12 0 (not (askable n))) (byName l n (λ i f. orNo (isProtected i f else isOccupied (slotsOf l) i f) (go (touch l i f 0 (0 ∷ [])))))
+    (small-row 12 0 (not (askable n)) (omega arith) (omega arith))
+    (mild-named l n 1 (λ i f. orNo (isProtected i f else isOccupied (slotsOf l) i f) (go (touch l i f 0 (0 ∷ []))))
+    (λ i h. mild-or 1 (isProtected i (fileAt l i) else isOccupied (slotsOf l) i (fileAt l i)) (go (touch l i (fileAt l i) 0 (0 ∷ [])))
+    (small-else (isProtected i (fileAt l i)) (isOccupied (slotsOf l) i (fileAt l i)) (small-protected i (fileAt l i) h)
+    (small-row 29 (suc i) (occupied (slotsOf l) i (fileAt l i .bytes)) (omega arith) (omega arith))) (omega arith)))
 mild old (rename n new) l =
     mild-or 1 (row 12 0 (not (askable n && usable new))) (byName l n (λ i f. orNo (renameTaken (slotsOf l) i f new else isProtected i f) (go (touch l i f 1 (padded new)))))
     (small-row 12 0 (not (askable n && usable new)) (omega arith) (omega arith))
@@ -177,7 +181,7 @@ run-same c d a b h = ap (checked (checkDisk d)) (by (plan c d) (mild (oldName d)
     by (no r) w = refl
     by (go p) w = ap (λ (t : Bool). cond t (stopped (refuse 20 0)) (made (enact d p) (numbers p))) (h (length (numbers p)) w)
 
-least-room : (r n x : ℕ) → x ≤ n → ltb (min r n) x ≡ ltb r x
+pub least-room : (r n x : ℕ) → x ≤ n → ltb (min r n) x ≡ ltb r x
 least-room r n x h = by (below-or-not r x)
   where
     by : (r < x) ⊎ (x ≤ r) → ltb (min r n) x ≡ ltb r x

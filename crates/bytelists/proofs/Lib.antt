@@ -2,3 +2,4 @@ pub mod Table
 pub mod Pairs
 pub mod Changing
 pub mod Safe
+pub mod Trees

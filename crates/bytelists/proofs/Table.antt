@@ -19,7 +19,7 @@ use Rattle.disk.specs.Look.{Look}
 use Rattle.disk.specs.Check.{checkBy, checkLook}
 use Rattle.slots.specs.Tracks.{badTracks}
 use Rattle.disk.specs.Given.{rowsBy, rows11}
-use Rattle.disk.proofs.Order.{passAt, pass, check-passes}
+use Rattle.disk.proofs.Order.{passAt, pass, check-passes, rows-by-kind, chain-by-kind}
 
 -- a refusal of the table at a slot of the directory, or none
 abbrev pub Small : Reply → Type 0
@@ -48,7 +48,7 @@ pub small-row : (n s : ℕ) (t : Bool) → n ≤ lastNumber → s ≤ 778 → Sm
 small-row n s true p q = (p, q)
 small-row n s false p q = tt
 
-small-sweep : (n : ℕ) (f : ℕ → Reply) → ((i : ℕ) → i < n → Small (f i)) → Small (sweep n f)
+pub small-sweep : (n : ℕ) (f : ℕ → Reply) → ((i : ℕ) → i < n → Small (f i)) → Small (sweep n f)
 small-sweep n f h = by (sweep n f) refl
   where
     by : (q : Reply) → sweep n f ≡ q → Small q
@@ -68,11 +68,11 @@ small-by release l =
     (small-else (row 1 0 (not (eqb (l .long) imageSize))) (row 24 0 (badTracks (l .label 255)) else pass l (rowsBy release l) else pass l (rows11 l))
     (small-row 1 0 (not (eqb (l .long) imageSize)) (omega arith) (omega arith))
     (small-else (row 24 0 (badTracks (l .label 255))) (pass l (rowsBy release l) else pass l (rows11 l)) (small-row 24 0 (badTracks (l .label 255)) (omega arith) (omega arith))
-    (small-else (pass l (rowsBy release l)) (pass l (rows11 l)) (small-pass l (rowsBy release l) (by release)) (small-pass l (rows11 l) (λ i f. refl)))))
+    (small-else (pass l (rowsBy release l)) (pass l (rows11 l)) (small-pass l (rowsBy release l) (by release)) (small-pass l (rows11 l) (λ i f. chain-by-kind (λ rs. few rs ≡ true) l i f refl refl)))))
   where
     by : (release : Bool) (i : ℕ) (f : File) → few (rowsBy release l i f) ≡ true
-    by true i f = refl
-    by false i f = refl
+    by true i f = rows-by-kind (λ rs. few rs ≡ true) true l i f refl refl
+    by false i f = rows-by-kind (λ rs. few rs ≡ true) false l i f refl refl
 
 pub check-small : (l : Look) → Small (checkLook l)
 check-small l = small-by false l

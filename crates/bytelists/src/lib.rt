@@ -1,14 +1,17 @@
-// The changes for the app's C layer, with the list of sectors as bytes, two to a number, low byte first.
+// The changes for the app's C layer, with the list of sectors as bytes, two to a number, low byte first; and the listing of a
+// directory with its slots so.
 ghost use mathlib.Core.Path.{_≡_};
 ghost use Prim.Native.Nat.{_*_, _≤_};
 ghost use lib.ListN.{length, take};
 ghost use Rattle.buffers.specs.Bytes.{put};
-ghost use Rattle.refusals.specs.Answers.{outcomeOf};
+ghost use Rattle.refusals.specs.Answers.{outcomeOf, out};
+ghost use Rattle.directory.specs.Places.{slots};
 ghost use Rattle.packing.specs.Packed.{valueIn};
 ghost use Rattle.plans.specs.Change.{save, erase, rename, mark};
 ghost use Rattle.changes.specs.Marks.{markOf};
 ghost use Rattle.saves.specs.Write.{wish};
 ghost use Rattle.bytelists.specs.Lists.{inBytes, Returns, Counted};
+ghost use Rattle.bytelists.specs.Trees.{treeingBytes};
 use changes::Marking;
 use refusals::Answer;
 
@@ -105,4 +108,21 @@ pub fn save(
         &mut numbers[..room],
     );
     put_counted(saved, &numbers, list)
+}
+
+// Room for the numbers of every listing of a directory.
+fn no_slots() -> [u16; directory::SLOTS]
+    ensures { λ r. ⌜ length r ≡ slots ⌝ }
+{
+    [0u16; directory::SLOTS]
+}
+
+// What lies beneath a directory: how many, and their slots to the front of the list.
+pub fn list_tree(image: &[u8], name: &[u8], list: &mut [u8]) -> Answer
+    ensures { λ r. ⌜ out (outcomeOf r) (now (list .exit)) ≡ treeingBytes (now (image .entry)) (now (name .entry)) (now (list .entry)) ⌝ }
+{
+    let mut numbers = no_slots();
+    let room = buffers::lesser(list.len() / 2, directory::SLOTS);
+    let listed = treelists::list_tree(image, name, &mut numbers[..room]);
+    put_counted(listed, &numbers, list)
 }

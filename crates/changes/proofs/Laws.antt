@@ -25,10 +25,11 @@ use Rattle.disk.proofs.Look.{look-slots}
 use Rattle.files.specs.Calls.{barred, soughtBy, lookup, fileAt}
 use Rattle.files.proofs.Named.{Named, named-slot}
 use Rattle.steps.specs.Steps.{Step, putAll, enact, numbers}
+use Rattle.trees.specs.Tree.{occupied}
 use Rattle.plans.specs.Change.{Mark, Change, erase, rename, mark, marked, usable}
-use Rattle.plans.specs.Plan.{Plan, no, go, orNo, byName, takenBy, renameTaken, isProtected, touch, planOf, plan, settle, checked, run, Changed, changed, changedBy, change}
+use Rattle.plans.specs.Plan.{Plan, no, go, orNo, byName, takenBy, renameTaken, isProtected, isOccupied, touch, planOf, plan, settle, checked, run, Changed, changed, changedBy, change}
 use Rattle.plans.proofs.Respelt.{taken-found}
-use Rattle.changes.specs.Settled.{settled, touching, unprotected, renaming, Holds, Made}
+use Rattle.changes.specs.Settled.{settled, touching, unprotected, erasing, renaming, Holds, Made}
 
 -- ---- a change is settled by its plan, once the disk is accepted
 
@@ -102,6 +103,24 @@ module _ (d : List ℕ) (i o : ℕ) (y : List ℕ) (w : Holds d i) (s : List ℕ
   pub plan-released : protected s ≡ false → touching d i o y ≡ unprotected d i o y
   unfolding unprotected
   plan-released q = rw (protected-at q)
+
+-- 17 and 29 of an erase
+module _ (d : List ℕ) (i : ℕ) (w : Holds d i) (s : List ℕ) (e : s ≡ slotOr d i) where
+  pub erase-protected : protected s ≡ true → no (refuse 17 (i + 1)) ≡ erasing d i
+  unfolding erasing
+  erase-protected q = rw (protected-at d i 0 [] w s e q, add-one)
+
+  module _ (q : protected s ≡ false) (t : List ℕ) (g : t ≡ slotOr d i) where
+    occupied-at : {b : Bool} → occupied (directory d) i t ≡ b → occupied (directory d) i (fileAt (look d) i .bytes) ≡ b
+    occupied-at h = ap (occupied (directory d) i) (w .bytes ∙ sym g) ∙ h
+
+    pub erase-occupied : occupied (directory d) i t ≡ true → no (refuse 29 (i + 1)) ≡ erasing d i
+    unfolding erasing
+    erase-occupied h = rw (protected-at d i 0 [] w s e q, occupied-at h, add-one)
+
+    pub erase-free : occupied (directory d) i t ≡ false → touching d i 0 (0 ∷ []) ≡ erasing d i
+    unfolding erasing
+    erase-free h = rw (protected-at d i 0 [] w s e q, occupied-at h)
 
 -- 16, as the code meets it: the name is found nowhere, at another slot, or at the file's own, where its bytes decide
 module _ (d : List ℕ) (i : ℕ) (new : List ℕ) where
@@ -182,7 +201,7 @@ module _ (c : Change) (d n buf : List ℕ) (f : ℕ → File → Plan) (s : plan
 
 module _ (d n buf : List ℕ) where
   abbrev eraseAt : ℕ → File → Plan
-  eraseAt i f = orNo (isProtected i f) (go (touch (look d) i f 0 (0 ∷ [])))
+  eraseAt i f = orNo (isProtected i f else isOccupied (slotsOf (look d)) i f) (go (touch (look d) i f 0 (0 ∷ [])))
 
   abbrev markAt : Mark → ℕ → File → Plan
   markAt m i f = go (touch (look d) i f 0 (marked m (getD (f .bytes) 0 0) ∷ []))
@@ -191,9 +210,12 @@ module _ (d n buf : List ℕ) where
   unfolding planOf
   erase-barred = looked-barred (erase n) d n buf eraseAt refl
 
-  pub erase-found : (i : ℕ) → Named d n i → settled (unprotected d i 0 (0 ∷ [])) d buf ≡ change (erase n) d buf
-  unfolding planOf unprotected touching
-  erase-found = looked-at (erase n) d n buf eraseAt refl
+  pub erase-found : (i : ℕ) → Named d n i → settled (erasing d i) d buf ≡ change (erase n) d buf
+  unfolding planOf erasing touching
+  erase-found i w =
+      ap (λ (v : Directory). settled (orNo (isProtected i (fileAt (look d) i) else isOccupied v i (fileAt (look d) i)) (go (touch (look d) i (fileAt (look d) i) 0 (0 ∷ [])))) d buf)
+      (sym (look-slots d))
+      ∙ looked-at (erase n) d n buf eraseAt refl i w
 
   pub mark-barred : (m : Mark) (r : Refusal) → barred r ≡ lookup (look d) n → changed (refused r) d buf ≡ change (mark m n) d buf
   unfolding planOf

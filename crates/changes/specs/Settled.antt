@@ -1,7 +1,7 @@
 -- What a change gives; once the disk is accepted, by its plan at the slot that it finds by name.
 use Prim.Native.Nat.{ℕ, _<_}
 use mathlib.Core.Bool.{true}
-use mathlib.Core.List.{List}
+use mathlib.Core.List.{List, [], _∷_}
 use mathlib.Core.Path.{_≡_}
 use lib.ListN.{length}
 use Rattle.buffers.specs.Bytes.{put}
@@ -15,7 +15,7 @@ use Rattle.refusals.specs.declared.Answer.{Answer}
 use Rattle.names.specs.Name.{padded}
 use Rattle.steps.specs.Steps.{Step, enact, numbers}
 use Rattle.plans.specs.Change.{Change, usable}
-use Rattle.plans.specs.Plan.{Plan, go, orNo, renameTaken, isProtected, touch, settle, Changed, changed, changedBy, change}
+use Rattle.plans.specs.Plan.{Plan, go, orNo, renameTaken, isProtected, isOccupied, touch, settle, Changed, changed, changedBy, change}
 
 -- answer, image and list at return are those of the change
 abbrev pub Returns : Change → List ℕ → List ℕ → Answer → List ℕ → List ℕ → Type 0
@@ -42,7 +42,11 @@ touching d i o y = go (touch (look d) i (fileAt (look d) i) o y)
 unfoldable pub unprotected : List ℕ → ℕ → ℕ → List ℕ → Plan
 unprotected d i o y = orNo (isProtected i (fileAt (look d) i)) (touching d i o y)
 
--- the same for a new name, unless it is taken
+-- the plan that erases the file in slot i, unless it is protected or a directory that another live slot is in
+unfoldable pub erasing : List ℕ → ℕ → Plan
+erasing d i = orNo (isProtected i (fileAt (look d) i) else isOccupied (directory d) i (fileAt (look d) i)) (touching d i 0 (0 ∷ []))
+
+-- a new name, unless it is taken
 unfoldable pub renaming : List ℕ → ℕ → List ℕ → Plan
 renaming d i new =
     orNo (renameTaken (directory d) i (fileAt (look d) i) new else isProtected i (fileAt (look d) i)) (touching d i 1 (padded new))

@@ -13,7 +13,7 @@ ghost use Rattle.files.specs.Calls.{fileAt};
 ghost use Rattle.plans.specs.Plan.{takenBy};
 ghost use Rattle.plans.specs.Change.{erase, rename, mark, hide, show, protect, release, marked, allBetween, usable};
 ghost use Rattle.changes.specs.Marks.{markOf};
-ghost use Rattle.changes.specs.Settled.{Returns, Settles, touching, unprotected, renaming, Place, Renames};
+ghost use Rattle.changes.specs.Settled.{Returns, Settles, touching, unprotected, erasing, renaming, Holds, Place, Renames};
 use directory::Found;
 use files::Lookup;
 use refusals::Answer;
@@ -90,13 +90,27 @@ fn touch_unprotected(image: &mut [u8], i: usize, o: usize, y: &[u8], list: &mut 
     touch(image, i, o, y, list)
 }
 
+// Erases the file in slot `i`, unless it is protected or a directory that another live slot is in.
+fn erase_at(image: &mut [u8], i: usize, list: &mut [u16]) -> Answer
+    requires { ⌜ Holds (now image) i ⌝ }
+    ensures { λ r. ⌜ Settles (erasing (now (image .entry)) i) (now (image .entry)) (now (list .entry)) r (now (image .exit)) (now (list .exit)) ⌝ }
+{
+    if slots::is_protected(directory::slot_at(image, i)) {
+        return refusals::no(Reason::FileProtected, i + 1);
+    }
+    if nesting::is_occupied(image, i, directory::slot_at(image, i)) {
+        return refusals::no(Reason::DirectoryNotEmpty, i + 1);
+    }
+    touch(image, i, 0, &[0], list)
+}
+
 // Erases a file: its slot's first byte becomes 0.
 pub fn erase(image: &mut [u8], name: &[u8], list: &mut [u16]) -> Answer
     ensures { λ r. ⌜ Returns (erase (now (name .entry))) (now (image .entry)) (now (list .entry)) r (now (image .exit)) (now (list .exit)) ⌝ }
 {
     match files::look_up(image, name) {
         Lookup::Barred(r) => Answer::No(r),
-        Lookup::At(i) => touch_unprotected(image, i, 0, &[0], list),
+        Lookup::At(i) => erase_at(image, i, list),
     }
 }
 

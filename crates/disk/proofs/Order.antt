@@ -1,8 +1,8 @@
 -- Each check gives a refusal exactly when its row holds and none before it in the order does.
 use Prim.Native.Nat.{ℕ, suc, _≤_}
 use mathlib.Core.Path.{_≡_, refl, sym, ap, _∙_}
-use mathlib.Core.Bool.{Bool, true, false, not}
-use mathlib.Core.List.{List}
+use mathlib.Core.Bool.{Bool, true, false, not, cond}
+use mathlib.Core.List.{List, [], _++_}
 use mathlib.Core.Logic.{_⊎_, _≢_, ⊎-elim}
 use mathlib.Core.Option.{Option, none, some, Option·some-ne-none}
 use native.Mathlib.Omega.{arith}
@@ -12,15 +12,16 @@ use Rattle.refusals.specs.Order.{Refusal, refuse, Reply, _else_, row, rows, swe
 use Rattle.refusals.proofs.First.{else-none, else-some, rows-clear, clear-rows, rows-first, first-rows, sweep-none, none-sweep, sweep-cong, sweep-first, first-sweep}
 use Rattle.refusals.proofs.Lowest.{lacks, lowest-first, first-lacks}
 use Rattle.geometry.specs.Disk.{imageSize}
-use Rattle.slots.specs.Slot.{facts}
-use Rattle.slots.specs.Tracks.{badTracks}
+use Rattle.slots.specs.Slot.{directoryKind, facts}
+use Rattle.slots.specs.Rows.{directoryRows, fileRows, strict}
+use Rattle.slots.specs.Tracks.{badTracks, dataCount, inDirectory}
 use Rattle.slots.proofs.Tracks.{tracks-good, good-tracks, tracks-bad, bad-tracks}
 use Rattle.chains.specs.File.{File}
-use Rattle.headers.specs.Header.{laterReply}
+use Rattle.headers.specs.Header.{laterReply, chainRows}
 use Rattle.headers.proofs.Rows.{later-rises}
 use Rattle.directory.specs.Places.{slots}
 use Rattle.directory.specs.Directory.{held}
-use Rattle.surveys.specs.Survey.{rowsAt, surveyAt, surveyBy}
+use Rattle.surveys.specs.Survey.{cross, rowsAt, surveyAt, surveyBy}
 use Rattle.surveys.proofs.Pass.{survey-rises}
 use Rattle.disk.specs.Look.{Look, look, slotsOf, extra}
 use Rattle.disk.specs.Check.{chainAt, checkBy, checkLook, checkDisk}
@@ -208,18 +209,39 @@ row-lowest l r w =
 pub chain-lowest : (l : Look) (r : Refusal) (w : RowAt l (rows11 l) r) → Lowest (r .number) (rows11 l (w .at) (w .file))
 chain-lowest l r w = lowest-first (rows11 l (w .at) (w .file)) (r .number) (later-rises (facts (w .file .bytes)) (w .file .sectors)) .0 (w .number)
 
+-- what holds of a directory's rows and of any other file's holds of every file's
+module _ (P : List Row → Type 0) where
+  pub rows-by-kind : (release : Bool) (l : Look) (i : ℕ) (f : File)
+      → P (directoryRows (facts (f .bytes)) ++ (strict release (facts (f .bytes)) ++ cross (slotsOf l) i (f .bytes)))
+      → P (fileRows (dataCount (extra l)) (inDirectory (extra l) (facts (f .bytes) .map)) (facts (f .bytes)) ++ (strict release (facts (f .bytes)) ++ cross (slotsOf l) i (f .bytes)))
+      → P (rowsBy release l i f)
+  rows-by-kind release l i f p q = by (directoryKind (facts (f .bytes) .kind))
+    where
+      by : (t : Bool)
+          → P (cond t (directoryRows (facts (f .bytes))) (fileRows (dataCount (extra l)) (inDirectory (extra l) (facts (f .bytes) .map)) (facts (f .bytes)))
+          ++ (strict release (facts (f .bytes)) ++ cross (slotsOf l) i (f .bytes)))
+      by true = p
+      by false = q
+
+  pub chain-by-kind : (l : Look) (i : ℕ) (f : File) → P [] → P (chainRows (facts (f .bytes)) (f .sectors)) → P (rows11 l i f)
+  chain-by-kind l i f p q = by (directoryKind (facts (f .bytes) .kind))
+    where
+      by : (t : Bool) → P (cond t [] (chainRows (facts (f .bytes)) (f .sectors)))
+      by true = p
+      by false = q
+
 pub positive-by : (release : Bool) (l : Look) (r : Refusal) → checkBy release l ≡ some r → r .number ≢ 0
 positive-by release l r e = by (given-by release l r e)
   where
     some-number : (release : Bool) (i : ℕ) (f : File) → lacks 0 (rowsBy release l i f) ≡ true
-    some-number true i f = refl
-    some-number false i f = refl
+    some-number true i f = rows-by-kind (λ rs. lacks 0 rs ≡ true) true l i f refl refl
+    some-number false i f = rows-by-kind (λ rs. lacks 0 rs ≡ true) false l i f refl refl
 
     by : GivenBy release l r → r .number ≢ 0
     by (by-length n q) = λ z. omega (arith, ap (λ (x : Refusal). x .number) q)
     by (by-tracks n a b q) = λ z. omega (arith, ap (λ (x : Refusal). x .number) q)
     by (by-slot n t w) = first-lacks 0 (rowsBy release l (w .at) (w .file)) (r .number) (some-number release (w .at) (w .file)) (w .number)
-    by (by-chain n t c w) = first-lacks 0 (rows11 l (w .at) (w .file)) (r .number) refl (w .number)
+    by (by-chain n t c w) = first-lacks 0 (rows11 l (w .at) (w .file)) (r .number) (chain-by-kind (λ rs. lacks 0 rs ≡ true) l (w .at) (w .file) refl refl) (w .number)
 
 pub check-positive : (d : List ℕ) (r : Refusal) → checkDisk d ≡ some r → r .number ≢ 0
 unfolding checkDisk

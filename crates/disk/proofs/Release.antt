@@ -9,7 +9,7 @@ use native.Mathlib.Omega.{arith}
 use borrow.Author.Tests.{ltb-false, le-ltb}
 use lib.Dec.{eqb, ltb}
 use Rattle.refusals.specs.Order.{Refusal, _else_, row, rows, sweep, Clear}
-use Rattle.refusals.proofs.Lowest.{first-lacks}
+use Rattle.refusals.proofs.Lowest.{lacks, first-lacks}
 use Rattle.geometry.specs.Disk.{imageSize}
 use Rattle.slots.specs.Slot.{facts, kindOf, carried, countOf, lengthOf, sectorsFor}
 use Rattle.slots.specs.Rows.{own, wasteful, strict}
@@ -24,7 +24,7 @@ use Rattle.disk.specs.Check.{chainAt, checkBy, checkLook, checkDisk, che
 use Rattle.disk.specs.Given.{GivenBy, Given, by-length, by-tracks, by-slot, by-chain, rows9, rows11}
 use Rattle.disk.specs.Release.{LeanFile, Lean}
 use Rattle.disk.proofs.Rows.{guard, guarded, carried-is, is-carried, clear-parts, parts-clear}
-use Rattle.disk.proofs.Order.{Accepted, accepted, accepted-only, accepted-by, accepted-by-only, given, given-by, given-by-only, positive-by}
+use Rattle.disk.proofs.Order.{Accepted, accepted, accepted-only, accepted-by, accepted-by-only, given, given-by, given-by-only, rows-by-kind, chain-by-kind, positive-by}
 
 -- ---- row 22 of one slot
 
@@ -118,8 +118,8 @@ module _ (d : List ℕ) where
       by : Given (look d) r → r .number ≢ 22
       by (by-length n q) = λ z. omega (arith, ap (λ (x : Refusal). x .number) q)
       by (by-tracks n a b q) = λ z. omega (arith, ap (λ (x : Refusal). x .number) q)
-      by (by-slot n t w) = first-lacks 22 (rows9 (look d) (w .at) (w .file)) (r .number) refl (w .number)
-      by (by-chain n t c w) = first-lacks 22 (rows11 (look d) (w .at) (w .file)) (r .number) refl (w .number)
+      by (by-slot n t w) = first-lacks 22 (rows9 (look d) (w .at) (w .file)) (r .number) (rows-by-kind (λ rs. lacks 22 rs ≡ true) false (look d) (w .at) (w .file) refl refl) (w .number)
+      by (by-chain n t c w) = first-lacks 22 (rows11 (look d) (w .at) (w .file)) (r .number) (chain-by-kind (λ rs. lacks 22 rs ≡ true) (look d) (w .at) (w .file) refl refl) (w .number)
 
 -- ---- the first check
 

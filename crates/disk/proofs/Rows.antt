@@ -1,21 +1,23 @@
 -- What it means that no row holds at a file: the rows' tests as facts, both ways.
 use Prim.Native.Nat.{ℕ, _+_, _-_, _*_, _%_, _≤_}
-use mathlib.Core.Path.{_≡_, refl, ap}
-use mathlib.Core.Bool.{Bool, true, false, not, _&&_, _||_, false≢true}
+use mathlib.Core.Path.{_≡_, refl, sym, ap, _∙_}
+use mathlib.Core.Bool.{Bool, true, false, not, cond, _&&_, _||_, false≢true}
 use mathlib.Core.List.{List, [], _∷_, _++_}
 use mathlib.Core.Logic.{_⊎_, inl, inr, ⊎-elim}
+use native.Mathlib.Omega.{arith}
 use borrow.Author.Tests.{eqb-true, eq-eqb, leb-true, le-leb, ltb-false, le-ltb, not-false}
 use lib.Dec.{eqb, leb, ltb}
 use lib.ListN.{getD}
 use Rattle.buffers.proofs.Tests.{and-both, both-and, or-either, either-or, or-neither}
 use Rattle.maps.specs.Bits.{has, bitsOf}
 use Rattle.refusals.specs.Order.{Row, Clear}
-use Rattle.slots.specs.Slot.{facts, known, carried, spectrum, kindOf, countOf, mapOf, firstOf, pagesOf, remainderOf, lengthOf}
-use Rattle.slots.specs.Rows.{own}
+use Rattle.slots.specs.Slot.{facts, known, carried, spectrum, kindOf, countOf, mapOf, firstOf, pagesOf, remainderOf, lengthOf, directoryKind}
+use Rattle.slots.specs.Rows.{own, directoryRows, fileRows}
 use Rattle.chains.specs.Chain.{broken}
-use Rattle.headers.specs.Header.{headerDiffers, headerLength, later}
+use Rattle.headers.specs.Header.{headerDiffers, headerLength, later, chainRows}
 use Rattle.slots.specs.Tracks.{dataCount, dataBit, inDirectory}
-use Rattle.slots.proofs.Tracks.{outside-data, data-outside}
+use Rattle.slots.proofs.KindLaws.{directory-is, is-directory, directory-not, not-directory}
+use Rattle.slots.proofs.Tracks.{outside-data, data-outside, empty-outside}
 use Rattle.chains.proofs.Laws.{map-small}
 use Rattle.disk.specs.Sound.{Known, Carried, Spectrum, Agrees}
 
@@ -66,43 +68,67 @@ is-spectrum k h = in-range 1 k 4 h
 
 -- ---- rows 2 to 7
 
--- no row of one slot's own holds: the tests as facts
+-- no row of one slot's own holds: the tests as facts; a directory has no sectors, and any other file has its first
 pub record Own (n : ℕ) (s : List ℕ) : Type 0 where
   pub kind : Known (kindOf s)
-  pub some-sectors : 1 ≤ countOf s
+  pub sectors : ((kindOf s ≡ 21) × (countOf s ≡ 0)) ⊎ ((kindOf s ≡ 21 → ⊥) × (1 ≤ countOf s) × (has (mapOf s) (firstOf s) ≡ true))
   pub few-sectors : countOf s ≤ dataCount n
   pub bits : bitsOf (mapOf s) ≡ countOf s
   pub data-bits : (b : ℕ) → has (mapOf s) b ≡ true → dataBit n b ≡ true
-  pub first-own : has (mapOf s) (firstOf s) ≡ true
   pub fits : Carried (kindOf s) → 9 + lengthOf (facts s) ≤ 510 * countOf s
 
-pub own-clear : (n : ℕ) (s : List ℕ) → Clear (own n (facts s)) → Own n s
+own-directory : (n : ℕ) (s : List ℕ) → kindOf s ≡ 21 → Clear (directoryRows (facts s)) → Own n s
 unfolding facts
-own-clear n s c =
+own-directory n s k c =
+    let z : countOf s ≡ 0 = eqb-true (countOf s) 0 (not-false (eqb (countOf s) 0) (c .0)) in
+    let m : bitsOf (mapOf s) ≡ 0 = eqb-true (bitsOf (mapOf s)) 0 (not-false (eqb (bitsOf (mapOf s)) 0) (c .1 .0)) in
+    record {
+      kind = inr (omega arith, omega arith);
+      sectors = inl (k, z);
+      few-sectors = omega arith;
+      bits = m ∙ sym z;
+      data-bits = λ b h. outside-data n (mapOf s) (empty-outside n (mapOf s) m) b (map-small s b h) h;
+      fits = λ h. absurd (omega (arith, h .1));
+    }
+
+own-file : (n : ℕ) (s : List ℕ) → (kindOf s ≡ 21 → ⊥) → Clear (fileRows (dataCount n) (inDirectory n (mapOf s)) (facts s)) → Own n s
+unfolding facts
+own-file n s k c =
     let q = range 1 (countOf s) (dataCount n) (not-false (leb 1 (countOf s) && leb (countOf s) (dataCount n)) (c .1 .0)) in
     let either = or-neither (not (has (mapOf s) (firstOf s))) (inDirectory n (mapOf s)) (c .1 .1 .1 .0) in
     record {
       kind = known-is (kindOf s) (not-false (known (kindOf s)) (c .0));
-      some-sectors = q .0;
+      sectors = inr (k, q .0, not-false (has (mapOf s) (firstOf s)) (either .0));
       few-sectors = q .1;
       bits = eqb-true (bitsOf (mapOf s)) (countOf s) (not-false (eqb (bitsOf (mapOf s)) (countOf s)) (c .1 .1 .0));
       data-bits = λ b m. outside-data n (mapOf s) (either .1) b (map-small s b m) m;
-      first-own = not-false (has (mapOf s) (firstOf s)) (either .0);
       fits = λ h.
           ltb-false (510 * countOf s) (9 + lengthOf (facts s))
           (guard (carried (kindOf s)) (ltb (510 * countOf s) (9 + lengthOf (facts s))) (c .1 .1 .1 .1 .0) (is-carried (kindOf s) h));
     }
 
-pub clear-own : (n : ℕ) (s : List ℕ) → Own n s → Clear (own n (facts s))
+pub own-clear : (n : ℕ) (s : List ℕ) → Clear (own n (facts s)) → Own n s
 unfolding facts
-clear-own n s w = (
+own-clear n s c = by (directoryKind (kindOf s)) refl c
+  where
+    by : (t : Bool) → directoryKind (kindOf s) ≡ t → Clear (cond t (directoryRows (facts s)) (fileRows (dataCount n) (inDirectory n (mapOf s)) (facts s))) → Own n s
+    by true e q = own-directory n s (directory-is (kindOf s) e) q
+    by false e q = own-file n s (directory-not (kindOf s) e) q
+
+directory-clear : (n : ℕ) (s : List ℕ) → Own n s → countOf s ≡ 0 → Clear (directoryRows (facts s))
+unfolding facts
+directory-clear n s w z = (ap not (eq-eqb (countOf s) 0 z), (ap not (eq-eqb (bitsOf (mapOf s)) 0 (w .bits ∙ z)), tt))
+
+file-clear : (n : ℕ) (s : List ℕ) → Own n s → 1 ≤ countOf s → has (mapOf s) (firstOf s) ≡ true → Clear (fileRows (dataCount n) (inDirectory n (mapOf s)) (facts s))
+unfolding facts
+file-clear n s w some first = (
   ap not (is-known (kindOf s) (w .kind)),
   (
-    ap not (in-range 1 (countOf s) (dataCount n) (w .some-sectors, w .few-sectors)),
+    ap not (in-range 1 (countOf s) (dataCount n) (some, w .few-sectors)),
     (
       ap not (eq-eqb (bitsOf (mapOf s)) (countOf s) (w .bits)),
       (
-        rw (w .first-own, data-outside n (mapOf s) (λ b l. w .data-bits b)),
+        rw (first, data-outside n (mapOf s) (λ b l. w .data-bits b)),
         (
           guarded (carried (kindOf s)) (ltb (510 * countOf s) (9 + lengthOf (facts s)))
               (λ e. le-ltb (510 * countOf s) (9 + lengthOf (facts s)) (w .fits (carried-is (kindOf s) e))),
@@ -112,6 +138,12 @@ clear-own n s w = (
     ),
   ),
 )
+
+pub clear-own : (n : ℕ) (s : List ℕ) → Own n s → Clear (own n (facts s))
+unfolding facts
+clear-own n s w =
+    ⊎-elim (λ a. rw (is-directory (kindOf s) (a .0)) (directory-clear n s w (a .1)))
+    (λ a. rw (not-directory (kindOf s) (a .0)) (file-clear n s w (a .1) (a .2))) (w .sectors)
 
 -- ---- row 11
 
@@ -135,34 +167,47 @@ agree-same s h w =
     (both-and (eqb ((getD h 1 0 + 256 * getD h 2 0) % 16384) (remainderOf s)) (eqb (getD h 7 0) (pagesOf s))
     (eq-eqb ((getD h 1 0 + 256 * getD h 2 0) % 16384) (remainderOf s) (w .remainder)) (eq-eqb (getD h 7 0) (pagesOf s) (w .pages))))
 
--- rows 10, 11 and 25 of a file: its chain is not broken, a carried header agrees, and a Spectrum's body has its sectors
-pub later-clear : (s : List ℕ) (sec : ℕ → List ℕ) → Clear (later (facts s) sec)
-    → (broken (facts s) sec ≡ false) × (Carried (kindOf s) → Agrees s (sec (facts s .first)))
-    × (Spectrum (kindOf s) → 9 + headerLength (sec (facts s .first)) ≤ 510 * countOf s)
-unfolding facts
-later-clear s sec c = (
-  c .0,
-  λ h. agrees s (sec (facts s .first))
-      (guard (carried (kindOf s)) (headerDiffers (facts s) (sec (facts s .first))) (c .1 .0) (is-carried (kindOf s) h)),
-  λ h. ltb-false (510 * countOf s) (9 + headerLength (sec (facts s .first)))
-      (guard (spectrum (kindOf s)) (ltb (510 * countOf s) (9 + headerLength (sec (facts s .first)))) (c .1 .1 .0) (is-spectrum (kindOf s) h)),
-)
+-- rows 10, 11 and 25 of a file: where it has sectors its chain is not broken, a carried header agrees, and a Spectrum's body has
+-- its sectors
+pub record Later (s : List ℕ) (sec : ℕ → List ℕ) : Type 0 where
+  pub whole : (kindOf s ≡ 21 → ⊥) → broken (facts s) sec ≡ false
+  pub header : Carried (kindOf s) → Agrees s (sec (facts s .first))
+  pub long : Spectrum (kindOf s) → 9 + headerLength (sec (facts s .first)) ≤ 510 * countOf s
 
-pub clear-later : (s : List ℕ) (sec : ℕ → List ℕ) → broken (facts s) sec ≡ false → (Carried (kindOf s) → Agrees s (sec (facts s .first)))
-    → (Spectrum (kindOf s) → 9 + headerLength (sec (facts s .first)) ≤ 510 * countOf s) → Clear (later (facts s) sec)
+pub later-clear : (s : List ℕ) (sec : ℕ → List ℕ) → Clear (later (facts s) sec) → Later s sec
 unfolding facts
-clear-later s sec b w v = (
-  b,
-  (
-    guarded (carried (kindOf s)) (headerDiffers (facts s) (sec (facts s .first)))
-        (λ e. agree-same s (sec (facts s .first)) (w (carried-is (kindOf s) e))),
-    (
-      guarded (spectrum (kindOf s)) (ltb (510 * countOf s) (9 + headerLength (sec (facts s .first))))
-          (λ e. le-ltb (510 * countOf s) (9 + headerLength (sec (facts s .first))) (v (spectrum-is (kindOf s) e))),
-      tt,
-    ),
-  ),
-)
+later-clear s sec c = by (directoryKind (kindOf s)) refl c
+  where
+    by : (t : Bool) → directoryKind (kindOf s) ≡ t → Clear (cond t [] (chainRows (facts s) sec)) → Later s sec
+    by true e q =
+        let k : kindOf s ≡ 21 = directory-is (kindOf s) e in
+        record { whole = λ h. absurd (h k); header = λ h. absurd (omega (arith, h .1)); long = λ h. absurd (omega (arith, h .1)) }
+    by false e q = record {
+      whole = λ h. q .0;
+      header = λ h. agrees s (sec (facts s .first))
+          (guard (carried (kindOf s)) (headerDiffers (facts s) (sec (facts s .first))) (q .1 .0) (is-carried (kindOf s) h));
+      long = λ h. ltb-false (510 * countOf s) (9 + headerLength (sec (facts s .first)))
+          (guard (spectrum (kindOf s)) (ltb (510 * countOf s) (9 + headerLength (sec (facts s .first)))) (q .1 .1 .0) (is-spectrum (kindOf s) h));
+    }
+
+pub clear-later : (s : List ℕ) (sec : ℕ → List ℕ) → Later s sec → Clear (later (facts s) sec)
+unfolding facts
+clear-later s sec w = by (directoryKind (kindOf s)) refl
+  where
+    by : (t : Bool) → directoryKind (kindOf s) ≡ t → Clear (cond t [] (chainRows (facts s) sec))
+    by true e = tt
+    by false e = (
+      w .whole (directory-not (kindOf s) e),
+      (
+        guarded (carried (kindOf s)) (headerDiffers (facts s) (sec (facts s .first)))
+            (λ e. agree-same s (sec (facts s .first)) (w .header (carried-is (kindOf s) e))),
+        (
+          guarded (spectrum (kindOf s)) (ltb (510 * countOf s) (9 + headerLength (sec (facts s .first))))
+              (λ e. le-ltb (510 * countOf s) (9 + headerLength (sec (facts s .first))) (w .long (spectrum-is (kindOf s) e))),
+          tt,
+        ),
+      ),
+    )
 
 -- ---- two lists of rows, one after the other
 

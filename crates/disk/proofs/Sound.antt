@@ -3,14 +3,14 @@ use Prim.Native.Nat.{ℕ, _+_, _-_, _*_, _≤_, _<_}
 use mathlib.Core.Path.{_≡_, refl, sym, ap, _∙_}
 use mathlib.Core.Bool.{Bool, true, false, false≢true}
 use mathlib.Core.List.{List}
-use mathlib.Core.Logic.{⊎-elim}
+use mathlib.Core.Logic.{inl, inr, ⊎-elim}
 use mathlib.Core.Option.{Option, none, some}
 use native.Mathlib.Omega.{arith}
 use lib.ListN.{getD, length}
 use Rattle.buffers.proofs.Lists.{length-part}
 use Rattle.buffers.proofs.Counts.{any-none, none-any}
 use Rattle.geometry.proofs.Laws.{bit-data}
-use Rattle.maps.specs.Bits.{share}
+use Rattle.maps.specs.Bits.{has, share}
 use Rattle.maps.proofs.Laws.{share-none, none-share}
 use Rattle.refusals.specs.Order.{Clear}
 use Rattle.slots.specs.Slot.{kindOf, readable, facts, mapOf, nameOf, countOf, firstOf}
@@ -28,9 +28,9 @@ use Rattle.directory.specs.Directory.{held}
 use Rattle.surveys.specs.Survey.{earlier, cross}
 use Rattle.disk.specs.Look.{Look, slotsOf, extra}
 use Rattle.disk.specs.Check.{checkLook}
-use Rattle.disk.specs.Sound.{GoodFile, Sound}
+use Rattle.disk.specs.Sound.{HasSectors, GoodFile, Sound}
 use Rattle.disk.proofs.Order.{Accepted, accepted, accepted-only}
-use Rattle.disk.proofs.Rows.{carried-is, spectrum-is, Own, own-clear, clear-own, later-clear, clear-later, clear-parts, parts-clear}
+use Rattle.disk.proofs.Rows.{carried-is, spectrum-is, Own, own-clear, clear-own, Later, later-clear, clear-later, clear-parts, parts-clear}
 
 map-few : (s : List ℕ) → length (facts s .map) ≤ 195
 unfolding facts
@@ -44,33 +44,43 @@ good n f o c =
     let h = later-clear (f .bytes) (f .sectors) c in
     record {
       kind = o .kind;
-      some-sectors = o .some-sectors;
+      sectors = ⊎-elim inl (λ a. inr (a .0, with-sectors h (a .0) (a .1) (a .2))) (o .sectors);
       few-sectors = o .few-sectors;
       bits = o .bits;
       data-bits = o .data-bits;
-      first-data = bit-data (getD (f .bytes) 13 0) (getD (f .bytes) 14 0) (map-small (f .bytes) (firstOf (f .bytes)) (o .first-own));
-      first-own = o .first-own;
       fits = o .fits;
-      chain = whole (facts (f .bytes)) (f .sectors) (map-few (f .bytes)) (o .some-sectors) (h .0);
-      header = h .1;
-      spectrum-fits = h .2;
+      header = h .header;
+      spectrum-fits = h .long;
+    }
+  where
+    with-sectors : Later (f .bytes) (f .sectors) → (kindOf (f .bytes) ≡ 21 → ⊥) → 1 ≤ countOf (f .bytes) → has (mapOf (f .bytes)) (firstOf (f .bytes)) ≡ true → HasSectors f
+    with-sectors h k n first = record {
+      some-sectors = n;
+      first-data = bit-data (getD (f .bytes) 13 0) (getD (f .bytes) 14 0) (map-small (f .bytes) (firstOf (f .bytes)) first);
+      first-own = first;
+      chain = whole (facts (f .bytes)) (f .sectors) (map-few (f .bytes)) n (h .whole k);
     }
 
 good-own : (n : ℕ) (f : File) → GoodFile n f → Own n (f .bytes)
 good-own n f g = record {
   kind = g .kind;
-  some-sectors = g .some-sectors;
+  sectors = ⊎-elim inl (λ a. inr (a .0, a .1 .some-sectors, a .1 .first-own)) (g .sectors);
   few-sectors = g .few-sectors;
   bits = g .bits;
   data-bits = g .data-bits;
-  first-own = g .first-own;
   fits = g .fits;
 }
 
 good-later : (n : ℕ) (f : File) → GoodFile n f → Clear (later (facts (f .bytes)) (f .sectors))
 unfolding facts
 good-later n f g =
-    clear-later (f .bytes) (f .sectors) (of-whole (facts (f .bytes)) (f .sectors) (map-few (f .bytes)) (g .some-sectors) (g .chain)) (g .header) (g .spectrum-fits)
+    clear-later (f .bytes) (f .sectors)
+    (record {
+      whole = λ k. ⊎-elim (λ a. absurd (k (a .0)))
+          (λ a. of-whole (facts (f .bytes)) (f .sectors) (map-few (f .bytes)) (a .1 .some-sectors) (a .1 .chain)) (g .sectors);
+      header = g .header;
+      long = g .spectrum-fits;
+    })
 
 -- the sectors of a file that can be read hold its nine bytes and its body
 pub body-fits : (n : ℕ) (f : File) → GoodFile n f → readable (kindOf (f .bytes)) ≡ true → 9 + fileLength f ≤ 510 * countOf (f .bytes)

@@ -2,7 +2,7 @@
 use Prim.Native.Nat.{ℕ, _+_, _*_, _≤_, _<_}
 use mathlib.Core.Path.{_≡_, refl, sym, ap, ap₂, _∙_}
 use mathlib.Core.Bool.{Bool, true, false, cond, _&&_, and-false}
-use mathlib.Core.List.{List}
+use mathlib.Core.List.{List, []}
 use mathlib.Core.Option.{none, some}
 use native.Mathlib.Omega.{arith}
 use borrow.Author.Tests.{lt-ltb, le-ltb}
@@ -11,13 +11,13 @@ use Rattle.buffers.specs.Bytes.{part}
 use Rattle.geometry.specs.Disk.{placeOrEnd}
 use Rattle.maps.specs.Bits.{has}
 use Rattle.refusals.specs.Order.{refuse, rises}
-use Rattle.slots.specs.Slot.{Facts, facts, kindOf, carried, spectrum, firstOf, countOf, mapOf, lengthOf}
+use Rattle.slots.specs.Slot.{directoryKind, isDirectory, Facts, facts, kindOf, carried, spectrum, firstOf, countOf, mapOf, lengthOf}
 use Rattle.slots.proofs.KindLaws.{carried-not}
 use Rattle.chains.specs.File.{sectorsOf, fileOf}
 use Rattle.chains.specs.Chain.{broken, linked}
 use Rattle.chains.proofs.Laws.{sectors-else, chain-steps}
 use Rattle.chains.proofs.Turns.{read}
-use Rattle.headers.specs.Header.{headerDiffers, headerLength, later, laterReply, firstSector, fileLength}
+use Rattle.headers.specs.Header.{headerDiffers, headerLength, chainRows, later, chainReply, laterReply, firstSector, fileLength}
 use Rattle.headers.proofs.Laws.{length-header, length-slot}
 
 -- ---- the first sector
@@ -53,40 +53,55 @@ overlong : List ℕ → List ℕ → Bool
 overlong d s = ltb (510 * countOf s) (9 + headerLength (firstSector (fileOf d s)))
 
 module _ (d s : List ℕ) (n : ℕ) where
-  later-is : laterReply n (fileOf d s)
+  later-is : chainReply n (fileOf d s)
       ≡ cond (broken (facts s) (sectorsOf d s)) (some (refuse 10 n))
       (cond (carried (kindOf s) && headerDiffers (facts s) (firstSector (fileOf d s))) (some (refuse 11 n))
       (cond (spectrum (kindOf s) && overlong d s) (some (refuse 25 n)) none))
-  unfolding laterReply fileOf facts overlong
+  unfolding chainReply fileOf facts overlong
   later-is = refl
 
-  pub later-broken : broken (facts s) (sectorsOf d s) ≡ true → some (refuse 10 n) ≡ laterReply n (fileOf d s)
+  pub later-broken : broken (facts s) (sectorsOf d s) ≡ true → some (refuse 10 n) ≡ chainReply n (fileOf d s)
   later-broken e = rw (later-is, e)
 
 -- the chain is not broken, and k is the kind
 module _ (d s : List ℕ) (n k : ℕ) (sound : broken (facts s) (sectorsOf d s) ≡ false) (kind : k ≡ kindOf s) where
-  pub later-other : carried k ≡ false → spectrum k ≡ false → none ≡ laterReply n (fileOf d s)
+  pub later-other : carried k ≡ false → spectrum k ≡ false → none ≡ chainReply n (fileOf d s)
   later-other e f = rw (later-is d s n, sound, ← kind, e, f)
 
   -- h is the first sector
   module _ (h : List ℕ) (first : h ≡ firstSector (fileOf d s)) where
-    pub later-differs : carried k ≡ true → headerDiffers (facts s) h ≡ true → some (refuse 11 n) ≡ laterReply n (fileOf d s)
+    pub later-differs : carried k ≡ true → headerDiffers (facts s) h ≡ true → some (refuse 11 n) ≡ chainReply n (fileOf d s)
     later-differs e f = rw (later-is d s n, sound, ← kind, e, ← first, f)
 
     -- no carried kind has row 25
-    pub later-same : carried k ≡ true → headerDiffers (facts s) h ≡ false → none ≡ laterReply n (fileOf d s)
+    pub later-same : carried k ≡ true → headerDiffers (facts s) h ≡ false → none ≡ chainReply n (fileOf d s)
     later-same e f = rw (later-is d s n, sound, ← kind, carried-not k e, ← first, f, and-false)
 
     over : (c l : ℕ) → c ≡ countOf s → l ≡ headerLength h → ltb (510 * c) (9 + l) ≡ overlong d s
     unfolding overlong
     over c l e f = ap₂ (λ (x y : ℕ). ltb (510 * x) (9 + y)) e (f ∙ ap headerLength first)
 
-    pub later-long : (c l : ℕ) → carried k ≡ false → spectrum k ≡ true → c ≡ countOf s → l ≡ headerLength h → 510 * c < 9 + l → some (refuse 25 n) ≡ laterReply n (fileOf d s)
+    pub later-long : (c l : ℕ) → carried k ≡ false → spectrum k ≡ true → c ≡ countOf s → l ≡ headerLength h → 510 * c < 9 + l → some (refuse 25 n) ≡ chainReply n (fileOf d s)
     later-long c l e f g i j = rw (later-is d s n, sound, ← kind, e, f, sym (over c l g i) ∙ lt-ltb (510 * c) (9 + l) j)
 
-    pub later-fits : (c l : ℕ) → carried k ≡ false → c ≡ countOf s → l ≡ headerLength h → 9 + l ≤ 510 * c → none ≡ laterReply n (fileOf d s)
+    pub later-fits : (c l : ℕ) → carried k ≡ false → c ≡ countOf s → l ≡ headerLength h → 9 + l ≤ 510 * c → none ≡ chainReply n (fileOf d s)
     later-fits c l e g i j = rw (later-is d s n, sound, ← kind, e, sym (over c l g i) ∙ le-ltb (510 * c) (9 + l) j, and-false)
+
+-- ---- by the kind
+
+module _ (d s : List ℕ) (n : ℕ) where
+  pub later-directory : isDirectory s ≡ true → none ≡ laterReply n (fileOf d s)
+  unfolding isDirectory laterReply fileOf facts
+  later-directory e = rw e
+
+  pub later-file : isDirectory s ≡ false → chainReply n (fileOf d s) ≡ laterReply n (fileOf d s)
+  unfolding isDirectory chainReply laterReply fileOf facts
+  later-file e = rw e
 
 -- "likewise": rows 10, 11 and 25 stand in the order of their numbers
 pub later-rises : (x : Facts) (sec : ℕ → List ℕ) → rises (later x sec) ≡ true
-later-rises x sec = refl
+later-rises x sec = by (directoryKind (x .kind))
+  where
+    by : (t : Bool) → rises (cond t [] (chainRows x sec)) ≡ true
+    by true = refl
+    by false = refl

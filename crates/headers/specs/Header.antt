@@ -6,7 +6,7 @@ use lib.Dec.{eqb, ltb}
 use lib.ListN.{getD}
 use Rattle.buffers.specs.Bytes.{tab}
 use Rattle.refusals.specs.Order.{Row, _when_, Reply, rows}
-use Rattle.slots.specs.Slot.{Facts, facts, kindOf, carried, spectrum, lengthOf}
+use Rattle.slots.specs.Slot.{Facts, facts, kindOf, carried, spectrum, directoryKind, lengthOf}
 use Rattle.chains.specs.File.{File}
 use Rattle.chains.specs.Chain.{broken, linked}
 
@@ -24,9 +24,9 @@ headerLength h = getD h 1 0 + 256 * getD h 2 0
 abbrev pub headerStart : List ℕ → ℕ
 headerStart h = getD h 3 0 + 256 * getD h 4 0
 
--- rows 10, 11 and 25 of one file
-abbrev pub later : Facts → (ℕ → List ℕ) → List Row
-later x sec =
+-- rows 10, 11 and 25 of a file with sectors
+abbrev pub chainRows : Facts → (ℕ → List ℕ) → List Row
+chainRows x sec =
     -- the chain is broken
     (10 when broken x sec)
     -- carried kind, and the header's first byte, remainder or pages differ from the slot's
@@ -35,7 +35,14 @@ later x sec =
     ∷ (25 when spectrum (x .kind) && ltb (510 * x .count) (9 + headerLength (sec (x .first))))
     ∷ []
 
+-- of kind 21 none: "the chain pass skips it"
+abbrev pub later : Facts → (ℕ → List ℕ) → List Row
+later x sec = cond (directoryKind (x .kind)) [] (chainRows x sec)
+
 -- their reply at a slot
+unfoldable pub chainReply : ℕ → File → Reply
+chainReply slot f = rows slot (chainRows (facts (f .bytes)) (f .sectors))
+
 unfoldable pub laterReply : ℕ → File → Reply
 laterReply slot f = rows slot (later (facts (f .bytes)) (f .sectors))
 

@@ -6,7 +6,7 @@ ghost use Rattle.refusals.specs.Answers.{replyOf};
 ghost use Rattle.maps.specs.Bits.{has};
 ghost use Rattle.slots.specs.Slot.{firstOf, mapOf, facts};
 ghost use Rattle.chains.specs.File.{fileOf};
-ghost use Rattle.headers.specs.Header.{firstSector, headerDiffers, headerLength, headerStart, laterReply, fileLength};
+ghost use Rattle.headers.specs.Header.{firstSector, headerDiffers, headerLength, headerStart, chainReply, laterReply, fileLength};
 use refusals::Reason;
 use refusals::Verdict;
 
@@ -66,9 +66,9 @@ pub fn file_length(image: &[u8], s: &[u8]) -> usize
     slots::length_of(s)
 }
 
-// Rows 10, 11 and 25 at one slot.
-pub fn later_rows(image: &[u8], s: &[u8], slot: usize) -> Verdict
-    ensures { λ r. ⌜ replyOf r ≡ laterReply slot (fileOf (now (image .entry)) (now (s .entry))) ⌝ }
+// Rows 10, 11 and 25 at the slot of a file with sectors.
+fn chain_rows(image: &[u8], s: &[u8], slot: usize) -> Verdict
+    ensures { λ r. ⌜ replyOf r ≡ chainReply slot (fileOf (now (image .entry)) (now (s .entry))) ⌝ }
 {
     if chains::chain_broken(image, s) {
         return refusals::unsound(Reason::ChainBroken, slot);
@@ -86,4 +86,14 @@ pub fn later_rows(image: &[u8], s: &[u8], slot: usize) -> Verdict
         }
     }
     Verdict::Sound
+}
+
+// Rows 10, 11 and 25 at one slot.
+pub fn later_rows(image: &[u8], s: &[u8], slot: usize) -> Verdict
+    ensures { λ r. ⌜ replyOf r ≡ laterReply slot (fileOf (now (image .entry)) (now (s .entry))) ⌝ }
+{
+    if slots::is_directory(s) {
+        return Verdict::Sound;
+    }
+    chain_rows(image, s, slot)
 }

@@ -46,7 +46,7 @@ use Rattle.files.proofs.Starting.{start-barred}
 use Rattle.plans.specs.Change.{Mark, hide, show, protect, release, erase, rename, mark, marked, allBetween, usable}
 use Rattle.plans.specs.Saving.{freeBit}
 use Rattle.plans.specs.Plan.{upd, made, run}
-use Rattle.plans.specs.Accepted.{Named, Unprotected, Renames}
+use Rattle.plans.specs.Accepted.{Named, Erases, Renames}
 use Rattle.plans.specs.After.{SameAnswers, Gone, AfterErase, AfterRename, hiddenBy, protectedBy, marking, AfterMark}
 use Rattle.plans.proofs.Frame.{slots-some, slot-file, disk-sound, upd-same, upd-other, extra-upd, slots-same, slots-other, entry-live, entry-dead, holds, holds-long}
 use Rattle.plans.proofs.Free.{extra-few, used-data}
@@ -273,9 +273,9 @@ module _ (d : List ℕ) (ok : checkDisk d ≡ none) (room : ℕ) (new ss : List 
         slot = t .slot;
         file = t .file;
         found = t .found;
-        long = long-kept d n 0 erasing (λ i. Unprotected) new ss t;
-        byte = ap (λ (k : ℕ). getD new k 0) (omega arith) ∙ byte-put d n 0 erasing (λ i. Unprotected) new ss t old-sound 0 (omega arith) (omega arith);
-        bytes = byte-kept d n 0 erasing (λ i. Unprotected) new ss t refl refl;
+        long = long-kept d n 0 erasing (Erases d) new ss t;
+        byte = ap (λ (k : ℕ). getD new k 0) (omega arith) ∙ byte-put d n 0 erasing (Erases d) new ss t old-sound 0 (omega arith) (omega arith);
+        bytes = byte-kept d n 0 erasing (Erases d) new ss t refl refl;
         sectors = t .sectors;
         empty = rw z (upd-same (look d) (t .slot) none);
         gone = gone-by new n (change-accepted (erase n) d room new ss ok e) (t .askable-name)

@@ -18,7 +18,7 @@ use Rattle.names.proofs.Names.{not-bytes}
 use Rattle.slots.specs.Tracks.{dataCount}
 use Rattle.chains.specs.File.{File, sectorsOf}
 use Rattle.directory.specs.Places.{slots, slotBytes}
-use Rattle.directory.specs.Directory.{held, Directory, nameless, seen}
+use Rattle.directory.specs.Directory.{held, Directory, nameless, seen, directory}
 use Rattle.surveys.specs.Survey.{counted, usedMap, freeOf, free}
 use Rattle.directory.specs.Find.{find}
 use Rattle.directory.proofs.Ends.{seen-next, unseen-nameless}
@@ -32,9 +32,12 @@ use Rattle.files.specs.Asked.{someNamed, slotNamed, startOutside, row20, by-che
 use Rattle.files.proofs.Asked.{some-named, none-named}
 use Rattle.plans.specs.Change.{Wish, Mark, save, erase, rename, mark, usable}
 use Rattle.plans.specs.Saving.{lowestSlot, slotTaken}
+use Rattle.trees.specs.Tree.{occupied}
+use Rattle.trees.specs.Under.{Occupied}
+use Rattle.trees.proofs.Occupied.{not-occupied}
 use Rattle.plans.specs.Plan.{oldName, respells, stopped, run}
-use Rattle.plans.specs.Refused.{someFree, renameRow16, row18, row19, listLong, changeRows, Refuses, Accepts}
-use Rattle.plans.specs.Accepted.{Named, Fresh, FreshBut, Unprotected, Allowed, Renames, Empty, NoSlot, FirstEmpty, dirNumbers, Asked, many, freeSectors, Savable}
+use Rattle.plans.specs.Refused.{someFree, renameRow16, row29, row18, row19, listLong, changeRows, Refuses, Accepts}
+use Rattle.plans.specs.Accepted.{Named, Fresh, FreshBut, Erases, Allowed, Renames, Empty, NoSlot, FirstEmpty, dirNumbers, Asked, many, freeSectors, Savable}
 use Rattle.plans.proofs.Frame.{disk-sound, entry-live, holds, look-entry}
 use Rattle.plans.proofs.Named.{fresh-find, find-fresh, found-file, found-here}
 use Rattle.plans.proofs.Free.{FreeSlot, free-slot, no-free-slot}
@@ -79,6 +82,10 @@ module _ (d n : List ℕ) (ok : checkDisk d ≡ none) (i : ℕ) (f : File) (w : 
   unfolding fileNamed
   named-file = ap (held noFile (fileAt (look d))) named-find ∙ ap (held noFile (λ f. f)) (w .here)
 
+  -- no other live slot is in it: 29 does not hold
+  not-held : (Occupied (directory d) i (f .bytes) → ⊥) → row29 (look d) n .holds ≡ false
+  not-held h = rw (named-find, named-file) (ap (λ (v : Directory). occupied v i (f .bytes)) (look-slots d) ∙ not-occupied (directory d) i (f .bytes) h)
+
   -- no other slot has the new name and the bytes stored are others: 16 does not hold
   not-taken : (new : List ℕ) → FreshBut d i new → (nameOf (f .bytes) ≡ padded new → ⊥) → renameRow16 (look d) n new .holds ≡ false
   not-taken new u v = rw (named-slot, named-file) (by (find (slotsOf (look d)) new) refl)
@@ -96,7 +103,7 @@ module _ (d n : List ℕ) (ok : checkDisk d ≡ none) (i : ℕ) (f : File) (w : 
 -- ---- erase, rename and the marks
 
 module _ (d n : List ℕ) (room : ℕ) where
-  pub erase-exactly : Accepts (erase n) d room ↔ Allowed d n (λ i. Unprotected) room
+  pub erase-exactly : Accepts (erase n) d room ↔ Allowed d n (Erases d) room
   unfolding changeRows
   erase-exactly = (
     λ a.
@@ -109,7 +116,7 @@ module _ (d n : List ℕ) (room : ℕ) where
           file = t .file;
           found = t .found;
           also = t .also;
-          list = ltb-false room 1 (p .rows .1 .1 .1 .0);
+          list = ltb-false room 1 (p .rows .1 .1 .1 .1 .0);
         },
     λ a. accepted-exactly (erase n) d room .1
         (record {
@@ -119,8 +126,11 @@ module _ (d n : List ℕ) (room : ℕ) where
             (
               ap not (named-some d n (a .disk) (a .slot) (a .file) (a .found)),
               (
-                ap (λ (f : File). protected (f .bytes)) (named-file d n (a .disk) (a .slot) (a .file) (a .found)) ∙ a .also,
-                (le-ltb room 1 (a .list), tt),
+                ap (λ (f : File). protected (f .bytes)) (named-file d n (a .disk) (a .slot) (a .file) (a .found)) ∙ a .also .unprotected,
+                (
+                  not-held d n (a .disk) (a .slot) (a .file) (a .found) (a .also .vacant),
+                  (le-ltb room 1 (a .list), tt),
+                ),
               ),
             ),
           );

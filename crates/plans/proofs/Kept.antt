@@ -24,7 +24,7 @@ use Rattle.directory.proofs.Label.{slots-few}
 use Rattle.directory.proofs.Ends.{seen-is}
 use Rattle.directory.proofs.Live.{directory-some}
 use Rattle.disk.specs.Look.{Look, look, extra}
-use Rattle.disk.specs.Sound.{GoodFile, Sound}
+use Rattle.disk.specs.Sound.{HasSectors, GoodFile, Sound}
 use Rattle.disk.proofs.Look.{look-long, look-extra, look-some}
 use Rattle.steps.specs.Steps.{Step, putAll, Does}
 use Rattle.plans.specs.Change.{Mark, hide, show, protect, release, marked, allBetween, usable}
@@ -180,19 +180,24 @@ module _ (d : List ℕ) (w : Sound (look d)) (i : ℕ) (f : File) (e : look d .f
         remainder = (rest 240 (omega arith) t + 256 * rest 241 (omega arith) t) % 16384;
       }
 
+      has-kept : countOf now ≡ countOf (f .bytes) → HasSectors f → HasSectors (record { bytes = now; sectors = f .sectors })
+      has-kept c h = record {
+        some-sectors = rw c (h .some-sectors);
+        first-data = rw (rest 13 (omega arith), rest 14 (omega arith)) (h .first-data);
+        first-own = rw (map-kept, rest 13 (omega arith), rest 14 (omega arith)) (h .first-own);
+        chain = rw facts-kept (h .chain);
+      }
+
       good-kept : GoodFile (extra (look d)) (record { bytes = now; sectors = f .sectors })
       good-kept =
           let c : countOf now ≡ countOf (f .bytes) = rw (rest 11 (omega arith), rest 12 (omega arith)) in
           record {
             kind = rw p (was .kind);
-            some-sectors = rw c (was .some-sectors);
+            sectors = ⊎-elim (λ a. inl (p ∙ a .0, c ∙ a .1)) (λ a. inr (λ z. a .0 (sym p ∙ z), has-kept c (a .1))) (was .sectors);
             few-sectors = rw c (was .few-sectors);
             bits = rw (map-kept, c) (was .bits);
             data-bits = rw map-kept (was .data-bits);
-            first-data = rw (rest 13 (omega arith), rest 14 (omega arith)) (was .first-data);
-            first-own = rw (map-kept, rest 13 (omega arith), rest 14 (omega arith)) (was .first-own);
             fits = rw (p, facts-kept, c) (was .fits);
-            chain = rw facts-kept (was .chain);
             header = λ v.
                 let a = was .header (rw p at v) in
                 rw facts-kept

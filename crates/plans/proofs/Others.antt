@@ -28,7 +28,7 @@ use Rattle.disk.proofs.Look.{look-slots}
 use Rattle.files.specs.Calls.{noFile, fileAt, fileNamed, notReadable, outOfRange, readReply, readLook, startReply, startOf, startLook}
 use Rattle.plans.specs.Change.{Mark, erase, rename, mark, marked}
 use Rattle.plans.specs.Plan.{upd, entryOf, made, run}
-use Rattle.plans.specs.Accepted.{Named, Unprotected, Renames}
+use Rattle.plans.specs.Accepted.{Named, Erases, Renames}
 use Rattle.plans.specs.After.{SameAnswers, marking}
 use Rattle.plans.proofs.Frame.{disk-sound, upd-other, slots-same, slots-other, entry-is, holds-long}
 use Rattle.plans.proofs.Kept.{sound-long, usable-is}
@@ -218,7 +218,7 @@ module _ (d : List ℕ) (ok : checkDisk d ≡ none) (room : ℕ) (new ss : List 
   pub erase-others : (n : List ℕ) → run (erase n) d room ≡ made new ss → (m : List ℕ) → (Same (padded m) (padded n) → ⊥) → SameAnswers new m d m
   erase-others n e m u =
       let t = erased d ok room new ss n e in
-      touched-others d n 0 erasing (λ i. Unprotected) new ss ok (change-accepted (erase n) d room new ss ok e) t m u
+      touched-others d n 0 erasing (Erases d) new ss ok (change-accepted (erase n) d room new ss ok e) t m u
       (λ q. u (same-via (nameOf (t .file .bytes)) (padded m) (padded n) (same-of (sym (first-name (t .file .bytes) 0)) (padded m) q) (t .found .name)))
 
   pub mark-others : (k : Mark) (n : List ℕ) → run (mark k n) d room ≡ made new ss → (m : List ℕ) → (Same (padded m) (padded n) → ⊥) → SameAnswers new m d m

@@ -3,7 +3,7 @@ use Prim.Native.Nat.{ℕ, suc, _+_, _<_}
 use mathlib.Core.Path.{_≡_, refl, sym, ap, _∙_, subst}
 use mathlib.Core.Bool.{Bool, true, false, cond, not, _&&_, _||_, true≢false}
 use mathlib.Core.List.{List, [], _∷_, map}
-use mathlib.Core.Logic.{_⊎_, inl, inr, _≢_, _↔_}
+use mathlib.Core.Logic.{_⊎_, inl, inr, ⊎-elim, _≢_, _↔_}
 use mathlib.Core.Option.{Option, none, some, Option·some-ne-none}
 use native.Mathlib.Omega.{arith}
 use borrow.Author.Tests.{ltb-true, ltb-false, le-leb, lt-leb}
@@ -12,6 +12,7 @@ use lib.ListN.{length, getD, length-append, length-map}
 use Rattle.buffers.proofs.Counts.{any-some, none-any}
 use Rattle.geometry.specs.Disk.{bitNumber}
 use Rattle.refusals.specs.Order.{Refusal, refuse, Reply, _else_, row, SlotRow, rowAt, NoRow, FirstOf, bare, rises, Lowest}
+use Rattle.refusals.proofs.Lowest.{slot-lowest, slot-positive}
 use Rattle.refusals.specs.Answers.{done, refused, filled}
 use Rattle.refusals.proofs.First.{first-same, first-none}
 use Rattle.slots.specs.Slot.{protected, carried, nameOf, sectorsFor}
@@ -25,15 +26,17 @@ use Rattle.directory.proofs.Search.{find-some, find-none}
 use Rattle.disk.specs.Look.{Look, look, slotsOf, extra}
 use Rattle.disk.specs.Check.{checkLook, checkDisk}
 use Rattle.disk.specs.Sound.{Sound}
+use Rattle.disk.proofs.Order.{check-positive}
 use Rattle.files.specs.Calls.{noFile, fileAt, fileNamed, entries, listLook, readReply, readLook, listing, reading}
 use Rattle.files.specs.Asked.{someNamed, slotNamed, startOutside, row15, row20, by-check, by-row}
-use Rattle.files.proofs.Asked.{some-named, none-named, outside-is, by-lowest, by-positive}
+use Rattle.files.proofs.Asked.{some-named, none-named, outside-is}
 use Rattle.steps.specs.Steps.{Step, enact, numbers}
 use Rattle.steps.proofs.Steps.{length-numbers}
+use Rattle.trees.specs.Tree.{occupied}
 use Rattle.plans.specs.Change.{Wish, Mark, Change, save, erase, rename, mark, marked, between, usable}
 use Rattle.plans.specs.Saving.{taken, lowestSlot, slotTaken}
-use Rattle.plans.specs.Plan.{touch, oldName, dirSectors, saveSteps, Plan, no, go, orNo, byName, takenAt, nameTaken, respells, takenBy, renameTaken, isProtected, saveReply, planOf, Result, stopped, made, settle, checked, run, changedBy, change}
-use Rattle.plans.specs.Refused.{someFree, row14, row16, renameRow16, row17, row18, row19, listLong, changeRows, Refuses, Passes, Accepts}
+use Rattle.plans.specs.Plan.{touch, oldName, dirSectors, saveSteps, Plan, no, go, orNo, byName, takenAt, nameTaken, respells, takenBy, renameTaken, isProtected, isOccupied, saveReply, planOf, Result, stopped, made, settle, checked, run, changedBy, change}
+use Rattle.plans.specs.Refused.{someFree, row14, row16, renameRow16, row17, row29, row18, row19, listLong, changeRows, byNumber, Refuses, Passes, Accepts}
 use Rattle.plans.specs.Accepted.{many}
 use Rattle.plans.proofs.Frame.{disk-sound}
 use Rattle.plans.proofs.Free.{lowest-slot, no-slot, taken-long}
@@ -71,6 +74,11 @@ module _ (l : Look) (n : List ℕ) where
   row17-is : (i : ℕ) → find (slotsOf l) n ≡ some i → row17 l n ≡ rowAt 17 (suc i) (protected (fileAt l i .bytes))
   unfolding slotNamed fileNamed
   row17-is i e = ap (λ (o : Option ℕ). rowAt 17 (held 0 suc o) (protected (held noFile (fileAt l) o .bytes))) e
+
+  row29-is : (i : ℕ) → find (slotsOf l) n ≡ some i → row29 l n ≡ rowAt 29 (suc i) (occupied (slotsOf l) i (fileAt l i .bytes))
+  unfolding slotNamed fileNamed
+  row29-is i e =
+      ap (λ (o : Option ℕ). rowAt 29 (held 0 suc o) (held false (λ j. occupied (slotsOf l) j (held noFile (fileAt l) o .bytes)) o)) e
 
 module _ (l : Look) where
   abbrev is-free : ℕ → Bool
@@ -161,6 +169,12 @@ module _ (d : List ℕ) (room : ℕ) (old : ℕ → Bool) where
         subst (λ (r : SlotRow). By (r ∷ rs) (orNo (isProtected i (fileAt l i)) q)) (sym (row17-is l n i e))
         (by-test 17 (suc i) (protected (fileAt l i .bytes)) rs q (λ z. k))
 
+    by-occupied : (n : List ℕ) (i : ℕ) → find (slotsOf l) n ≡ some i → (rs : List SlotRow) (q : Plan) → By rs q
+        → By (row29 l n ∷ rs) (orNo (isOccupied (slotsOf l) i (fileAt l i)) q)
+    by-occupied n i e rs q k =
+        subst (λ (r : SlotRow). By (r ∷ rs) (orNo (isOccupied (slotsOf l) i (fileAt l i)) q)) (sym (row29-is l n i e))
+        (by-test 29 (suc i) (occupied (slotsOf l) i (fileAt l i .bytes)) rs q (λ z. k))
+
     by-touch : (i : ℕ) (f : File) (o : ℕ) (y : List ℕ) → By (row20 room 1 ∷ []) (go (touch l i f o y))
     by-touch i f o y = by-room (touch l i f o y) 1 (length-numbers (touch l i f o y))
 
@@ -225,8 +239,9 @@ module _ (d : List ℕ) (room : ℕ) (old : ℕ → Bool) where
     unfolding changeRows planOf
     by-erase n =
         by-test 12 0 (not (askable n)) _ _
-        (λ a. by-found n (λ i f. orNo (isProtected i f) (go (touch l i f 0 (0 ∷ [])))) _
-        (λ i e. by-protected n i e _ _ (by-touch i (fileAt l i) 0 (0 ∷ []))))
+        (λ a. by-found n (λ i f. orNo (isProtected i f else isOccupied (slotsOf l) i f) (go (touch l i f 0 (0 ∷ [])))) _
+        (λ i e. by-else (isProtected i (fileAt l i)) (isOccupied (slotsOf l) i (fileAt l i)) _ (go (touch l i (fileAt l i) 0 (0 ∷ [])))
+        (by-protected n i e _ _ (by-occupied n i e _ _ (by-touch i (fileAt l i) 0 (0 ∷ []))))))
 
     by-rename : (n new : List ℕ) → By (changeRows old (rename n new) l room) (planOf old (rename n new) l)
     unfolding changeRows planOf
@@ -302,21 +317,48 @@ module _ (c : Change) (d : List ℕ) (room : ℕ) where
   pub accepted-exactly : Accepts c d room ↔ Passes c d room
   accepted-exactly = (run-passes, passes-run)
 
--- "the lowest that applies of 12 to 20": the rows of each change rise in number, so that the first that holds is the lowest
-pub rows-rise : (old : ℕ → Bool) (c : Change) (l : Look) (room : ℕ) → rises (bare (changeRows old c l room)) ≡ true
-unfolding changeRows
+-- "the lowest that applies of 12 to 20": in the order of their numbers the rows of each change rise
+pub rows-rise : (old : ℕ → Bool) (c : Change) (l : Look) (room : ℕ) → rises (bare (byNumber old c l room)) ≡ true
+unfolding byNumber changeRows
 rows-rise old (save w) l room = refl
 rows-rise old (erase n) l room = refl
 rows-rise old (rename n new) l room = refl
 rows-rise old (mark m n) l room = refl
 
+-- the first row that holds is 29, or the first in that order too
+first-by-number : (old : ℕ → Bool) (c : Change) (l : Look) (room : ℕ) (r : Refusal) → FirstOf r (changeRows old c l room)
+    → (r .number ≡ 29) ⊎ FirstOf r (byNumber old c l room)
+unfolding byNumber changeRows
+first-by-number old (save w) l room r f = inr f
+first-by-number old (rename n new) l room r f = inr f
+first-by-number old (mark m n) l room r f = inr f
+first-by-number old (erase n) l room r f =
+    ⊎-elim (λ a. inr (inl a))
+    (λ a. ⊎-elim (λ b. inr (inr (a .0, inl b)))
+    (λ b. ⊎-elim (λ c. inr (inr (a .0, inr (b .0, inl c))))
+    (λ c. ⊎-elim (λ e. inl (sym (ap (λ (x : Refusal). x .number) (e .1))))
+    (λ e. ⊎-elim (λ g. inr (inr (a .0, inr (b .0, inr (c .0, inl g))))) (λ g. absurd (g .1)) (e .1)) (c .1)) (b .1)) (a .1)) f
+
+-- what is refused by a row is 29, which stands "after 17", or the lowest that applies
 pub refused-lowest : (c : Change) (d : List ℕ) (room : ℕ) (r : Refusal) → run c d room ≡ stopped r
-    → (checkDisk d ≡ some r) ⊎ Lowest (r .number) (bare (changeRows (oldName d) c (look d) room))
-refused-lowest c d room r e = by-lowest d (changeRows (oldName d) c (look d) room) r (rows-rise (oldName d) c (look d) room) (refused-exactly c d room r .0 e)
+    → (checkDisk d ≡ some r) ⊎ ((r .number ≡ 29) ⊎ Lowest (r .number) (bare (byNumber (oldName d) c (look d) room)))
+refused-lowest c d room r e = by (refused-exactly c d room r .0 e)
+  where
+    by : Refuses c d room r → (checkDisk d ≡ some r) ⊎ ((r .number ≡ 29) ⊎ Lowest (r .number) (bare (byNumber (oldName d) c (look d) room)))
+    by (by-check a) = inl a
+    by (by-row a f) =
+        inr (⊎-elim inl (λ g. inr (slot-lowest (byNumber (oldName d) c (look d) room) r (rows-rise (oldName d) c (look d) room) g))
+        (first-by-number (oldName d) c (look d) room r f))
 
 -- no refusal has the number 0
 pub refused-positive : (c : Change) (d : List ℕ) (room : ℕ) (r : Refusal) → run c d room ≡ stopped r → r .number ≢ 0
-refused-positive c d room r e = by-positive d (changeRows (oldName d) c (look d) room) r (rows-rise (oldName d) c (look d) room) (refused-exactly c d room r .0 e)
+refused-positive c d room r e = by (refused-exactly c d room r .0 e)
+  where
+    by : Refuses c d room r → r .number ≢ 0
+    by (by-check a) = check-positive d r a
+    by (by-row a f) =
+        ⊎-elim (λ g z. omega arith) (slot-positive (byNumber (oldName d) c (look d) room) r (rows-rise (oldName d) c (look d) room))
+        (first-by-number (oldName d) c (look d) room r f)
 
 -- the same of the call: its outcome is a refusal exactly then
 pub change-refused : (c : Change) (d buf : List ℕ) (r : Refusal) → (change c d buf .outcome ≡ refused r) ↔ Refuses c d (length buf) r

@@ -23,7 +23,7 @@ use Rattle.disk.proofs.Release.{release-accepts, release-exactly}
 use Rattle.steps.specs.Sectors.{cut}
 use Rattle.plans.specs.Change.{Wish, Change, save, erase, rename, mark, marked}
 use Rattle.plans.specs.Plan.{upd, entryOf, made, run, finds}
-use Rattle.plans.specs.Accepted.{Unprotected, Renames}
+use Rattle.plans.specs.Accepted.{Erases, Renames}
 use Rattle.plans.specs.After.{marking}
 use Rattle.plans.proofs.Frame.{disk-sound, upd-same, upd-other, entry-alive, entry-is, holds-long}
 use Rattle.plans.proofs.Kept.{sound-long, usable-is}
@@ -91,7 +91,7 @@ module _ (d : List ℕ) (ok : checkRelease d ≡ none) (room : ℕ) (new ss : Li
   change-lean (erase n) e =
       let t = erased d first room new ss n e in
       let z = holds-long d (t .slot) (t .file) (t .found .here) (sound-long d (disk-sound d first)) in
-      touched-lean d n 0 erasing (λ i. Unprotected) new ss lean t
+      touched-lean d n 0 erasing (Erases d) new ss lean t
       (λ a. absurd (true≢false (sym a ∙ rw (first-byte (t .file .bytes) 0 (omega arith)))))
   change-lean (rename n to) e =
       let t = renamed d first room new ss n to e in

@@ -13,7 +13,7 @@ use Rattle.disk.specs.Look.{look, slotsOf}
 use Rattle.disk.specs.Check.{checkDisk}
 use Rattle.plans.specs.Change.{Wish, Change, save, erase, rename, mark}
 use Rattle.plans.specs.Plan.{finds, made, run}
-use Rattle.plans.specs.Accepted.{Unprotected, Renames}
+use Rattle.plans.specs.Accepted.{Erases, Renames}
 use Rattle.plans.specs.After.{SameAnswers, Other, Unasked, marking}
 use Rattle.plans.proofs.Kept.{usable-is}
 use Rattle.plans.proofs.NewFile.{newFile, name-is}
@@ -66,7 +66,7 @@ module _ (d : List ℕ) (ok : checkDisk d ≡ none) (room : ℕ) (new ss : List 
       other-slots d new (k .slot) (some (newFile (look d .label) (k .slot) w (k .bits))) (k .seen) j
       (λ q. Option·some-ne-none f (sym h ∙ ap (look d .files) q ∙ k .lowest .empty))
   entries-stay (erase n) e j f h x =
-      touched-slots d n 0 erasing (λ i. Unprotected) new ss (erased d ok room new ss n e) j (unfound j f n h (λ p. false≢true (sym x ∙ finds-erase n f .1 p)))
+      touched-slots d n 0 erasing (Erases d) new ss (erased d ok room new ss n e) j (unfound j f n h (λ p. false≢true (sym x ∙ finds-erase n f .1 p)))
   entries-stay (rename n to) e j f h x =
       touched-slots d n 1 (λ f. padded to) (Renames d to) new ss (renamed d ok room new ss n to e) j
       (unfound j f n h (λ p. false≢true (sym x ∙ finds-rename n to f .1 p)))

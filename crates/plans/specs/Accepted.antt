@@ -18,6 +18,7 @@ use Rattle.surveys.specs.Survey.{usedMap}
 use Rattle.disk.specs.Look.{look}
 use Rattle.disk.specs.Check.{checkDisk}
 use Rattle.disk.specs.Sound.{Carried}
+use Rattle.trees.specs.Under.{Occupied}
 use Rattle.steps.specs.Sectors.{listed}
 use Rattle.plans.specs.Change.{Wish, usable}
 use Rattle.plans.specs.Plan.{oldName, dirSectors}
@@ -35,6 +36,11 @@ Fresh d n = (i : ℕ) (f : File) → look d .files i ≡ some f → Same (nameOf
 -- bit 6 is clear
 abbrev pub Unprotected : File → Type 0
 Unprotected f = protected (f .bytes) ≡ false
+
+-- for an erase of the file in slot i: it is not protected, nor a directory that another live slot is in
+pub record Erases (d : List ℕ) (i : ℕ) (f : File) : Type 0 where
+  pub unprotected : Unprotected f
+  pub vacant : Occupied (directory d) i (f .bytes) → ⊥
 
 -- the disk is accepted, the name can be asked for, a live slot has it, more holds of its file, and the list has room for one number
 pub record Allowed (d n : List ℕ) (Also : ℕ → File → Type 0) (room : ℕ) : Type 0 where

@@ -20,6 +20,7 @@ use Rattle.disk.specs.Look.{Look, look, slotsOf, extra}
 use Rattle.disk.specs.Check.{checkDisk}
 use Rattle.files.specs.Calls.{fileAt}
 use Rattle.steps.specs.Steps.{Put, Step, enact, numbers}
+use Rattle.trees.specs.Tree.{occupied}
 use Rattle.plans.specs.Change.{Wish, Change, save, erase, rename, mark, marked, between, usable}
 use Rattle.plans.specs.Saving.{taken, lowestSlot, slotTaken, stream, block, nextTrack, nextSector, chained, newSlot}
 
@@ -136,6 +137,10 @@ renameTaken v i f new = takenAt (takenBy v i f new)
 abbrev pub isProtected : ℕ → File → Reply
 isProtected i f = row 17 (suc i) (protected (f .bytes))
 
+-- 29, "a directory whose code, not 0, is another live slot's byte 254, after 17"
+abbrev pub isOccupied : Directory → ℕ → File → Reply
+isOccupied v i f = row 29 (suc i) (occupied v i (f .bytes))
+
 -- a save is refused by its arguments and the directory alone: 12, 13, 14, 16, 18, 19
 unfoldable pub saveReply : ℕ → Directory → Wish → Reply
 saveReply n v w =
@@ -147,7 +152,8 @@ saveReply n v w =
 unfoldable pub planOf : (ℕ → Bool) → Change → Look → Plan
 -- "Erase sets byte 0 to 0 and changes no other byte."
 planOf old (erase n) l =
-    orNo (row 12 0 (not (askable n))) (byName l n (λ i f. orNo (isProtected i f) (go (touch l i f 0 (0 ∷ [])))))
+    orNo (row 12 0 (not (askable n)))
+    (byName l n (λ i f. orNo (isProtected i f else isOccupied (slotsOf l) i f) (go (touch l i f 0 (0 ∷ [])))))
 -- "Rename changes bytes 1 to 10"
 planOf old (rename n new) l =
     orNo (row 12 0 (not (askable n && usable new)))

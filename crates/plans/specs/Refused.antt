@@ -12,11 +12,13 @@ use Rattle.slots.specs.Slot.{protected, carried, sectorsFor}
 use Rattle.names.specs.Name.{askable}
 use Rattle.directory.specs.Places.{slotCount}
 use Rattle.directory.specs.Directory.{held}
+use Rattle.directory.specs.Find.{find}
 use Rattle.surveys.specs.Survey.{free}
 use Rattle.disk.specs.Look.{Look, look, slotsOf, extra}
 use Rattle.disk.specs.Check.{checkDisk}
 use Rattle.files.specs.Calls.{fileNamed}
 use Rattle.files.specs.Asked.{someNamed, slotNamed, startOutside, row12, row15, row20, RefusesBy}
+use Rattle.trees.specs.Tree.{occupied}
 use Rattle.plans.specs.Change.{Wish, Change, save, erase, rename, mark, usable}
 use Rattle.plans.specs.Saving.{slotTaken}
 use Rattle.plans.specs.Plan.{oldName, dirSectors, respells, made, run}
@@ -49,6 +51,10 @@ renameRow16 l n new = rowAt 16 (slotNamed l new) (someNamed l new && not (respel
 abbrev pub row17 : Look → List ℕ → SlotRow
 row17 l n = rowAt 17 (slotNamed l n) (protected (fileNamed l n .bytes))
 
+-- "a directory whose code, not 0, is another live slot's byte 254"
+abbrev pub row29 : Look → List ℕ → SlotRow
+row29 l n = rowAt 29 (slotNamed l n) (held false (λ i. occupied (slotsOf l) i (fileNamed l n .bytes)) (find (slotsOf l) n))
+
 -- "18 only if no slot before the end is erased and there is no end"
 abbrev pub row18 : Look → SlotRow
 row18 l = rowAt 18 0 (not (someFree l))
@@ -61,14 +67,21 @@ row19 l w = rowAt 19 0 (ltb (free (extra l) (slotsOf l)) (sectorsFor (length (w 
 unfoldable pub listLong : (ℕ → Bool) → Look → Wish → ℕ
 listLong old l w = sectorsFor (length (w .body)) + length (dirSectors (old (slotTaken (extra l) (slotsOf l))) (slotTaken (extra l) (slotsOf l)))
 
--- "then the lowest that applies of 12 to 20": the rows of each change, with a list of so many numbers; old: whether an old name
--- stands behind slot i
+-- "then the lowest that applies of 12 to 20", and "29 .., after 17": the rows of each change, with a list of so many numbers; old:
+-- whether an old name stands behind slot i
 unfoldable pub changeRows : (ℕ → Bool) → Change → Look → ℕ → List SlotRow
 changeRows old (save w) l room =
     row12 (usable (w .name)) ∷ row13 w ∷ row14 w ∷ row16 l (w .name) ∷ row18 l ∷ row19 l w ∷ row20 room (listLong old l w) ∷ []
-changeRows old (erase n) l room = row12 (askable n) ∷ row15 l n ∷ row17 l n ∷ row20 room 1 ∷ []
+changeRows old (erase n) l room = row12 (askable n) ∷ row15 l n ∷ row17 l n ∷ row29 l n ∷ row20 room 1 ∷ []
 changeRows old (rename n new) l room = row12 (askable n && usable new) ∷ row15 l n ∷ renameRow16 l n new ∷ row17 l n ∷ row20 room 1 ∷ []
 changeRows old (mark m n) l room = row12 (askable n) ∷ row15 l n ∷ row20 room 1 ∷ []
+
+-- the same in the order of their numbers: 29 stands before 20
+unfoldable pub byNumber : (ℕ → Bool) → Change → Look → ℕ → List SlotRow
+byNumber old (save w) l room = changeRows old (save w) l room
+byNumber old (erase n) l room = row12 (askable n) ∷ row15 l n ∷ row17 l n ∷ row20 room 1 ∷ row29 l n ∷ []
+byNumber old (rename n new) l room = changeRows old (rename n new) l room
+byNumber old (mark m n) l room = changeRows old (mark m n) l room
 
 -- ---- refused, and accepted
 

@@ -5,7 +5,7 @@ use mathlib.Core.Option.{none, some}
 use Rattle.buffers.specs.Bytes.{put}
 use Rattle.refusals.specs.Order.{Refusal, Reply, refuse}
 use Rattle.refusals.specs.declared.Reason.{Reason}
-use Rattle.refusals.specs.declared.Reason.the-variants.{NotAnImage, KindUnknown, NameMissing, CountOutOfRange, BitsDiffer, FirstNotOwn, LengthTooGreat, SectorShared, NameTwice, ChainBroken, HeaderDiffers, NameNotUsable, WrongKind, StartOutOfRange, NameNotFound, NameTaken, FileProtected, NoFreeSlot, TooFewSectors, BufferTooShort, NoSuchSector, WasteSectors, TracksOutOfRange, BodyTooLong, ReportFull}
+use Rattle.refusals.specs.declared.Reason.the-variants.{NotAnImage, KindUnknown, NameMissing, CountOutOfRange, BitsDiffer, FirstNotOwn, LengthTooGreat, SectorShared, NameTwice, ChainBroken, HeaderDiffers, NameNotUsable, WrongKind, StartOutOfRange, NameNotFound, NameTaken, FileProtected, NoFreeSlot, TooFewSectors, BufferTooShort, NoSuchSector, WasteSectors, TracksOutOfRange, BodyTooLong, CodeNotOwn, NoSuchDirectory, InsideItself, DirectoryNotEmpty, ReportFull}
 use Rattle.refusals.specs.declared.Refused.{Refused}
 use Rattle.refusals.specs.declared.Verdict.{Verdict}
 use Rattle.refusals.specs.declared.Verdict.the-variants.{Sound, Unsound}
@@ -62,6 +62,14 @@ numberOf WasteSectors = 22
 numberOf TracksOutOfRange = 24
 -- kind 1 to 4, and 510 × count is below 9 + length
 numberOf BodyTooLong = 25
+-- a directory with code 0 or an earlier directory's code (the listing of a directory alone, as 27 and 28)
+numberOf CodeNotOwn = 26
+-- a live slot's byte 254 is not 0 and no directory's code
+numberOf NoSuchDirectory = 27
+-- a directory lies inside itself at some depth
+numberOf InsideItself = 28
+-- a directory whose code, not 0, is another live slot's byte 254 (erase)
+numberOf DirectoryNotEmpty = 29
 -- a disk or join that would pass 65,535 disks
 numberOf ReportFull = 31
 

@@ -31,6 +31,10 @@ pub enum Reason {
     WasteSectors,
     TracksOutOfRange,
     BodyTooLong,
+    CodeNotOwn,
+    NoSuchDirectory,
+    InsideItself,
+    DirectoryNotEmpty,
     ReportFull,
 }
 
@@ -81,6 +85,10 @@ pub fn number_of(reason: Reason) -> usize
         Reason::WasteSectors => 22,
         Reason::TracksOutOfRange => 24,
         Reason::BodyTooLong => 25,
+        Reason::CodeNotOwn => 26,
+        Reason::NoSuchDirectory => 27,
+        Reason::InsideItself => 28,
+        Reason::DirectoryNotEmpty => 29,
         Reason::ReportFull => 31,
     }
 }

@@ -9,8 +9,9 @@ use native.Mathlib.Omega.{arith}
 use borrow.Author.Tests.{leb-true, eq-eqb, ne-eqb}
 use lib.Dec.{eqb, leb}
 use Rattle.buffers.specs.Bytes.{count}
-use Rattle.buffers.proofs.Lists.{below-or-not}
+use Rattle.buffers.specs.Sums.{sum}
 use Rattle.buffers.proofs.Tests.{and-both}
+use Rattle.buffers.proofs.Sums.{sum-cong, sum-plus, sum-zero, sum-single}
 use Rattle.maps.proofs.Laws.{bits-le}
 use Rattle.refusals.specs.Order.{Refusal, Reply, Row, FirstRow}
 use Rattle.slots.specs.Slot.{kindOf, countOf}
@@ -22,46 +23,12 @@ use Rattle.surveys.proofs.Pass.{used-few}
 use Rattle.disk.specs.Look.{Look, look, slotsOf, extra}
 use Rattle.disk.specs.Check.{checkLook, checkDisk}
 use Rattle.disk.specs.Given.{rows9, rows11, Given, by-length, by-tracks, by-slot, by-chain}
-use Rattle.disk.proofs.Order.{given, check-positive}
-use Rattle.reports.specs.Numbers.{sum, Numbers, inClass, filesAmong, filesReport, acceptedReport, refusedReport, empty, plus, over, reportOf}
+use Rattle.disk.proofs.Order.{given, rows-by-kind, chain-by-kind, check-positive}
+use Rattle.reports.specs.Numbers.{Numbers, inClass, filesAmong, filesReport, acceptedReport, refusedReport, empty, plus, over, reportOf}
 use Rattle.reports.specs.Shelf.{Disks, ofAccepted, total, filesOf, dataOf, AddsUp}
 use Rattle.reports.proofs.Classes.{class-only, class-some}
 use Rattle.reports.proofs.Places.{only-from}
 use Rattle.reports.proofs.Disk.{used-sectors, survey-accepts, report-accepted, report-refused}
-
--- ---- sums
-
-pub sum-cong : (n : ℕ) (f g : ℕ → ℕ) → ((k : ℕ) → k < n → f k ≡ g k) → sum n f ≡ sum n g
-unfolding sum
-sum-cong zero f g h = refl
-sum-cong (suc n) f g h = ap₂ _+_ (sum-cong n f g (λ k l. h k (omega arith))) (h n (omega arith))
-
-pub sum-plus : (n : ℕ) (f g : ℕ → ℕ) → sum n (λ k. f k + g k) ≡ sum n f + sum n g
-unfolding sum
-sum-plus zero f g = refl
-sum-plus (suc n) f g = omega (arith, sum-plus n f g)
-
-pub sum-zero : (n : ℕ) → sum n (λ k. 0) ≡ 0
-unfolding sum
-sum-zero zero = refl
-sum-zero (suc n) = omega (arith, sum-zero n)
-
--- the first one apart
-pub sum-first : (n : ℕ) (f : ℕ → ℕ) → sum (suc n) f ≡ f 0 + sum n (λ k. f (suc k))
-unfolding sum
-sum-first zero f = omega arith
-sum-first (suc n) f = ap (λ (a : ℕ). a + f (suc n)) (sum-first n f) ∙ omega arith
-
--- a test that one number below n passes
-sum-one : (n j : ℕ) → j < n → sum n (λ k. cond (eqb k j) 1 0) ≡ 1
-unfolding sum
-sum-one zero j h = absurd (omega arith)
-sum-one (suc n) j h =
-    ⊎-elim (λ (l : j < n). rw (ne-eqb n j (λ q. omega arith)) (omega (arith, sum-one n j l)))
-    (λ (l : n ≤ j). let e : n ≡ j = omega arith in rw (eq-eqb n j e) (omega (arith, before e))) (below-or-not j n)
-  where
-    before : n ≡ j → sum n (λ k. cond (eqb k j) 1 0) ≡ 0
-    before e = sum-cong n _ (λ k. 0) (λ k l. rw (ne-eqb k j (λ q. omega arith))) ∙ sum-zero n
 
 -- ---- the files of a disk, by a test of which each file passes one
 
@@ -79,10 +46,10 @@ module _ (v : Directory) (m : ℕ) (p : ℕ → List ℕ → Bool) (one : (s : L
 one-class : (s : List ℕ) → sum 12 (λ c. cond (inClass c (countOf s)) 1 0) ≡ 1
 one-class s =
     let w = class-some (countOf s) in
-    sum-cong 12 _ (λ c. cond (eqb c (w .0)) 1 0) (λ c l. ap (λ (t : Bool). cond t 1 0) (class-only (w .0) c (countOf s) (w .1) l (w .2))) ∙ sum-one 12 (w .0) (w .1)
+    sum-cong 12 _ (λ c. cond (eqb c (w .0)) 1 0) (λ c l. ap (λ (t : Bool). cond t 1 0) (class-only (w .0) c (countOf s) (w .1) l (w .2))) ∙ sum-single 12 (w .0) (w .1)
 
 one-kind : (s : List ℕ) → sum 64 (λ k. cond (eqb k (kindOf s)) 1 0) ≡ 1
-one-kind s = sum-one 64 (kindOf s) (omega arith)
+one-kind s = sum-single 64 (kindOf s) (omega arith)
 
 -- ---- the number of a refusal is 1 to 32
 
@@ -104,14 +71,14 @@ check-low l r e = by (given l r e)
     by : Given l r → r .number ≤ 32
     by (by-length n q) = omega (arith, ap (λ (x : Refusal). x .number) q)
     by (by-tracks n a b q) = omega (arith, ap (λ (x : Refusal). x .number) q)
-    by (by-slot n t w) = first-low (rows9 l (w .at) (w .file)) (r .number) refl (w .number)
-    by (by-chain n t c w) = first-low (rows11 l (w .at) (w .file)) (r .number) refl (w .number)
+    by (by-slot n t w) = first-low (rows9 l (w .at) (w .file)) (r .number) (rows-by-kind (λ rs. low rs ≡ true) false l (w .at) (w .file) refl refl) (w .number)
+    by (by-chain n t c w) = first-low (rows11 l (w .at) (w .file)) (r .number) (chain-by-kind (λ rs. low rs ≡ true) l (w .at) (w .file) refl refl) (w .number)
 
 one-refused : (x : ℕ) → x ≢ 0 → x ≤ 32 → sum 32 (λ n. cond (eqb (suc n) x) 1 0) ≡ 1
 one-refused x h l =
     let e : 1 + (x - 1) ≡ x = omega arith in
     sum-cong 32 _ (λ n. cond (eqb n (x - 1)) 1 0) (λ n k. ap (λ (y : ℕ). cond (eqb (suc n) y) 1 0) (sym e) ∙ sym (only-from 1 (x - 1) (suc n) (omega arith) (ap (λ (y : ℕ). eqb y (x - 1)) (less n))))
-    ∙ sum-one 32 (x - 1) (omega arith)
+    ∙ sum-single 32 (x - 1) (omega arith)
   where
     less : (n : ℕ) → n ≡ suc n - 1
     less n = omega arith

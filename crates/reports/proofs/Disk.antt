@@ -11,6 +11,7 @@ use lib.ListN.{length, getD}
 use Rattle.geometry.specs.Disk.{imageSize}
 use Rattle.maps.specs.Bits.{bitsOf, join}
 use Rattle.maps.proofs.Laws.{bits-clear, bits-le, bits-join}
+use Rattle.buffers.specs.Sums.{sum}
 use Rattle.refusals.specs.Order.{Refusal, _else_, row, sweep}
 use Rattle.refusals.specs.Answers.{numberOf, lastNumber, replyOf, refusalOf}
 use Rattle.refusals.specs.declared.Refused.{Refused}
@@ -30,7 +31,7 @@ use Rattle.surveys.proofs.Pass.{survey-passed}
 use Rattle.disk.specs.Look.{Look, look, slotsOf, extra}
 use Rattle.disk.specs.Check.{chainAt, checkBy, checkLook, checkDisk, Examined}
 use Rattle.disk.proofs.Look.{look-slots, look-extra}
-use Rattle.reports.specs.Numbers.{sum, Numbers, sectorsAmong, filesReport, acceptedReport, refusedReport, reportOf, numberAt}
+use Rattle.reports.specs.Numbers.{Numbers, sectorsAmong, filesReport, acceptedReport, refusedReport, reportOf, numberAt}
 use Rattle.reports.specs.Calls.{raisedAt, raised}
 use Rattle.reports.proofs.Places.{Place, at-accepted, at-refused, at-kind, at-sectors, at-free, at-class, placed, number-accepted, number-refused, number-kind, number-sectors, number-free, number-class, only, only-there, only-elsewhere}
 use Rattle.reports.proofs.Raised.{Raised, raised-none, raised-more, raised-same, raised-is, raised-twice}

@@ -12,7 +12,8 @@ use lib.ListN.{length, getD, set, length-set}
 use lib.Seq.{getD-set-same, getD-set-other}
 use Rattle.buffers.proofs.Lists.{below-or-not, getD-tab, length-tab, tab-of}
 use Rattle.reports.specs.Calls.{disksIn, raisedAt, raised}
-use Rattle.reports.specs.Numbers.{sum}
+use Rattle.buffers.specs.Sums.{sum}
+use Rattle.buffers.proofs.Sums.{sum-more}
 use Rattle.reports.proofs.Places.{only, only-there, only-elsewhere}
 
 -- l is r with f added, number by number
@@ -95,10 +96,6 @@ pub record Summed (r : List ℕ) (disks k : ℕ) : Type 0 where
   pub few : k ≤ 33
   pub is : disks ≡ sum k (λ j. getD r j 0)
   pub small : disks ≤ k * 2 ^ 32
-
-pub sum-more : (n : ℕ) (f : ℕ → ℕ) → sum (n + 1) f ≡ sum n f + f n
-unfolding sum
-sum-more n f = rw (add-one n)
 
 pub summed-none : (r : List ℕ) → Summed r 0 0
 unfolding sum

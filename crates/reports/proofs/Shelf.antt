@@ -12,6 +12,7 @@ use lib.ListN.{length, getD, replicate}
 use Rattle.buffers.specs.Bytes.{tab}
 use Rattle.buffers.proofs.Lists.{below-or-not, past-end, length-tab, getD-tab, tab-cong}
 use Rattle.buffers.proofs.Counts.{count-le}
+use Rattle.buffers.proofs.Sums.{sum-cong, sum-first}
 use Rattle.refusals.specs.Order.{Refusal, Reply, refuse, row}
 use Rattle.refusals.specs.Answers.{Outcome, done, refused, out, filled}
 use Rattle.slots.specs.Slot.{kindOf, countOf}
@@ -27,7 +28,7 @@ use Rattle.reports.proofs.Places.{Place, at-accepted, at-refused, at-ki
 use Rattle.reports.proofs.Disk.{report-accepted, report-refused}
 use Rattle.reports.proofs.Called.{full-refused, full-done}
 use Rattle.reports.proofs.Sums.{over-both, over-one}
-use Rattle.reports.proofs.AddsUp.{adds-up, sum-cong, sum-first, sectors-data}
+use Rattle.reports.proofs.AddsUp.{adds-up, sectors-data}
 
 number-empty : (k : ℕ) → numberAt empty k ≡ 0
 unfolding empty

@@ -4,10 +4,11 @@ use mathlib.Core.List.{List}
 use lib.Dec.{ltb}
 use lib.ListN.{getD, set}
 use Rattle.buffers.specs.Bytes.{tab}
+use Rattle.buffers.specs.Sums.{sum}
 use Rattle.refusals.specs.Order.{Reply, row}
 use Rattle.refusals.specs.Answers.{done, Out, filled}
 use Rattle.disk.specs.Look.{look}
-use Rattle.reports.specs.Numbers.{sum, numberAt, reportOf}
+use Rattle.reports.specs.Numbers.{numberAt, reportOf}
 
 -- the disks in a report: accepted, and refused by each number
 unfoldable pub disksIn : List ℕ → ℕ

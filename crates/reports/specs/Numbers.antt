@@ -4,6 +4,7 @@ use mathlib.Core.Bool.{Bool, false, cond, _&&_, _||_}
 use mathlib.Core.List.{List, [], _∷_}
 use lib.Dec.{eqb, leb, ltb}
 use Rattle.buffers.specs.Bytes.{count, tab}
+use Rattle.buffers.specs.Sums.{sum}
 use Rattle.refusals.specs.Order.{Refusal}
 use Rattle.slots.specs.Slot.{kindOf, countOf}
 use Rattle.directory.specs.Places.{slots}
@@ -11,11 +12,6 @@ use Rattle.directory.specs.Directory.{held, Directory}
 use Rattle.surveys.specs.Survey.{free}
 use Rattle.disk.specs.Look.{Look, look, slotsOf, extra}
 use Rattle.disk.specs.Check.{checkLook}
-
--- the sum f 0 + f 1 + .. + f (n - 1)
-unfoldable pub sum : ℕ → (ℕ → ℕ) → ℕ
-sum zero f = 0
-sum (suc n) f = sum n f + f n
 
 -- "accepted, refused by number and, over the accepted, live files by kind, file and free sectors, and files by sector count in classes"
 pub record Numbers : Type 0 where

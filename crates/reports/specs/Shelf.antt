@@ -3,13 +3,14 @@ use Prim.Native.Nat.{ℕ, suc, _+_, _≤_}
 use mathlib.Core.Path.{_≡_}
 use mathlib.Core.List.{List, [], _∷_}
 use lib.ListN.{length}
+use Rattle.buffers.specs.Sums.{sum}
 use Rattle.refusals.specs.Answers.{refused}
 use Rattle.slots.specs.Tracks.{dataCount}
 use Rattle.directory.specs.Places.{slots}
 use Rattle.directory.specs.Directory.{held, liveAmong}
 use Rattle.disk.specs.Look.{Look, look, slotsOf, extra}
 use Rattle.disk.specs.Check.{checkDisk}
-use Rattle.reports.specs.Numbers.{sum, Numbers, over, listed}
+use Rattle.reports.specs.Numbers.{Numbers, over, listed}
 
 abbrev pub Disks : Type 0
 Disks = List (List ℕ)

@@ -1,12 +1,12 @@
--- Laws of the kinds: none is both carried and a Spectrum's, and what can be read is one of the two.
+-- Laws of the kinds: none is both carried and a Spectrum's, what can be read is one of the two, and a directory is neither.
 use Prim.Native.Nat.{ℕ, _≤_}
 use mathlib.Core.Path.{_≡_, refl, sym, ap, _∙_}
 use mathlib.Core.Bool.{Bool, true, false, _||_, _&&_, and-false, or-true, false≢true}
 use mathlib.Core.Logic.{_⊎_, inl, inr}
 use native.Mathlib.Omega.{arith}
-use borrow.Author.Tests.{lt-leb, leb-true}
+use borrow.Author.Tests.{lt-leb, leb-true, eqb-true, eqb-false, eq-eqb, ne-eqb}
 use lib.Dec.{leb}
-use Rattle.slots.specs.Slot.{carried, spectrum, readable}
+use Rattle.slots.specs.Slot.{carried, spectrum, readable, directoryKind}
 
 pub carried-read : (k : ℕ) → carried k ≡ true → readable k ≡ true
 unfolding readable
@@ -43,3 +43,24 @@ spectrum-not k e = by (carried k) refl
     by : (t : Bool) → carried k ≡ t → t ≡ false
     by true q = absurd (false≢true (sym (carried-not k q) ∙ e))
     by false q = refl
+
+-- a directory is none of those that can be read
+pub read-other : (k : ℕ) → readable k ≡ true → k ≡ 21 → ⊥
+unfolding readable carried spectrum
+read-other k r e = false≢true (sym (ap readable e) ∙ r)
+
+pub directory-is : (k : ℕ) → directoryKind k ≡ true → k ≡ 21
+unfolding directoryKind
+directory-is k e = eqb-true k 21 e
+
+pub is-directory : (k : ℕ) → k ≡ 21 → directoryKind k ≡ true
+unfolding directoryKind
+is-directory k e = eq-eqb k 21 e
+
+pub directory-not : (k : ℕ) → directoryKind k ≡ false → k ≡ 21 → ⊥
+unfolding directoryKind
+directory-not k e = eqb-false k 21 e
+
+pub not-directory : (k : ℕ) → (k ≡ 21 → ⊥) → directoryKind k ≡ false
+unfolding directoryKind
+not-directory k h = ne-eqb k 21 h

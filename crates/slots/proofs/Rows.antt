@@ -4,12 +4,13 @@ use mathlib.Core.Path.{_≡_, refl, ap, sym, _∙_}
 use mathlib.Core.Bool.{Bool, true, false, cond, _&&_}
 use mathlib.Core.List.{List}
 use mathlib.Core.Option.{none, some}
+use borrow.Author.Tests.{eq-eqb, ne-eqb}
 use lib.Dec.{eqb, leb, ltb}
 use Rattle.maps.specs.Bits.{has, bitsOf}
 use Rattle.refusals.specs.Order.{Reply, refuse, rises}
-use Rattle.slots.specs.Slot.{Facts, facts, kindOf, countOf, firstOf, mapOf, known, carried, lengthOf}
+use Rattle.slots.specs.Slot.{Facts, facts, kindOf, countOf, firstOf, mapOf, known, carried, directoryKind, isDirectory, lengthOf}
 use Rattle.slots.specs.Tracks.{dataCount, inDirectory}
-use Rattle.slots.specs.Rows.{own, ownReplyBy, ownReply}
+use Rattle.slots.specs.Rows.{directoryRows, fileRows, own, directoryReply, fileReplyBy, ownReplyBy, ownReply}
 
 abbrev pub inRange : ℕ → List ℕ → Bool
 inRange most s = leb 1 (countOf s) && leb (countOf s) most
@@ -30,40 +31,66 @@ pub record Past6 (most : ℕ) (inside : Bool) (s : List ℕ) : Type 0 where
   pub outside : inside ≡ false
 
 module _ (most : ℕ) (inside : Bool) (i : ℕ) (s : List ℕ) where
-  pub at2 : known (kindOf s) ≡ false → some (refuse 2 i) ≡ ownReplyBy most inside i s
-  unfolding ownReplyBy facts
+  pub at2 : known (kindOf s) ≡ false → some (refuse 2 i) ≡ fileReplyBy most inside i s
+  unfolding fileReplyBy facts
   at2 a = rw a
 
-  pub at4 : known (kindOf s) ≡ true → inRange most s ≡ false → some (refuse 4 i) ≡ ownReplyBy most inside i s
-  unfolding ownReplyBy facts
+  pub at4 : known (kindOf s) ≡ true → inRange most s ≡ false → some (refuse 4 i) ≡ fileReplyBy most inside i s
+  unfolding fileReplyBy facts
   at4 a c = rw (a, c)
 
-  pub at5 : Past4 most s → eqb (bitsOf (mapOf s)) (countOf s) ≡ false → some (refuse 5 i) ≡ ownReplyBy most inside i s
-  unfolding ownReplyBy facts
+  pub at5 : Past4 most s → eqb (bitsOf (mapOf s)) (countOf s) ≡ false → some (refuse 5 i) ≡ fileReplyBy most inside i s
+  unfolding fileReplyBy facts
   at5 a b = rw (a .kind, a .count, b)
 
-  pub at6 : Past4 most s → eqb (bitsOf (mapOf s)) (countOf s) ≡ true → has (mapOf s) (firstOf s) ≡ false → some (refuse 6 i) ≡ ownReplyBy most inside i s
-  unfolding ownReplyBy facts
+  pub at6 : Past4 most s → eqb (bitsOf (mapOf s)) (countOf s) ≡ true → has (mapOf s) (firstOf s) ≡ false → some (refuse 6 i) ≡ fileReplyBy most inside i s
+  unfolding fileReplyBy facts
   at6 a b c = rw (a .kind, a .count, b, c)
 
   -- a map bit inside the directory
   pub at6-inside : Past4 most s → eqb (bitsOf (mapOf s)) (countOf s) ≡ true → has (mapOf s) (firstOf s) ≡ true → inside ≡ true
-      → some (refuse 6 i) ≡ ownReplyBy most inside i s
-  unfolding ownReplyBy facts
+      → some (refuse 6 i) ≡ fileReplyBy most inside i s
+  unfolding fileReplyBy facts
   at6-inside a b c e = rw (a .kind, a .count, b, c, e)
 
-  last : Past6 most inside s → ownReplyBy most inside i s ≡ cond (tooLong s) (some (refuse 7 i)) none
-  unfolding ownReplyBy facts
+  last : Past6 most inside s → fileReplyBy most inside i s ≡ cond (tooLong s) (some (refuse 7 i)) none
+  unfolding fileReplyBy facts
   last a = rw (a .past4 .kind, a .past4 .count, a .bits, a .first, a .outside)
 
-  pub at7 : Past6 most inside s → tooLong s ≡ true → some (refuse 7 i) ≡ ownReplyBy most inside i s
+  pub at7 : Past6 most inside s → tooLong s ≡ true → some (refuse 7 i) ≡ fileReplyBy most inside i s
   at7 a b = sym (last a ∙ ap (λ (t : Bool). cond {A = Reply} t (some (refuse 7 i)) none) b)
 
-  pub at-none : Past6 most inside s → tooLong s ≡ false → none ≡ ownReplyBy most inside i s
+  pub at-none : Past6 most inside s → tooLong s ≡ false → none ≡ fileReplyBy most inside i s
   at-none a b = sym (last a ∙ ap (λ (t : Bool). cond {A = Reply} t (some (refuse 7 i)) none) b)
 
-  pub at-free : Past6 most inside s → carried (kindOf s) ≡ false → none ≡ ownReplyBy most inside i s
+  pub at-free : Past6 most inside s → carried (kindOf s) ≡ false → none ≡ fileReplyBy most inside i s
   at-free a b = at-none a (rw b)
+
+-- ---- by the kind
+
+module _ (most : ℕ) (inside : Bool) (i : ℕ) (s : List ℕ) where
+  pub own-directory : isDirectory s ≡ true → directoryReply i s ≡ ownReplyBy most inside i s
+  unfolding isDirectory directoryReply ownReplyBy facts
+  own-directory e = rw e
+
+  pub own-file : isDirectory s ≡ false → fileReplyBy most inside i s ≡ ownReplyBy most inside i s
+  unfolding isDirectory fileReplyBy ownReplyBy facts
+  own-file e = rw e
+
+-- a directory's rows by the tests that lead to them
+module _ (i : ℕ) (s : List ℕ) where
+  pub directory-4 : (countOf s ≡ 0 → ⊥) → some (refuse 4 i) ≡ directoryReply i s
+  unfolding directoryReply facts
+  directory-4 h = rw (ne-eqb (countOf s) 0 h)
+
+  module _ (e : countOf s ≡ 0) where
+    pub directory-5 : (bitsOf (mapOf s) ≡ 0 → ⊥) → some (refuse 5 i) ≡ directoryReply i s
+    unfolding directoryReply facts
+    directory-5 h = rw (eq-eqb (countOf s) 0 e, ne-eqb (bitsOf (mapOf s)) 0 h)
+
+    pub directory-none : bitsOf (mapOf s) ≡ 0 → none ≡ directoryReply i s
+    unfolding directoryReply facts
+    directory-none h = rw (eq-eqb (countOf s) 0 e, eq-eqb (bitsOf (mapOf s)) 0 h)
 
 -- with n directory tracks beyond four
 pub own-by : (n i : ℕ) (s : List ℕ) → ownReplyBy (dataCount n) (inDirectory n (mapOf s)) i s ≡ ownReply n i s
@@ -72,4 +99,8 @@ own-by n i s = refl
 
 -- "at a slot the lowest number": the rows stand in the order of their numbers
 pub own-rises : (n : ℕ) (x : Facts) → rises (own n x) ≡ true
-own-rises n x = refl
+own-rises n x = by (directoryKind (x .kind))
+  where
+    by : (t : Bool) → rises (cond t (directoryRows x) (fileRows (dataCount n) (inDirectory n (x .map)) x)) ≡ true
+    by true = refl
+    by false = refl

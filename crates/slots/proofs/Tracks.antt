@@ -12,8 +12,8 @@ use lib.Dec.{eqb, leb, ltb}
 use lib.ListN.{length, getD, length-replicate}
 use Rattle.buffers.specs.Bytes.{count, any}
 use Rattle.buffers.proofs.Lists.{below-or-not}
-use Rattle.buffers.proofs.Counts.{count-add, count-all, count-none, any-none, any-some, none-any}
-use Rattle.maps.specs.Bits.{has, clear, marked}
+use Rattle.buffers.proofs.Counts.{count-add, count-all, count-none, any-none, none-any, none-count, any-some}
+use Rattle.maps.specs.Bits.{has, clear, marked, bitsOf}
 use Rattle.maps.proofs.Laws.{has-clear, length-marked, has-marked}
 use Rattle.slots.specs.Tracks.{isLabel, tracksBy, badTracks, dataCount, dataBit, inDirectory, clearAt, innerTo, innerMap}
 
@@ -279,3 +279,8 @@ tracks-bad b e =
 pub bad-tracks : (b : ℕ) → 36 ≤ b → (b ≡ 255 → ⊥) → badTracks b ≡ true
 unfolding badTracks
 bad-tracks b h n = rw (lt-ltb 35 b h, ne-eqb b 255 n)
+
+-- an empty map has no bit inside the directory
+pub empty-outside : (n : ℕ) (m : List ℕ) → bitsOf m ≡ 0 → inDirectory n m ≡ false
+unfolding inDirectory bitsOf
+empty-outside n m e = none-any 1560 (λ b. has m b && not (dataBit n b)) (λ b l. rw (none-count 1560 (has m) e b l))

@@ -3,9 +3,9 @@
 ghost use mathlib.Core.Path.{_≡_};
 ghost use Prim.Native.Nat.{_+_, _*_, _≤_, _<_};
 ghost use Rattle.refusals.specs.Answers.{replyOf};
-ghost use Rattle.slots.specs.Slot.{isLive, isNameless, hidden, protected, kindOf, known, carried, spectrum, readable, nameOf, isNamed, countOf, firstOf, mapOf, pageOf, offsetOf, pagesOf, remainderOf, facts, lengthOf};
-ghost use Rattle.slots.specs.Tracks.{dataCount, inDirectory, clearAt, innerMap};
-ghost use Rattle.slots.specs.Rows.{ownReplyBy, wasteful};
+ghost use Rattle.slots.specs.Slot.{isLive, isNameless, hidden, protected, kindOf, known, carried, spectrum, readable, isDirectory, codeOf, parentOf, nameOf, isNamed, countOf, firstOf, mapOf, pageOf, offsetOf, pagesOf, remainderOf, facts, lengthOf};
+ghost use Rattle.slots.specs.Tracks.{dataCount, innerMap, inDirectory, clearAt};
+ghost use Rattle.slots.specs.Rows.{directoryReply, fileReplyBy, ownReplyBy, wasteful};
 use refusals::Reason;
 use refusals::Verdict;
 
@@ -82,6 +82,27 @@ pub fn is_readable(kind: usize) -> bool
         return true;
     }
     is_spectrum(kind)
+}
+
+// Whether a slot is a directory.
+pub fn is_directory(s: &[u8]) -> bool
+    ensures { λ r. ⌜ r ≡ isDirectory (now (s .entry)) ⌝ }
+{
+    kind_of(s) == 21
+}
+
+// The code of a directory.
+pub fn code_of(s: &[u8]) -> usize
+    ensures { λ r. ⌜ (r ≡ codeOf (now (s .entry))) × (r < 256) ⌝ }
+{
+    buffers::num_at(s, 250)
+}
+
+// The code of the directory that a slot is in; 0 for the root.
+pub fn parent_of(s: &[u8]) -> usize
+    ensures { λ r. ⌜ (r ≡ parentOf (now (s .entry))) × (r < 256) ⌝ }
+{
+    buffers::num_at(s, 254)
 }
 
 pub fn name_of(s: &[u8]) -> &[u8]
@@ -207,10 +228,22 @@ pub fn inner_map(tracks: usize) -> [u8; 195]
     map
 }
 
-// Rows 2 and 4 to 7 at a live slot: `most` is the number of data sectors, and `inside` says whether its map has a bit inside
-// the directory.
-pub fn own_rows(s: &[u8], slot: usize, most: usize, inside: bool) -> Verdict
-    ensures { λ r. ⌜ replyOf r ≡ ownReplyBy most inside slot (now (s .entry)) ⌝ }
+// Rows 4 and 5 at a directory's slot.
+fn directory_rows(s: &[u8], slot: usize) -> Verdict
+    ensures { λ r. ⌜ replyOf r ≡ directoryReply slot (now (s .entry)) ⌝ }
+{
+    if count_of(s) != 0 {
+        return refusals::unsound(Reason::CountOutOfRange, slot);
+    }
+    if maps::bits_of(map_of(s)) == 0 {
+        return Verdict::Sound;
+    }
+    refusals::unsound(Reason::BitsDiffer, slot)
+}
+
+// Rows 2 and 4 to 7 at the slot of any other file.
+fn file_rows(s: &[u8], slot: usize, most: usize, inside: bool) -> Verdict
+    ensures { λ r. ⌜ replyOf r ≡ fileReplyBy most inside slot (now (s .entry)) ⌝ }
 {
     let kind = kind_of(s);
     if !is_known(kind) {
@@ -239,6 +272,17 @@ pub fn own_rows(s: &[u8], slot: usize, most: usize, inside: bool) -> Verdict
         }
     }
     Verdict::Sound
+}
+
+// Rows 2 and 4 to 7 at a live slot: `most` is the number of data sectors, and `inside` says whether its map has a bit inside
+// the directory.
+pub fn own_rows(s: &[u8], slot: usize, most: usize, inside: bool) -> Verdict
+    ensures { λ r. ⌜ replyOf r ≡ ownReplyBy most inside slot (now (s .entry)) ⌝ }
+{
+    if is_directory(s) {
+        return directory_rows(s, slot);
+    }
+    file_rows(s, slot, most, inside)
 }
 
 // Row 22, which the release check alone asks for: a carried kind, and more sectors than its length needs.

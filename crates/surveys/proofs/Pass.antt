@@ -1,30 +1,30 @@
 -- The pass over rows 2 to 9: the reply at a slot by its own rows and by those against the slots before it, and what holds
 -- of a slot that has none.
-use Prim.Native.Nat.{ℕ, suc, _+_, _-_, _*_, _≤_, _<_}
+use Prim.Native.Nat.{ℕ, suc, _+_, _-_, _≤_, _<_}
 use mathlib.Core.Path.{_≡_, refl, sym, ap, ap₂, _∙_}
-use mathlib.Core.Bool.{Bool, true, false, cond, not, _&&_, and-eq-true-iff, true≢false}
+use mathlib.Core.Bool.{Bool, true, false, cond, not, _&&_, true≢false}
 use mathlib.Core.List.{List, [], _∷_, _++_}
 use mathlib.Core.Option.{Option, none, some}
 use native.Mathlib.Numerals.{add-one}
 use native.Mathlib.Omega.{arith}
-use borrow.Author.Tests.{not-false, leb-true, eqb-true, le-leb, eq-eqb}
-use lib.Dec.{leb, ltb}
+use borrow.Author.Tests.{not-false, leb-true, eqb-true}
+use lib.Dec.{eqb, leb}
 use lib.ListN.{length}
 use Rattle.buffers.proofs.Counts.{any-none, none-any, some-any, count-less}
-use Rattle.buffers.proofs.Tests.{or-neither}
+use Rattle.buffers.proofs.Tests.{or-neither, and-both}
 use Rattle.buffers.specs.Bytes.{any}
 use Rattle.maps.specs.Bits.{has, bitsOf, share, clear, join}
-use Rattle.refusals.specs.Order.{refuse, Reply, _else_, Row, rows, sweepFrom, rises}
+use Rattle.refusals.specs.Order.{refuse, Reply, _else_, Row, rows, sweepFrom, Clear, rises}
 use Rattle.refusals.specs.Answers.{refusalOf, replyOf}
 use Rattle.refusals.specs.declared.Refused.{Refused}
 use Rattle.refusals.specs.declared.Verdict.{Verdict}
 use Rattle.refusals.specs.declared.Verdict.the-variants.{Sound, Unsound}
-use Rattle.refusals.proofs.First.{else-none, rows-clear, clear-rows, sweep-start, sweep-stop, sweep-none, none-sweep, none-sweepFrom}
-use Rattle.slots.specs.Slot.{Facts, kindOf, countOf, firstOf, nameOf, mapOf, facts, known, carried, lengthOf}
+use Rattle.refusals.proofs.First.{else-none, rows-clear, sweep-start, sweep-stop, sweep-none, none-sweepFrom}
+use Rattle.slots.specs.Slot.{Facts, kindOf, directoryKind, countOf, firstOf, nameOf, mapOf, facts}
 use Rattle.names.specs.Name.{sameName}
-use Rattle.slots.specs.Rows.{own, ownReply, wasteful, strict}
+use Rattle.slots.specs.Rows.{own, ownReply, wasteful, strict, directoryRows, fileRows}
 use Rattle.slots.specs.Tracks.{dataCount, dataBit, inDirectory}
-use Rattle.slots.proofs.Tracks.{count-data, outside-data}
+use Rattle.slots.proofs.Tracks.{count-data, outside-data, empty-outside}
 use Rattle.directory.specs.Places.{slots}
 use Rattle.directory.specs.Directory.{held, Directory, tracksOf, slotsRead, directory, liveAmong}
 use Rattle.surveys.specs.Survey.{earlier, cross, rowsAt, surveyAt, surveyBy, survey, union, counted, usedMap, refusedWith}
@@ -71,7 +71,12 @@ rows-append s (r ∷ a) b = by (r .holds) (rows-append s a b)
 
 -- "at a slot the lowest number": the rows stand in the order of their numbers
 pub survey-rises : (n : ℕ) (v : Directory) (i : ℕ) (s : List ℕ) → rises (rowsAt false n v i s) ≡ true
-survey-rises n v i s = refl
+unfolding facts
+survey-rises n v i s = by (directoryKind (kindOf s))
+  where
+    by : (t : Bool) → rises (cond t (directoryRows (facts s)) (fileRows (dataCount n) (inDirectory n (mapOf s)) (facts s)) ++ cross v i s) ≡ true
+    by true = refl
+    by false = refl
 
 pub survey-dead : (release : Bool) (n : ℕ) (v : Directory) (i : ℕ) → v i ≡ none → surveyAt release n v i ≡ none
 unfolding surveyAt
@@ -139,53 +144,40 @@ plain-at release n v i s e h =
 -- ---- a live slot at which no row holds
 
 pub record Passed (n : ℕ) (v : Directory) (i : ℕ) (s : List ℕ) : Type 0 where
-  pub kind : known (kindOf s) ≡ true
-  pub least : 1 ≤ countOf s
   pub most : countOf s ≤ dataCount n
   pub bits : bitsOf (mapOf s) ≡ countOf s
-  pub first : has (mapOf s) (firstOf s) ≡ true
   pub outside : inDirectory n (mapOf s) ≡ false
-  pub fits : (carried (kindOf s) && ltb (510 * countOf s) (9 + lengthOf (facts s))) ≡ false
   pub unshared : earlier v i (λ t. share (mapOf t) (mapOf s)) ≡ false
   pub single : earlier v i (λ t. sameName (nameOf t) (nameOf s)) ≡ false
 
+-- a directory has no sectors, and any other file as many as its map has bits
 pub passed-at : (n : ℕ) (v : Directory) (i : ℕ) (s : List ℕ) → v i ≡ some s → surveyAt false n v i ≡ none → Passed n v i s
 unfolding surveyAt facts
-passed-at n v i s e h =
-    let c = rows-clear (suc i) (rowsAt false n v i s) (rw e at h) in
-    let r = and-eq-true-iff (leb 1 (countOf s)) (leb (countOf s) (dataCount n)) .0 (not-false _ (c .1 .0)) in
-    let either = or-neither (not (has (mapOf s) (firstOf s))) (inDirectory n (mapOf s)) (c .1 .1 .1 .0) in
-    record {
-      kind = not-false (known (kindOf s)) (c .0);
-      least = leb-true 1 (countOf s) (r .0);
-      most = leb-true (countOf s) (dataCount n) (r .1);
+passed-at n v i s e h = by (directoryKind (kindOf s)) (rows-clear (suc i) (rowsAt false n v i s) (rw e at h))
+  where
+    by : (t : Bool) → Clear (cond t (directoryRows (facts s)) (fileRows (dataCount n) (inDirectory n (mapOf s)) (facts s)) ++ cross v i s) → Passed n v i s
+    by true c =
+        let z : countOf s ≡ 0 = eqb-true (countOf s) 0 (not-false (eqb (countOf s) 0) (c .0)) in
+        let m : bitsOf (mapOf s) ≡ 0 = eqb-true (bitsOf (mapOf s)) 0 (not-false (eqb (bitsOf (mapOf s)) 0) (c .1 .0)) in
+        record {
+          most = omega arith;
+          bits = m ∙ sym z;
+          outside = empty-outside n (mapOf s) m;
+          unshared = c .1 .1 .0;
+          single = c .1 .1 .1 .0;
+        }
+    by false c = record {
+      most = leb-true (countOf s) (dataCount n) (and-both (leb 1 (countOf s)) (leb (countOf s) (dataCount n)) (not-false _ (c .1 .0)) .1);
       bits = eqb-true (bitsOf (mapOf s)) (countOf s) (not-false _ (c .1 .1 .0));
-      first = not-false (has (mapOf s) (firstOf s)) (either .0);
-      outside = either .1;
-      fits = c .1 .1 .1 .1 .0;
+      outside = or-neither (not (has (mapOf s) (firstOf s))) (inDirectory n (mapOf s)) (c .1 .1 .1 .0) .1;
       unshared = c .1 .1 .1 .1 .1 .0;
       single = c .1 .1 .1 .1 .1 .1 .0;
     }
-
-pub at-passed : (n : ℕ) (v : Directory) (i : ℕ) (s : List ℕ) → v i ≡ some s → Passed n v i s → surveyAt false n v i ≡ none
-unfolding surveyAt facts
-at-passed n v i s e h =
-    rw e
-    (clear-rows (suc i) (rowsAt false n v i s)
-    (rw (h .kind), (rw (le-leb 1 (countOf s) (h .least), le-leb (countOf s) (dataCount n) (h .most)), (rw (eq-eqb (bitsOf (mapOf s)) (countOf s) (h .bits)), (rw (h .first, h .outside), (h .fits, (h .unshared, (h .single, tt))))))))
 
 -- every live slot of a directory that is not refused
 pub survey-passed : (n : ℕ) (v : Directory) → survey n v ≡ none → (i : ℕ) (s : List ℕ) → i < slots → v i ≡ some s → Passed n v i s
 unfolding surveyBy
 survey-passed n v e i s h p = passed-at n v i s p (sweep-none slots (surveyAt false n v) e i h)
-
-pub passed-survey : (n : ℕ) (v : Directory) → ((i : ℕ) (s : List ℕ) → i < slots → v i ≡ some s → Passed n v i s) → survey n v ≡ none
-unfolding surveyBy
-passed-survey n v h = none-sweep slots (surveyAt false n v) (λ i l. by i l (v i) refl)
-  where
-    by : (i : ℕ) → i < slots → (o : Option (List ℕ)) → v i ≡ o → surveyAt false n v i ≡ none
-    by i l none p = survey-dead false n v i p
-    by i l (some s) p = at-passed n v i s p (h i s l p)
 
 -- where no row holds, the used bits are data bits, and no more than these
 pub used-data : (n : ℕ) (v : Directory) → survey n v ≡ none → (b : ℕ) → b < 1560 → has (union v slots) b ≡ true → dataBit n b ≡ true

@@ -2,3 +2,4 @@ pub mod Bounds
 pub mod Replies
 pub mod Reading
 pub mod Reports
+pub mod Trees

@@ -9,6 +9,7 @@ ghost use Rattle.readers.specs.Opening.{beginning};
 ghost use Rattle.plans.specs.Change.{save, erase, rename, mark, hide, show, protect, release};
 ghost use Rattle.changes.specs.Marks.{markOf};
 ghost use Rattle.saves.specs.Write.{wish};
+ghost use Rattle.bytelists.specs.Trees.{treeingBytes};
 ghost use Rattle.bytereports.specs.Bytes.{addingBytes, joiningBytes};
 ghost use Rattle.varnucht.specs.Calls.{checking, releasing, sectorPlace, Returns};
 ghost use Rattle.varnucht.specs.Reading.{packedBegin, packedPiece};
@@ -200,6 +201,15 @@ pub extern "C" fn varnucht_save(
         list,
     );
     packing::pack(saved)
+}
+
+// What lies beneath a directory, the root where the name is empty: how many, and their slots to the front of `list`.
+#[no_mangle]
+pub extern "C" fn varnucht_tree(image: &[u8], name: &[u8], list: &mut [u8]) -> u64
+    ensures { λ r. ⌜ (r ≡ packed (treeingBytes (now (image .entry)) (now (name .entry)) (now (list .entry)) .outcome)) × (now (list .exit) ≡ treeingBytes (now (image .entry)) (now (name .entry)) (now (list .entry)) .buffer) ⌝ }
+{
+    let beneath = bytelists::list_tree(image, name, list);
+    packing::pack(beneath)
 }
 
 // Adds a disk to a report: the disks in it after.

@@ -1,7 +1,7 @@
-//! The disks of the benchmark, made by `paper::save` and `paper::erase`; in one the sectors of the file are then shuffled,
-//! and in one the last file is made one of the Spectrum.
+//! The disks of the benchmark, made by `paper::save` and `paper::erase`; in one the sectors of the file are then shuffled, in
+//! one the last file is made one of the Spectrum, and in two some files are made directories.
 
-use crate::geometry::{address, bit_place};
+use crate::geometry::{address, bit_place, slot_place};
 use crate::random::Random;
 use paper::Wish;
 use std::rc::Rc;
@@ -68,6 +68,39 @@ pub fn biggest_drawn() -> Disk {
 /// A full directory of 20 tracks.
 pub fn twenty_tracks() -> Disk {
     made("398 x 100", 16, 398, 100, unlike)
+}
+
+/// The same with 100 directories, three in each but the innermost, and the files spread over all of them.
+pub fn nested() -> Disk {
+    in_directories("678 in 100", 100, |code| (code + 1) / 3, |file| (file % 101) as u8)
+}
+
+/// The same with 255 directories, each in the one before, and all files in the innermost.
+pub fn deepest() -> Disk {
+    in_directories("523 in 255 nested", 255, |code| code - 1, |_| 255)
+}
+
+/// The biggest directory with this many directories in its first slots, of codes 1 on, and files in the rest; and the codes of
+/// the directories around each of them.
+fn in_directories(title: &'static str, many: u16, around: fn(u8) -> u8, of_file: fn(u16) -> u8) -> Disk {
+    let Disk { image, last, .. } = biggest();
+    let mut image = image.to_vec();
+    for slot in 1..=778 {
+        let bytes = &mut image[slot_place(slot.into())..][..256];
+        if slot <= many {
+            let code = slot as u8;
+            bytes[0] = 21;
+            bytes[11..210].fill(0);
+            (bytes[250], bytes[254]) = (code, around(code));
+        } else {
+            bytes[254] = of_file(slot);
+        }
+    }
+    Disk {
+        title,
+        image: image.into(),
+        last,
+    }
 }
 
 pub fn seventy_eight() -> Disk {

@@ -15,6 +15,8 @@ pub enum Work {
     Open,
     /// Reads the file of this reader, which was opened before, in pieces of so many bytes, laid end to end.
     Pieces(Reader, usize),
+    /// Lists all that lies beneath the root.
+    Tree,
     /// Saves a new file with this body.
     Save(Vec<u8>),
     /// Erases the disk's last file.
@@ -56,6 +58,7 @@ pub fn all() -> Vec<Row> {
         let opened = paper::open(&disk.image, &disk.last).expect("the file is there");
         rows.extend([512, 4_096].map(|room| row(disk, Work::Pieces(opened, room), 0)));
     }
+    rows.extend([&eighty, &biggest, &disks::nested(), &disks::deepest()].map(|disk| row(disk, Work::Tree, 0)));
     rows.extend(saves(&blank, &eighty, &seventy_eight, &one));
     let last = disks::less_one(&biggest, "778 x 100 less one");
     rows.extend([&three, &three_and_old, &last].map(|disk| row(disk, Work::Save(disks::body(900)), 0)));
@@ -122,6 +125,7 @@ impl Row {
             Work::Read => "read".into(),
             Work::Open => "open".into(),
             Work::Pieces(_, room) => format!("pieces {room}"),
+            Work::Tree => "tree".into(),
             Work::Save(body) => format!("save {}", body.len()),
             Work::Erase => "erase".into(),
             Work::Report => "report add".into(),
@@ -139,6 +143,7 @@ impl Row {
             Work::Check | Work::CheckRelease | Work::Open => 0,
             Work::List => 778 * 258,
             Work::Read | Work::Pieces(..) => LONGEST,
+            Work::Tree => 2 * 778,
             Work::Save(_) | Work::Erase => LIST_BYTES,
             Work::Report => REPORT_BYTES,
         }
@@ -153,6 +158,7 @@ impl Row {
             Work::Read => (side.read)(image, &self.disk.last, buffer),
             Work::Open => (side.open)(image, &self.disk.last),
             Work::Pieces(opened, room) => read_on(side, image, *opened, *room, buffer),
+            Work::Tree => (side.tree)(image, &[], buffer),
             Work::Save(body) => (side.save)(image, &disks::wish(Row::NEW, body), buffer),
             Work::Erase => (side.erase)(image, &self.disk.last, buffer),
             Work::Report => {

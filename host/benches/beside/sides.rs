@@ -13,6 +13,7 @@ pub struct Side {
     pub read: fn(&[u8], &[u8], &mut [u8]) -> u64,
     pub open: fn(&[u8], &[u8]) -> u64,
     pub next: fn(&[u8], Reader, &mut [u8]) -> u64,
+    pub tree: fn(&[u8], &[u8], &mut [u8]) -> u64,
     pub save: fn(&mut [u8], &Wish, &mut [u8]) -> u64,
     pub erase: fn(&mut [u8], &[u8], &mut [u8]) -> u64,
     pub report_add: fn(&[u8], &mut [u8]) -> u64,
@@ -28,6 +29,7 @@ pub fn ours() -> Side {
         read: |image, name, out| calls::read(image, name, out).number(),
         open: |image, name| calls::open(image, name).number(),
         next: |image, at, out| calls::next(image, at.sector, at.offset, at.left, out).number(),
+        tree: |image, name, slots| calls::tree(image, name, slots).number(),
         save: our_save,
         erase: |image, name, list| calls::erase(image, name, list).number(),
         report_add: |image, report| calls::report_add(image, report).number(),
@@ -50,6 +52,7 @@ pub fn theirs() -> Side {
             let came = paper::next(image, &mut reader, out);
             placed(reader, came)
         },
+        tree: |image, name, slots| word(paper::tree(image, name, slots), |many| (many, 0)),
         save: |image, wish, list| word(paper::save(image, wish, list), |count| (count, 0)),
         erase: |image, name, list| word(paper::erase(image, name, list), |count| (count, 0)),
         report_add: |image, report| word(paper::report_add(image, report), |disks| (disks, 0)),

@@ -23,6 +23,10 @@ pub fn print_head(timer: Duration) {
     println!(
         "'old slots': behind its end the directory has old bytes. 398 and 778 files stand on 20 and 39 directory tracks."
     );
+    println!(
+        "tree takes the root. '678 in 100': so many files in so many directories; 'nested': each in the one before, the files"
+    );
+    println!("in the last.");
     println!();
     println!(
         "{:<13} {:<22} {:<10} {:>10} {:>10} {:>10} {:>10} {:>7} {:>7} {:>6}",

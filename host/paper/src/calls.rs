@@ -1,6 +1,7 @@
 //! The calls that change no image.
 
 use crate::check::{Purpose, survey, survey_for};
+use crate::extent::Extent;
 use crate::geometry::{Address, Image, PAYLOAD_BYTES, SECTOR_BYTES, SLOT_BYTES, Sector, sector as sector_of, whole};
 use crate::name::asked;
 use crate::refusal::{Reason, Refused};
@@ -95,9 +96,13 @@ pub fn start_address(page: u32, offset: u32) -> Option<u32> {
 
 /// The live slot of a name asked for on a disk that passes the check.
 pub fn found<'a>(image: &'a Image, name: &[u8]) -> Result<Slot<'a>, Refused> {
-    let survey = survey(image)?;
+    found_among(image, survey(image)?.extent, name)
+}
+
+/// The same where the disk has passed it.
+pub fn found_among<'a>(image: &'a Image, extent: Extent, name: &[u8]) -> Result<Slot<'a>, Refused> {
     let name = asked(name).ok_or(Reason::NameNotUsable.alone())?;
-    find(image, survey.extent, &name).ok_or(Reason::NoSuchName.alone())
+    find(image, extent, &name).ok_or(Reason::NoSuchName.alone())
 }
 
 /// The same with the length of its body, with the demand that its kind has one: the carried kinds and those of the Spectrum.

@@ -1,19 +1,24 @@
 //! The changes inside one directory slot: erase, rename, hide, show, protect, release.
 
-use crate::calls::found;
+use crate::calls::{found, found_among};
 use crate::check::survey;
 use crate::geometry::{SECTOR_BYTES, slot_place, whole_mut};
 use crate::name::{asked, fresh};
 use crate::refusal::{Reason, Refused};
 use crate::save::number_bytes;
 use crate::slot::{HIDDEN, NAME_AT, PROTECTED, find};
+use crate::tree::is_empty;
 
-/// Sets byte 0 to 0. The other bytes stay.
+/// Sets byte 0 to 0. The other bytes stay. A directory must be empty.
 pub fn erase(image: &mut [u8], name: &[u8], list: &mut [u8]) -> Result<usize, Refused> {
     let image = whole_mut(image)?;
-    let slot = found(image, name)?;
+    let extent = survey(image)?.extent;
+    let slot = found_among(image, extent, name)?;
     if slot.is_protected() {
         return Err(Reason::Protected.at(slot.number));
+    }
+    if !is_empty(image, extent, &slot) {
+        return Err(Reason::NotEmpty.at(slot.number));
     }
     let place = slot_place(slot.number);
     name_directory_sector(list, place)?;

@@ -61,7 +61,8 @@ impl Survey {
         if map.count() != count {
             return Err(Reason::MapUnlikeCount);
         }
-        if !slot.first().bit().is_some_and(|bit| map.has(bit)) || self.own.meets(&map) {
+        let first_is_own = slot.first().bit().is_some_and(|bit| map.has(bit));
+        if !slot.is_directory() && (!first_is_own || self.own.meets(&map)) {
             return Err(Reason::FirstNotInMap);
         }
         if slot.is_carried() && PAYLOAD_BYTES * count < HEADER_BYTES + slot.length() {
@@ -83,12 +84,17 @@ impl Survey {
     }
 }
 
-/// Refusals 2 and 4.
+/// Refusals 2 and 4. A directory has no sectors, and every file has one at least.
 fn own_rules(slot: &Slot, extent: Extent) -> Result<(), Reason> {
     if !matches!(slot.kind(), 1..=12 | 16..=23) {
         return Err(Reason::KindUnknown);
     }
-    if !(1..=extent.data_sectors()).contains(&slot.count()) {
+    let counts = if slot.is_directory() {
+        0..=0
+    } else {
+        1..=extent.data_sectors()
+    };
+    if !counts.contains(&slot.count()) {
         return Err(Reason::CountOutOfRange);
     }
     Ok(())
@@ -99,10 +105,10 @@ pub fn survey(image: &Image) -> Result<Survey, Refused> {
     survey_for(image, Purpose::Use)
 }
 
-/// The whole check: the directory first, then every chain.
+/// The whole check: the directory first, then every chain. A subdirectory has none.
 pub fn survey_for(image: &Image, purpose: Purpose) -> Result<Survey, Refused> {
     let survey = directory(image, purpose)?;
-    for slot in live_slots(image, survey.extent) {
+    for slot in live_slots(image, survey.extent).filter(|slot| !slot.is_directory()) {
         file(image, &slot).map_err(|reason| reason.at(slot.number))?;
     }
     Ok(survey)
@@ -217,9 +223,10 @@ mod tests {
         for kind in [13, 15, 24, 63, 64, 128, 192] {
             assert_eq!(with(3, 0, &[kind]), Some(Reason::KindUnknown.at(3)));
         }
-        for kind in [1, 12, 16, 23, 0xc0 | 23, 0] {
+        for kind in [1, 12, 16, 20, 22, 23, 0xc0 | 23, 0] {
             assert_eq!(with(3, 0, &[kind]), None);
         }
+        assert_eq!(with(3, 0, &[21]), Some(Reason::CountOutOfRange.at(3)));
         assert_eq!(with(3, NAME_AT, &[0]), None);
         assert_eq!(with(3, 0, &[63, 0, 0, 0, 0, 0, 0, 0, 0, 0, 0, 255, 255, 255]), None);
         assert_eq!(with(3, COUNT_AT, &[0, 0]), Some(Reason::CountOutOfRange.at(3)));

@@ -13,6 +13,7 @@
 //! - `check`: refusals 24, 2, 4 to 11 and 25, and 22 before a release
 //! - `calls`: the two checks, list, read, start address, raw sector
 //! - `pieces`: a file's body a piece at a time
+//! - `tree`: subdirectories
 //! - `save`: the change that takes slots and sectors
 //! - `changes`: the changes of one directory byte or name
 //! - `report`: a shelf of disks in numbers
@@ -32,6 +33,7 @@ mod report;
 mod save;
 mod slot;
 mod spectrum;
+mod tree;
 
 pub use calls::{Listed, check, check_release, list, read, sector, start};
 pub use changes::{erase, hide, protect, release, rename, show};
@@ -39,3 +41,4 @@ pub use pieces::{Reader, next, open};
 pub use refusal::Refused;
 pub use report::{REPORT_BYTES, report_add, report_join};
 pub use save::{Wish, save};
+pub use tree::tree;

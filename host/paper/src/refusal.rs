@@ -35,6 +35,10 @@ pub enum Reason {
     WasteSectors = 22,
     TracksOutOfRange = 24,
     BodyTooLong = 25,
+    CodeNotOwn = 26,
+    NoSuchDirectory = 27,
+    InsideItself = 28,
+    NotEmpty = 29,
     ReportFull = 31,
 }
 

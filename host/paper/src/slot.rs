@@ -18,6 +18,11 @@ pub const PAGES_AT: usize = 239;
 pub const REMAINDER_AT: usize = 240;
 pub const EXEC_AT: usize = 242;
 pub const DATE_AT: usize = 245;
+pub const CODE_AT: usize = 250;
+pub const PARENT_AT: usize = 254;
+
+/// The kind of a MasterDOS directory: it takes a slot and no sectors.
+const DIRECTORY: u8 = 21;
 
 /// The bytes before the body in a file's first sector.
 pub const HEADER_BYTES: usize = 9;
@@ -90,6 +95,20 @@ impl<'a> Slot<'a> {
 
     pub fn is_carried(&self) -> bool {
         is_carried(self.kind().into())
+    }
+
+    pub fn is_directory(&self) -> bool {
+        self.kind() == DIRECTORY
+    }
+
+    /// The code by which live slots name a directory; of a file it says nothing.
+    pub fn code(&self) -> u8 {
+        self.bytes[CODE_AT]
+    }
+
+    /// The code of the directory that the slot is in, 0 for the root.
+    pub fn parent(&self) -> u8 {
+        self.bytes[PARENT_AT]
     }
 
     pub fn name(&self) -> &'a Name {

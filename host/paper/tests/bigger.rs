@@ -61,7 +61,8 @@ fn where_24_stands() {
     assert_eq!(paper::check(&image), refused(2, 1));
 }
 
-/// Every slot is taken in turn, past the gap, and then none is left. The second sector of track 4 on is directory, the first data.
+/// Every slot is taken in turn, past the gap, and then none is left. Track 4 is directory from its second sector on, and its first
+/// is data.
 #[test]
 fn every_slot_is_taken() {
     for extra in [0, 1, 2, 16, 35] {

@@ -6,7 +6,7 @@ use super::source;
 use super::system::Hold;
 use super::values::AskedName;
 use super::words::Given;
-use varnucht::{Change, Name, SectorNumber};
+use varnucht::{Change, Name, Refusal, Refused, SectorNumber};
 
 /// Makes the change that `change` gives, or prints what it would write. The disk is opened before the change is asked for,
 /// so that refusals come in the order of document 01: the disk's first.
@@ -16,13 +16,13 @@ pub fn perform<'a>(given: &Given, done: &str, what: &str, change: impl FnOnce() 
     let refused = |reason| Failure::refused(given.word(0), what, reason);
     if given.has("--dry-run") {
         let disk = source::disk(given)?;
-        let numbers = change().and_then(|change| Ok(disk.try_change(&change)?));
+        let numbers = change().and_then(|change| disk.try_change(&change).map_err(explained));
         return output::print(planned(&numbers.map_err(refused)?));
     }
     source::not_standard(given)?;
     let (mut held, mut disk) = source::changing(given)?;
     let change = change().map_err(refused)?;
-    let mut sectors = disk.change(&change).map_err(|no| refused(no.into()))?;
+    let mut sectors = disk.change(&change).map_err(|no| refused(explained(no)))?;
     let (hold, mut progress) = (Hold::new(), Progress::new());
     let written = sectors.write_to(&mut held, |written, of| progress.step(written, of));
     drop((progress, hold));
@@ -33,6 +33,13 @@ pub fn perform<'a>(given: &Given, done: &str, what: &str, change: impl FnOnce() 
     held.holds(disk.image()).map_err(failed)?;
     output::confirm(&format!("{done} {what}: {many} written"));
     Ok(())
+}
+
+/// A refusal; of a directory that is not empty it says too how to see what is in it.
+fn explained(refused: Refused) -> Reason {
+    let not_empty = refused.refusal == Refusal::DirectoryNotEmpty;
+    let more = not_empty.then(|| "it is not empty, and `tree` shows what is in it".to_string());
+    Reason { refused, more }
 }
 
 /// The sectors that would be written, in their order.

@@ -1,14 +1,14 @@
 //! The table of commands.
 use super::failure::Outcome;
 use super::words::Given;
-use super::{blank, change, check, dump, list, map, read, report, save};
+use super::{blank, change, check, dump, list, map, read, report, save, tree};
 
 /// A command of the tool.
 pub struct Command {
     /// What it is called by.
     pub name: &'static str,
-    /// What it takes, in order: a word for each place. A last place `WORD...` takes one or more, and `[WORD...]` any number,
-    /// none too.
+    /// What it takes, in order: a word for each place. A last place `WORD...` takes one or more, `[WORD...]` any number, none
+    /// too, and `[WORD]` one or none.
     pub places: &'static [&'static str],
     /// Its options.
     pub options: &'static [&'static Choice],
@@ -203,10 +203,26 @@ not looked at.",
 directory has, and how many of its slots are free, below them.",
             "Marks: `h` hidden, `p` protected. Length and start address are given for the
 kinds that have them: 16 to 20, and 1 to 4 of the Spectrum, which can be read
-and not saved.",
+and not saved. Where the disk has directories the last column says which one a
+file is in; those in the root have none there.",
             PIPE,
         ],
         run: list::run,
+    },
+    Command {
+        name: "tree",
+        places: &["IMAGE", "[NAME]"],
+        options: &[&NO_WAIT],
+        brief: "draw the directories and what lies beneath them",
+        more: &[
+            "With NAME the directory of that name, and what lies beneath it; else all of the
+disk. At each level files and directories stand by rising slot. Where the
+directories do not fit together (26 to 28) no tree can be drawn: `list` shows
+the files all the same, and which directory each is in.",
+            PIPE,
+            NAMES,
+        ],
+        run: tree::run,
     },
     Command {
         name: "map",

@@ -22,9 +22,14 @@ const DIRECTORY: Sign = ('#', Paint::Bold);
 /// The signs of files: 80 of them, one for each slot that a directory of four tracks has. With more files they come again.
 const SIGNS: &str = "ABCDEFGHIJKLMNOPQRSTUVWXYZabcdefghijklmnopqrstuvwxyz0123456789!$%&*+-/:;<=>?@^_~";
 
-/// The sign of the file that comes at this place of the listing.
+/// The sign of the file that comes at this place of all files.
 fn sign(place: usize) -> Sign {
     (char::from(SIGNS.as_bytes()[place % SIGNS.len()]), Paint::Hue(place))
+}
+
+/// The files: a subdirectory has no sectors.
+fn files(listing: &Listing) -> impl Iterator<Item = &Entry> {
+    listing.entries().iter().filter(|entry| !entry.kind().is_directory())
 }
 
 /// Whose each sector is, by sector number.
@@ -34,7 +39,7 @@ fn owners(listing: &Listing) -> Vec<Sign> {
         .filter_map(SectorNumber::new)
         .map(|number| if directory(number) { DIRECTORY } else { FREE })
         .collect();
-    for (place, entry) in listing.entries().iter().enumerate() {
+    for (place, entry) in files(listing).enumerate() {
         for number in entry.sectors() {
             owners[usize::from(number.number())] = sign(place);
         }
@@ -80,18 +85,14 @@ fn legend(text: &mut Painted, listing: &Listing) {
     text.add(Paint::Plain, &format!(" directory ({})  ", listing.directory().sectors()));
     text.add(FREE.1, ".");
     text.add(Paint::Plain, &format!(" free ({})\n", listing.free()));
-    let digits = listing
-        .entries()
-        .last()
-        .map_or(0, |last| last.slot().to_string().len())
-        .max(2);
-    let words: Vec<String> = listing.entries().iter().map(|entry| meaning(entry, digits)).collect();
-    let width = words.iter().map(String::len).max().unwrap_or(0);
+    let digits = files(listing).last().map_or(0, |last| last.slot().to_string().len()).max(2);
+    let all: Vec<String> = files(listing).map(|entry| meaning(entry, digits)).collect();
+    let width = all.iter().map(String::len).max().unwrap_or(0);
     // A cell is the sign, a space, the words and two spaces; a line has 80.
     let across = (82 / (width + 4)).max(1);
-    for (place, words) in words.iter().enumerate() {
+    for (place, words) in all.iter().enumerate() {
         let (sign, paint) = sign(place);
-        let ends = (place + 1) % across == 0 || place + 1 == listing.entries().len();
+        let ends = (place + 1) % across == 0 || place + 1 == all.len();
         text.add(paint, &sign.to_string());
         let after = if ends {
             format!(" {words}\n")

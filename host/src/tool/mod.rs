@@ -23,6 +23,7 @@ mod save;
 mod shelf;
 mod source;
 mod system;
+mod tree;
 mod values;
 mod words;
 

@@ -20,6 +20,11 @@ impl AskedName {
             .map_err(|bad| given.usage(format!("`{}`: {bad}", shown(word))))
     }
 
+    /// Whether no byte of a name is given.
+    pub fn is_empty(&self) -> bool {
+        self.0.is_empty()
+    }
+
     /// The name to ask for. Where it is not usable the reason says why, of `who`.
     pub fn name(&self, who: &str) -> Result<Name, Reason> {
         Name::new(&self.0).map_err(|refused| unusable(refused, who, Name::unusable(&self.0)))

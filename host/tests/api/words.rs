@@ -69,6 +69,10 @@ fn provoked() -> Vec<(u8, u16, Refused)> {
     tracks.as_bytes_mut()[255] = 36;
     all.push((24, 0, Disk::open(tracks).unwrap_err().into()));
     all.push((25, 2, Disk::open(spectrum(4, 1_012, 0)).unwrap_err().into()));
+    all.push((26, 5, tree::spoilt(5, 250, 7).tree(None).unwrap_err()));
+    all.push((27, 1, tree::spoilt(1, 254, 9).tree(None).unwrap_err()));
+    all.push((28, 4, tree::spoilt(4, 254, 255).tree(None).unwrap_err()));
+    all.push((29, 3, tree::spoilt(1, 0, 0).erase(&name("GAMES")).unwrap_err()));
     all.push((31, 0, reports::full().add(b"").unwrap_err()));
     all
 }

@@ -9,6 +9,7 @@ use crate::support::calls::{
 use crate::support::compare::{self, Lend};
 use crate::support::disks::Disk;
 use crate::support::facts::Facts;
+use crate::support::folders;
 use crate::support::geometry::{bit_place, number};
 use crate::support::guarded::{Empty, Flush, Guarded};
 use crate::support::random::Random;
@@ -68,6 +69,11 @@ fn accepted(call: Call, disk: &Disk, i: usize) -> Asked {
         Call::List => asked.with(OUT, vec![0x5c; 258 * disk.files.len()]),
         Call::Read => asked.with(NAME, file.name).with(OUT, vec![0x5c; file.body.len()]),
         Call::Open | Call::Start => asked.with(NAME, file.name),
+        Call::Tree => {
+            let facts = Facts::of(&disk.image);
+            let (directory, many) = folders::some_directory(&facts).expect("there is one");
+            asked.with(NAME, directory.name).with(OUT, vec![0x5c; 2 * many])
+        }
         Call::Next => Asked {
             numbers: [number(bit_place(file.chain[0])), 9, file.body.len()].map(|number| number as u32),
             ..asked.with(OUT, vec![0x5c; file.body.len()])

@@ -6,6 +6,7 @@ use crate::support::compare::Lend;
 use crate::support::disks::{self, Disk};
 use crate::support::facts::Facts;
 use crate::support::fields;
+use crate::support::folders;
 use crate::support::geometry;
 use crate::support::guarded::{Empty, Flush, Guarded, PAGE, Pages};
 use crate::support::random::Random;
@@ -75,8 +76,8 @@ impl Usual {
     }
 }
 
-/// A drawn disk with a free slot, room for three sectors, no waste sectors, and a carried file of some length that starts
-/// inside the range and is not protected.
+/// A drawn disk with a free slot, room for three sectors, no waste sectors, a directory that something lies beneath, and a file
+/// of some length that starts inside the range and is not protected.
 pub fn disk() -> (Disk, usize) {
     let fits = |disk: &Disk, i: usize| {
         let slot = disk.slot(disk.files[i].slot);
@@ -86,6 +87,7 @@ pub fn disk() -> (Disk, usize) {
     let drawn = (16_000_000..).map(|seed| disks::draw(&mut Random::new(seed)));
     drawn
         .filter(|disk| waste::lowest(&disk.image).is_none())
+        .filter(|disk| folders::some_directory(&Facts::of(&disk.image)).is_some())
         .filter_map(|disk| (0..disk.files.len()).find(|&i| fits(&disk, i)).map(|i| (disk, i)))
         .next()
         .expect("one is found")
@@ -119,6 +121,7 @@ fn names() {
         assert_eq!(usual.ask(call, [19, 1, 40_000], NAME, part), 12, "{call:?}");
     }
     assert_eq!(usual.ask(Call::Rename, [0; 3], NEW, new.part(3)), 12);
+    assert_eq!(usual.ask(Call::Tree, [0; 3], NAME, name.part(0)), 12, "that is not the root");
     assert!(usual.lender.bytes(IMAGE) == disk.image);
 }
 
@@ -145,6 +148,15 @@ fn output_buffers() {
         (0, files, disk.free())
     );
     assert!(out.front(258 * files + 1)[258 * files - 256..] == [disk.slot(disk.files[files - 1].slot), &[0]].concat());
+    let out = Wide::new(&[]);
+    let facts = Facts::of(&disk.image);
+    let (directory, many) = folders::some_directory(&facts).expect("there is one");
+    let tree = Usual::new(&disk, &directory.name).ask(Call::Tree, [0; 3], OUT, out.part(1));
+    assert_eq!((calls::refusal(tree), value(tree)), (0, many));
+    assert!(
+        out.front(2 * many).as_chunks().0.iter().all(|slot| *slot != [0, 0])
+            && out.front(2 * many + 2)[2 * many..] == [0, 0]
+    );
     let out = Wide::new(&[]);
     let hide = usual.ask(Call::Hide, [0; 3], OUT, out.part(1));
     assert_eq!((calls::refusal(hide), value(hide)), (0, 1));

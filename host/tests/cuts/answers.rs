@@ -1,11 +1,11 @@
-//! The questions to the old disk and to a cut one: the listing, whether it may go out, and body and start address for every
-//! live name, for the names of the change, and for some that are not there.
+//! The questions to the old disk and to a cut one: the listing, whether it may go out, body and start address for every live
+//! name, for the names of the change, and for some that are not there; and what lies beneath the root and every directory.
 
 use crate::change::Change;
 use crate::support::asking::{self, Asked};
 use crate::support::calls::{Call, NAME, NEW, OUT, Request};
 use crate::support::compare;
-use crate::support::facts::Facts;
+use crate::support::facts::{Facts, Live};
 use crate::support::margins::Margins;
 use crate::support::names;
 use crate::support::random::Random;
@@ -69,9 +69,18 @@ fn questions(change: &Change, random: &mut Random) -> Vec<Asked> {
             random.bytes(length + 3)
         };
         questions.push(Asked::new(Call::Read).with(NAME, name.clone()).with(OUT, out));
-        questions.push(Asked::new(Call::Start).with(NAME, name));
+        questions.push(Asked::new(Call::Start).with(NAME, name.clone()));
+        if name.is_empty() || facts.find(&name).is_some_and(Live::is_directory) {
+            questions.push(tree(name, facts, random));
+        }
     }
     questions
+}
+
+/// The tree of a directory, or of the root: it is a function of the look, as the others are.
+fn tree(name: Vec<u8>, facts: &Facts, random: &mut Random) -> Asked {
+    let length = 2 * facts.live.len() + random.below(4);
+    Asked::new(Call::Tree).with(NAME, name).with(OUT, random.bytes(length))
 }
 
 fn listing(length: usize, random: &mut Random) -> Asked {

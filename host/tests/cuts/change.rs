@@ -5,7 +5,8 @@ use crate::support::calls::{self, BODY, Call, NAME, NEW, OUT, Request};
 use crate::support::compare;
 use crate::support::facts::{self, Facts, Live};
 use crate::support::fields;
-use crate::support::geometry::{IMAGE, SECTOR, SECTORS, SLOT, bit_place, is_directory, slot_place, slots};
+use crate::support::folders;
+use crate::support::geometry::{IMAGE, MOST_SLOTS, SECTOR, SECTORS, SLOT, bit_place, is_directory, slot_place, slots};
 use crate::support::margins::Margins;
 use crate::support::names;
 use crate::support::random::Random;
@@ -28,7 +29,11 @@ impl Change<'_> {
         if call == Call::Save {
             return Change::make(wishes::good(&facts, random), facts, old);
         }
-        let fit = |live: &&Live| !live.protected || !matches!(call, Call::Erase | Call::Rename);
+        let fit = |live: &&Live| match call {
+            Call::Erase => !live.protected && !folders::is_held(&facts, live),
+            Call::Rename => !live.protected,
+            _ => true,
+        };
         let names: Vec<_> = facts.live.iter().filter(fit).map(|live| live.name).collect();
         if names.is_empty() {
             return None;
@@ -121,6 +126,48 @@ impl Change<'_> {
         for at in fields::KEPT.into_iter().flatten() {
             assert_eq!(disk[at], self.old[at], "byte {at} of slot 1 is changed");
         }
+    }
+
+    /// Whether it erases a directory.
+    pub fn erases_a_directory(&self) -> bool {
+        let found = self.facts.find(&self.asked.slices[NAME]);
+        self.asked.call == Call::Erase && found.is_some_and(Live::is_directory)
+    }
+
+    /// Where the directories fitted together they do still: the tree is the old one, without the slot that an erase frees, and
+    /// with that which a save takes.
+    pub fn keeps_the_tree(&self) {
+        let [old, new] = [self.old, &self.new].map(|disk| {
+            let room = vec![0; 2 * MOST_SLOTS];
+            let left = compare::ask(&Request::new(Call::Tree, disk).with(OUT, &room), &mut Margins::default());
+            let slots = left
+                .out
+                .chunks(2)
+                .map(|pair| usize::from(pair[0]) + 256 * usize::from(pair[1]));
+            let many = calls::value(left.answer);
+            (calls::refusal(left.answer), slots.take(many).collect::<Vec<usize>>())
+        });
+        if old.0 != 0 {
+            return;
+        }
+        let (freed, taken) = match self.asked.call {
+            Call::Erase => (self.found(), None),
+            Call::Save => (None, self.facts.taken),
+            _ => (None, None),
+        };
+        let without = |slots: Vec<usize>, gone: Option<usize>| -> Vec<usize> {
+            slots.into_iter().filter(|&slot| Some(slot) != gone).collect()
+        };
+        assert_eq!(
+            new.1.len(),
+            old.1.len() + usize::from(taken.is_some()) - usize::from(freed.is_some())
+        );
+        assert_eq!(
+            (new.0, without(new.1, taken)),
+            (0, without(old.1, freed)),
+            "{:?}",
+            self.asked.call
+        );
     }
 
     /// Where no file had waste sectors none has any now: the new disk may go out where the old one might.

@@ -35,6 +35,8 @@ struct Counts {
     first_slot: usize,
     /// The renames among them that alter the case of the file's own name alone.
     turned: usize,
+    /// Erases of directories.
+    directories: usize,
     cuts: usize,
     answers: usize,
 }
@@ -54,13 +56,14 @@ fn every_change_cut_anywhere() {
         }
     }
     println!(
-        "{:?}: {:?} changes, {} with bigger directories, {} saves into slot 1, {} renames of case alone, {:?} saves that clear a \
-         slot in the same sector and in another, {} cuts, {} answers",
+        "{:?}: {:?} changes, {} with bigger directories, {} saves into slot 1, {} renames of case alone, {} erases of \
+         directories, {:?} saves that clear a slot in the same sector and in another, {} cuts, {} answers",
         CHANGES,
         counts.changes,
         counts.bigger,
         counts.first_slot,
         counts.turned,
+        counts.directories,
         counts.clearing,
         counts.cuts,
         counts.answers
@@ -77,6 +80,7 @@ fn every_change_cut_anywhere() {
         !rounds.enough() || counts.clearing.iter().all(|&saves| saves >= 5),
         "too few saves cleared a slot"
     );
+    assert!(!rounds.enough() || counts.directories >= 5, "too few directories were erased");
 }
 
 /// A save into the directory's end at the edges of sectors and tracks, cut after every sector. The slot behind holds a name,
@@ -157,6 +161,14 @@ fn the_largest_save_cut_anywhere() {
     let change = Change::save(&disk.image, 795_591 - 510, random).expect("the room is there");
     assert_eq!((change.named.len(), &change.named[1_559..]), (1_561, &[1, 0][..]));
     cut(&change, &mut Counts::default(), random);
+    // All sectors there are, beside a directory, and two of the directory's: the longest list.
+    let mut shape = ending(0, 2);
+    shape.files = vec![(1, 0)];
+    let mut disk = disks::of_shape(&shape, random);
+    disk.slot_mut(3)[..2].copy_from_slice(b"\xffX");
+    let change = Change::save(&disk.image, 795_591, random).expect("no sector is taken");
+    assert_eq!((change.named.len(), &change.named[1_560..]), (1_562, &[1, 0][..]));
+    cut(&change, &mut Counts::default(), random);
 }
 
 fn cut(change: &Change, counts: &mut Counts, random: &mut Random) {
@@ -174,6 +186,7 @@ fn cut(change: &Change, counts: &mut Counts, random: &mut Random) {
             assert!(disk == change.new, "cut after all sectors, the disk is not the new one");
             answers::accepted(&disk);
             change.leaves_no_waste();
+            change.keeps_the_tree();
         }
         counts.cuts += 1;
     }
@@ -183,6 +196,7 @@ fn cut(change: &Change, counts: &mut Counts, random: &mut Random) {
     let sort = CHANGES.iter().position(|&call| call == change.asked.call).expect("a change");
     counts.changes[sort] += 1;
     counts.turned += usize::from(change.turns_letters());
+    counts.directories += usize::from(change.erases_a_directory());
     counts.bigger += usize::from(change.facts.extra > 0);
     counts.first_slot += usize::from(change.asked.call == Call::Save && change.facts.taken == Some(1));
 }

@@ -4,7 +4,9 @@
 use crate::support::calls::{self, Call, NAME, OUT, Request};
 use crate::support::compare;
 use crate::support::disks::{self, Disk, File};
+use crate::support::facts::Facts;
 use crate::support::fields;
+use crate::support::folders;
 use crate::support::geometry::{bit_place, number};
 use crate::support::margins::Margins;
 use crate::support::random::Random;
@@ -12,12 +14,13 @@ use crate::support::settings::{Round, Rounds};
 
 #[test]
 fn drawn_disks_answer_what_was_drawn() {
-    let (mut lender, mut files) = (Margins::default(), 0);
+    let (mut lender, mut files, mut trees) = (Margins::default(), 0, 0);
     let rounds = Rounds::new(6_000_000, 150);
     for seed in rounds.seeds() {
         let _round = Round(seed);
         let disk = disks::draw(&mut Random::new(seed));
         listed(&disk, &mut lender);
+        trees += nested(&disk, &mut lender);
         for file in &disk.files {
             read(&disk, file, &mut lender);
             opened(&disk, file, &mut lender);
@@ -25,7 +28,7 @@ fn drawn_disks_answer_what_was_drawn() {
         }
         files += disk.files.len();
     }
-    println!("{} drawn disks with {files} files", rounds.seeds().count());
+    println!("{} drawn disks with {files} files and {trees} trees", rounds.seeds().count());
 }
 
 /// 258 bytes for each live slot, rising: its number, low byte first, and its bytes; then what stood there.
@@ -44,6 +47,33 @@ fn listed(disk: &Disk, lender: &mut Margins) {
         (disk.files.len(), disk.free())
     );
     assert!(left.out == expected, "the listing is not what was drawn");
+}
+
+/// The tree of the root and of each directory, and 13 for each file; or what refuses them all. Gives how many trees there are.
+fn nested(disk: &Disk, lender: &mut Margins) -> usize {
+    let facts = Facts::of(&disk.image);
+    let refused = folders::refused(&facts);
+    let mut trees = 0;
+    for live in [None].into_iter().chain(facts.live.iter().map(Some)) {
+        let name = live.map_or(&[][..], |live| &live.name);
+        let out = vec![0x5c; 2 * facts.live.len() + 3];
+        let request = Request::new(Call::Tree, &disk.image).with(NAME, name).with(OUT, &out);
+        let left = compare::ask(&request, lender);
+        let given = (calls::refusal(left.answer), calls::slot(left.answer));
+        match (refused, live) {
+            (Some(refused), _) => assert_eq!(given, refused),
+            (None, Some(live)) if !live.is_directory() => assert_eq!(given, (13, live.slot)),
+            (None, _) => {
+                let slots = folders::beneath(&facts, live);
+                let mut expected: Vec<u8> = slots.iter().flat_map(|&slot| (slot as u16).to_le_bytes()).collect();
+                expected.resize(out.len(), 0x5c);
+                assert_eq!((given, calls::value(left.answer)), ((0, 0), slots.len()));
+                assert!(left.out == expected, "the tree is not what was drawn");
+                trees += 1;
+            }
+        }
+    }
+    trees
 }
 
 fn read(disk: &Disk, file: &File, lender: &mut Margins) {

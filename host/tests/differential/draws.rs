@@ -1,11 +1,12 @@
 //! Drawn disks with drawn requests, whole disks and damaged ones, and a count of which call gave which refusal.
 
 use crate::support::asking::{self, WRONG_LENGTHS};
-use crate::support::calls::{CALLS, CHANGES, Call, Request, refusal, slot};
+use crate::support::calls::{CALLS, CHANGES, Call, OUT, Request, refusal, slot};
 use crate::support::compare::{self, Left};
 use crate::support::damage::{self, Outcome};
 use crate::support::disks::{self, Disk};
 use crate::support::facts::Facts;
+use crate::support::folders;
 use crate::support::geometry::IMAGE;
 use crate::support::margins::Margins;
 use crate::support::random::Random;
@@ -28,6 +29,24 @@ impl Run {
         left
     }
 
+    /// The tree of a whole disk that is accepted: what follows from its codes.
+    fn tree(&mut self, image: &[u8]) {
+        let facts = Facts::of(image);
+        let room = vec![0x5c; 2 * facts.live.len()];
+        let left = self.ask(&Request::new(Call::Tree, image).with(OUT, &room));
+        let given = (refusal(left.answer), slot(left.answer));
+        match folders::refused(&facts) {
+            Some(refused) => assert_eq!(given, refused, "the tree"),
+            None => {
+                let slots: Vec<u8> = folders::beneath(&facts, None)
+                    .iter()
+                    .flat_map(|&slot| (slot as u16).to_le_bytes())
+                    .collect();
+                assert_eq!((given, left.out), ((0, 0), slots), "the tree");
+            }
+        }
+    }
+
     /// The answer of the first check. That of the check before a release follows from it.
     fn check(&mut self, image: &[u8]) -> u64 {
         self.disks += 1;
@@ -39,6 +58,9 @@ impl Run {
             compare::read_out(follows),
             "the check before a release"
         );
+        if check == 0 {
+            self.tree(image);
+        }
         check
     }
 }

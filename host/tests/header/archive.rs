@@ -61,8 +61,9 @@ fn stack_said() -> Vec<(String, usize)> {
 }
 
 /// `stack.c` says of each call how many bytes of painted stack it wrote over. A save took less than 5,900 bytes, the calls on
-/// reports less than 3,000 and every other call less than 2,030 when bigger directories came. The frames in the compiled code have fixed
-/// sizes and no call leads back to itself, so that their sum, about the same, holds for every input.
+/// reports less than 3,000 and every other call less than 2,030 when bigger directories came. The frames in the compiled code
+/// have fixed sizes and no call leads back to itself, so that their sum, about the same, holds for every input; but for the tree,
+/// which calls itself once for each directory around: at most 255 times, and one of the disks is as deep as that.
 #[test]
 fn the_calls_need_little_stack() {
     let folder = Folder::new("stack");
@@ -83,6 +84,7 @@ fn the_calls_need_little_stack() {
         assert!(said.is_none_or(|most| bytes <= most), "{line}: the header says {said:?}");
         let most = match call {
             "save" => 8192,
+            "tree" => 36 * 1024,
             _ => 2048,
         };
         assert!(bytes > 0 && bytes < most, "{line}");
@@ -92,7 +94,7 @@ fn the_calls_need_little_stack() {
     }
     assert_eq!(
         calls.len(),
-        19,
-        "seventeen calls that are accepted, and two checks that are refused"
+        20,
+        "eighteen calls that are accepted, and two checks that are refused"
     );
 }

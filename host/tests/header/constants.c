@@ -33,6 +33,10 @@ static void check_reasons(void) {
     }
     expect(VARNUCHT_TRACKS_OUT_OF_RANGE == 24, "the number of a refusal", 24);
     expect(VARNUCHT_BODY_TOO_LONG == 25, "the number of a refusal", 25);
+    expect(VARNUCHT_CODE_NOT_OWN == 26, "the number of a refusal", 26);
+    expect(VARNUCHT_DIRECTORY_MISSING == 27, "the number of a refusal", 27);
+    expect(VARNUCHT_DIRECTORY_IN_ITSELF == 28, "the number of a refusal", 28);
+    expect(VARNUCHT_DIRECTORY_NOT_EMPTY == 29, "the number of a refusal", 29);
     expect(VARNUCHT_REPORT_FULL == 31, "the number of a refusal", 31);
 }
 
@@ -46,6 +50,7 @@ static void check_sizes(void) {
     expect(VARNUCHT_EXEC_BYTES == 3, "execution bytes", 0);
     expect(VARNUCHT_ENTRY_BYTES == 2 + 256, "bytes of an entry", 0);
     expect(VARNUCHT_LISTING_BYTES == 778 * 258, "bytes of a listing", 0);
+    expect(VARNUCHT_TREE_BYTES == 2 * 778, "bytes of a tree", 0);
     expect(VARNUCHT_BODY_BYTES == 510 * 1560 - 9, "bytes of a body", 0);
     expect(VARNUCHT_SAVE_LIST_BYTES == 2 * (1560 + 2), "bytes of a save's list", 0);
     expect(VARNUCHT_CHANGE_LIST_BYTES == 2, "bytes of another list", 0);
@@ -77,6 +82,8 @@ static void check_fields(void) {
     expect(VARNUCHT_ENTRY_PAGES - 2 == 239, "pages", 0);
     expect(VARNUCHT_ENTRY_REMAINDER - 2 == 240, "remainder", 0);
     expect(VARNUCHT_ENTRY_EXEC - 2 == 242, "execution bytes", 0);
+    expect(VARNUCHT_ENTRY_CODE - 2 == 250, "a directory's code", 0);
+    expect(VARNUCHT_ENTRY_PARENT - 2 == 254, "the code of the directory around", 0);
 }
 
 static void check_kinds(void) {
@@ -89,6 +96,7 @@ static void check_kinds(void) {
     expect(VARNUCHT_KIND_STRINGS == 18, "string array", 0);
     expect(VARNUCHT_KIND_CODE == 19, "code", 0);
     expect(VARNUCHT_KIND_SCREEN == 20, "screen", 0);
+    expect(VARNUCHT_KIND_DIRECTORY == 21, "directory", 0);
 }
 
 void check_constants(void) {

@@ -16,6 +16,9 @@ static void check_fields_of(const uint8_t *entry, unsigned long at) {
     expect(varnucht_entry_kind(entry) == kind, "kind", at);
     expect(varnucht_entry_carried(entry) == (kind > 15 && kind < 21), "carried", at);
     expect(varnucht_entry_spectrum(entry) == (kind > 0 && kind < 5), "of the Spectrum", at);
+    expect(varnucht_entry_directory(entry) == (kind == 21), "a directory", at);
+    expect(varnucht_entry_code(entry) == (kind == 21 ? slot[250] : 0), "a directory's code", at);
+    expect(varnucht_entry_parent(entry) == slot[254], "the code of the directory around", at);
     expect(varnucht_entry_name(entry) == slot + 1, "name", at);
     expect(varnucht_entry_sectors(entry) == 256u * slot[11] + slot[12], "sector count", at);
     expect(varnucht_entry_length(entry) == (kind > 15 && kind < 21 ? length : 0), "length", at);

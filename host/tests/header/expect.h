@@ -19,5 +19,6 @@ void check_size_limits(void);
 void check_pieces(void);
 void check_reports(void);
 void check_bigger(void);
+void check_trees(void);
 
 #endif

@@ -45,6 +45,7 @@ int main(int argc, char **argv) {
     run("pieces", check_pieces);
     run("reports", check_reports);
     run("bigger directories", check_bigger);
+    run("trees", check_trees);
     printf("held %lu, failed %lu\n", held, failed);
     return failed != 0;
 }

@@ -18,6 +18,7 @@ static image_call *const volatile check = varnucht_check;
 static image_call *const volatile check_release = varnucht_check_release;
 static list_call *const volatile list = varnucht_list;
 static read_call *const volatile reading = varnucht_read;
+static read_call *const volatile tree = varnucht_tree;
 static start_call *const volatile opening = varnucht_open;
 static next_call *const volatile next = varnucht_next;
 static start_call *const volatile start = varnucht_start;
@@ -36,6 +37,7 @@ void check_prototypes(void) {
     expect(check_release(NULL, 0) == 1, "check for a release of nothing", 0);
     expect(list(NULL, 0, NULL, 0) == 1, "list of nothing", 0);
     expect(reading(NULL, 0, NULL, 0, NULL, 0) == 1, "read of nothing", 0);
+    expect(tree(NULL, 0, NULL, 0, NULL, 0) == 1, "tree of nothing", 0);
     expect(opening(NULL, 0, NULL, 0) == 1, "open of nothing", 0);
     expect(next(NULL, 0, 0, 0, 0, NULL, 0) == 256 * 1600, "next of nothing", 0);
     expect(start(NULL, 0, NULL, 0) == 1, "start of nothing", 0);

@@ -1,5 +1,4 @@
-/* The sizes that the header calls always long enough are: on the fullest disks, and there one byte less is too short. A save's
- * list has room for one number more than any disk takes. */
+/* The sizes that the header calls always long enough are: on the fullest disks, and there one byte less is too short. */
 #include <string.h>
 
 #include "expect.h"
@@ -28,20 +27,19 @@ static void check_greatest_body(void) {
     expect(varnucht_refusal(answer) == 0 && varnucht_value(answer) == 540671, "the greatest address", 0);
 }
 
-/* A file in slot 1, the directory's end at slot 2 and an old name in slot 3, which is in another sector: that is named too,
- * behind the data. */
+/* A subdirectory in slot 1, which takes no sector, the directory's end at slot 2 and an old name in slot 3, which is in another
+ * sector: that is named too, behind all data sectors. */
 static void check_longest_list(void) {
-    static const uint8_t first[] = {'A'};
-    const size_t rest = 510 * 1559 - 9;
     memset(image, 0, sizeof image);
-    expect(varnucht_refusal(save(first, 1, 0, 4)) == 0, "a file in slot 1", 0);
+    image[0] = VARNUCHT_KIND_DIRECTORY;
+    image[1] = 'A';
     image[2 * 256] = VARNUCHT_KIND_CODE;
     image[2 * 256 + 1] = 'X';
     expect(varnucht_check(image, sizeof image) == 0, "a slot behind the end is not looked at", 0);
-    expect(save(tunes, 5, rest, 2 * 1561 - 1) == VARNUCHT_BUFFER_TOO_SHORT, "a list too short for both", 0);
-    uint64_t answer = save(tunes, 5, rest, sizeof list);
-    expect(varnucht_refusal(answer) == 0 && varnucht_value(answer) == 1561, "the longest list", 0);
-    expect(varnucht_listed(list, 1559) == 1 && varnucht_listed(list, 1560) == 0, "its last two sectors", 0);
+    expect(save(tunes, 5, VARNUCHT_BODY_BYTES, sizeof list - 1) == VARNUCHT_BUFFER_TOO_SHORT, "one byte too short", 0);
+    uint64_t answer = save(tunes, 5, VARNUCHT_BODY_BYTES, sizeof list);
+    expect(varnucht_refusal(answer) == 0 && varnucht_value(answer) == 1562, "the longest list", 0);
+    expect(varnucht_listed(list, 1560) == 1 && varnucht_listed(list, 1561) == 0, "its last two sectors", 0);
     expect(image[2 * 256] == 0 && image[2 * 256 + 1] == 0, "the old name is gone", 0);
     expect(varnucht_check(image, sizeof image) == 0, "the disk is accepted", 0);
 }

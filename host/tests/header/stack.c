@@ -1,8 +1,8 @@
 /* How much stack each call takes: it runs on a stack of its own, which was painted before, and the paint that is gone is
- * counted. The disks are those that make a call work longest: the greatest file, eighty files, and 778 in the biggest
- * directory; and for both checks the greatest file with its last link but one leading back to its first sector, which is
- * refused 10 where that comes again. For the save also a disk whose directory ends at slot 2, with an old name behind it in
- * another sector. */
+ * counted. The disks are those that make a call work longest: the greatest file, eighty files, 778 in the biggest directory,
+ * and there 255 subdirectories, each in the one before, with files in the last; and for both checks the greatest file with its
+ * last link but one leading back to its first sector, which is refused 10 where that comes again. For the save also a disk
+ * whose directory ends at slot 2, with an old name behind it in another sector. */
 #define _XOPEN_SOURCE 700
 #include <stdio.h>
 #include <string.h>
@@ -12,11 +12,11 @@
 
 #define PAINT 0xa5
 
-static uint8_t stack[65536];
+static uint8_t stack[262144];
 static ucontext_t here, there;
 
 static uint8_t blank[VARNUCHT_IMAGE_BYTES], full[VARNUCHT_IMAGE_BYTES], crowded[VARNUCHT_IMAGE_BYTES];
-static uint8_t biggest[VARNUCHT_IMAGE_BYTES], ring[VARNUCHT_IMAGE_BYTES], ended[VARNUCHT_IMAGE_BYTES];
+static uint8_t biggest[VARNUCHT_IMAGE_BYTES], deep[VARNUCHT_IMAGE_BYTES], ring[VARNUCHT_IMAGE_BYTES], ended[VARNUCHT_IMAGE_BYTES];
 static uint8_t image[VARNUCHT_IMAGE_BYTES];
 static uint8_t body[VARNUCHT_BODY_BYTES], list[VARNUCHT_SAVE_LIST_BYTES];
 static uint8_t report[VARNUCHT_REPORT_BYTES], shelf[VARNUCHT_REPORT_BYTES];
@@ -32,6 +32,7 @@ static void check(void) { refusal = varnucht_refusal(varnucht_check(image, sizeo
 static void check_release(void) { refusal = varnucht_refusal(varnucht_check_release(image, sizeof image)); }
 static void listing(void) { refusal = varnucht_refusal(varnucht_list(image, sizeof image, body, sizeof body)); }
 static void reading(void) { refusal = varnucht_refusal(varnucht_read(image, sizeof image, name, 2, body, sizeof body)); }
+static void tree(void) { refusal = varnucht_refusal(varnucht_tree(image, sizeof image, NULL, 0, body, sizeof body)); }
 static void opening(void) { refusal = varnucht_refusal(varnucht_open(image, sizeof image, name, 2)); }
 static void next(void) {
     refusal = varnucht_refusal(varnucht_next(image, sizeof image, 80, 9, sizeof body, body, sizeof body));
@@ -85,6 +86,22 @@ static void crowd(uint8_t *disk, unsigned slots) {
     }
 }
 
+/* Every slot but the last is taken: subdirectories in each other as deep as codes go, and behind them files in the deepest. */
+static void deepen(uint8_t *disk) {
+    disk[255] = 35;
+    crowd(disk, VARNUCHT_SLOTS);
+    for (unsigned i = 1; i < VARNUCHT_SLOTS; i++) {
+        unsigned past = i > 80 ? i + 1 : i - 1;
+        uint8_t *slot = disk + past / 20 * 10240 + past % 20 * 256;
+        slot[254] = (uint8_t)(i > 256 ? 255 : i > 1 ? i - 2 : 0);
+        if (i > 1 && i <= 256) {
+            slot[0] = 21;
+            memset(slot + 11, 0, 210 - 11);
+            slot[250] = (uint8_t)(i - 1);
+        }
+    }
+}
+
 static void make_disks(void) {
     save(full, name, 2, sizeof body);
     memcpy(ring, full, sizeof ring);
@@ -96,16 +113,18 @@ static void make_disks(void) {
     crowd(crowded, 80);
     biggest[255] = 35;
     crowd(biggest, VARNUCHT_SLOTS);
+    deepen(deep);
 }
 
 int main(void) {
     make_disks();
-    const uint8_t *const disks[] = {full, crowded, biggest};
-    for (int i = 0; i < 3; i++) {
+    const uint8_t *const disks[] = {full, crowded, biggest, deep};
+    for (int i = 0; i < 4; i++) {
         say("check", check, disks[i]);
         say("check_release", check_release, disks[i]);
         say("list", listing, disks[i]);
         say("read", reading, disks[i]);
+        say("tree", tree, disks[i]);
         say("open", opening, disks[i]);
         say("next", next, disks[i]);
         say("start", start, disks[i]);

@@ -2,6 +2,7 @@
 
 use super::calls::{Call, IMAGE, NAME, NEW, OUT, Request, TWO};
 use super::facts::Facts;
+use super::folders;
 use super::geometry;
 use super::names;
 use super::random::Random;
@@ -51,6 +52,7 @@ pub fn draw(call: Call, facts: &Facts, random: &mut Random) -> Asked {
         Call::List => asked.with(OUT, buffer(258 * facts.live.len(), random)),
         Call::Open | Call::Start => asked.with(NAME, asked_name(facts, random)),
         Call::Next => readers::draw(facts, random),
+        Call::Tree => folders::draw(facts, random),
         Call::Read => {
             let name = asked_name(facts, random);
             let need = facts.find(&name).map_or(random.below(2_000), |live| live.length);
@@ -130,7 +132,7 @@ fn long_name(random: &mut Random) -> Vec<u8> {
 }
 
 /// Some of the spaces at the end may be left out, and some of the letters turned.
-fn spelled(name: names::Name, random: &mut Random) -> Vec<u8> {
+pub fn spelled(name: names::Name, random: &mut Random) -> Vec<u8> {
     let name = names::turned(name, random);
     let least = names::without_spaces(&name).len().max(1);
     let length = if random.coin() { 10 } else { random.between(least, 10) };

@@ -1,7 +1,8 @@
 //! Drawn disks that the rules accept, written byte by byte from document 01, with what was written kept beside the image.
 
 use super::fields;
-use super::geometry::{self, BITS, EXTRA, PAYLOAD, SECTOR, SLOT, address, bit_place, fills, slot_place};
+use super::folders;
+use super::geometry::{self, EXTRA, PAYLOAD, SECTOR, SLOT, address, bit_place, fills, slot_place};
 use super::names::{self, Name};
 use super::random::Random;
 use super::shapes::Shape;
@@ -11,7 +12,7 @@ pub struct File {
     pub slot: usize,
     pub kind: u8,
     pub name: Name,
-    /// The map bits in the order of the chain.
+    /// The map bits in the order of the chain; a directory has none.
     pub chain: Vec<usize>,
     /// Empty for a kind that cannot be read.
     pub body: Vec<u8>,
@@ -55,6 +56,7 @@ pub fn of_shape(shape: &Shape, random: &mut Random) -> Disk {
             }
         }
     }
+    folders::arrange(&mut disk, random);
     disk.image[EXTRA] = match shape.extra {
         0 => random.pick(&[0, 0, 255]),
         extra => extra as u8,
@@ -110,23 +112,16 @@ impl Disk {
     }
 
     fn write(&mut self, slot: usize, chain: Vec<usize>, shape: &Shape, random: &mut Random) -> File {
-        let kind = match random.below(6) {
-            0 => random.between(1, 5) as u8,
-            1 => random.pick(&fields::KNOWN),
-            _ => random.between(16, 20) as u8,
-        };
+        let kind = kind(&chain, random);
         let name = names::draw(random, &self.names());
         let mut bytes = shape.ground.bytes(SLOT, random);
         bytes[0] = kind | random.byte() & (fields::HIDDEN | fields::PROTECTED);
         bytes[fields::NAME..fields::COUNT].copy_from_slice(&name);
         fields::set_count(&mut bytes, chain.len());
-        bytes[fields::FIRST..fields::MAP].copy_from_slice(&address(chain[0]));
-        for bit in 0..BITS {
-            fields::set_bit(&mut bytes, bit, false);
+        if let Some(&first) = chain.first() {
+            bytes[fields::FIRST..fields::MAP].copy_from_slice(&address(first));
         }
-        for &bit in &chain {
-            fields::set_bit(&mut bytes, bit, true);
-        }
+        fields::set_map(&mut bytes, &chain);
         start(&mut bytes, random);
         let body = if fields::is_carried(kind) {
             let length = if shape.tidy {
@@ -232,6 +227,18 @@ impl Disk {
             let from = slot_place(self.files[random.below(self.files.len())].slot);
             self.image.copy_within(from..from + SLOT, slot_place(slot));
         }
+    }
+}
+
+/// A kind for a live slot with these sectors: a directory has none, and a file has some.
+fn kind(chain: &[usize], random: &mut Random) -> u8 {
+    match random.below(6) {
+        _ if chain.is_empty() => fields::DIRECTORY,
+        0 => random.between(1, 5) as u8,
+        1 => std::iter::repeat_with(|| random.pick(&fields::KNOWN))
+            .find(|&kind| !fields::is_directory(kind))
+            .expect("one is drawn at some time"),
+        _ => random.between(16, 20) as u8,
     }
 }
 

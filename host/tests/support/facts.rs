@@ -14,6 +14,16 @@ pub struct Live {
     pub length: usize,
     /// The numbers of the sectors in its map.
     pub sectors: Vec<usize>,
+    /// Of a directory: by which code the live slots in it name it.
+    pub code: u8,
+    /// The code of the directory that it is in; 0 for the root.
+    pub parent: u8,
+}
+
+impl Live {
+    pub fn is_directory(&self) -> bool {
+        fields::is_directory(self.kind)
+    }
 }
 
 pub struct Facts {
@@ -47,6 +57,8 @@ impl Facts {
             protected: bytes[0] & fields::PROTECTED != 0,
             length: length(image, bytes),
             sectors: fields::bits(bytes).into_iter().map(|bit| number(bit_place(bit))).collect(),
+            code: bytes[fields::CODE],
+            parent: bytes[fields::PARENT],
         });
         let live: Vec<Live> = live.collect();
         let erased = slots().filter(|&(slot, bytes)| !read(slot) || bytes[0] == 0);

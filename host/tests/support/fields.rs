@@ -31,6 +31,16 @@ pub const HEADER_PAGE: usize = 8;
 
 pub const KNOWN: [u8; 20] = [1, 2, 3, 4, 5, 6, 7, 8, 9, 10, 11, 12, 16, 17, 18, 19, 20, 21, 22, 23];
 
+/// A directory of MasterDOS: document 02, M-108.
+pub const DIRECTORY: u8 = 21;
+/// Where a directory has its code, and every live slot that of the directory it is in.
+pub const CODE: usize = 250;
+pub const PARENT: usize = 254;
+
+pub fn is_directory(kind: u8) -> bool {
+    kind == DIRECTORY
+}
+
 pub fn is_known(kind: u8) -> bool {
     KNOWN.contains(&kind)
 }
@@ -82,6 +92,12 @@ pub fn has_bit(slot: &[u8], bit: usize) -> bool {
 pub fn set_bit(slot: &mut [u8], bit: usize, on: bool) {
     let byte = &mut slot[MAP + bit / 8];
     *byte = *byte & !(1 << (bit % 8)) | u8::from(on) << (bit % 8);
+}
+
+/// Sets these bits of a slot's map and clears all others.
+pub fn set_map(slot: &mut [u8], bits: &[usize]) {
+    slot[MAP..MAP + MAP_BYTES].fill(0);
+    bits.iter().for_each(|&bit| set_bit(slot, bit, true));
 }
 
 /// The bits of a slot's map, rising.

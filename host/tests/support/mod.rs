@@ -9,6 +9,7 @@
 //! - `calls`: one request, asked of the C layer and of `paper`.
 //! - `compare`: the same request to both, with every buffer compared at return.
 //! - `margins`, `guarded`: two ways to lend the buffers to the C layer.
+//! - `folders`: codes of directories, and what lies beneath them.
 //! - `facts`, `asking`, `wishes`, `readers`: drawn requests that fit a disk.
 //! - `reports`: drawn reports, and what is counted of a disk.
 //! - `tally`: how often each call gave each refusal.
@@ -23,6 +24,7 @@ pub mod damage;
 pub mod disks;
 pub mod facts;
 pub mod fields;
+pub mod folders;
 pub mod geometry;
 pub mod guarded;
 pub mod margins;

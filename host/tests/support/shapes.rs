@@ -7,7 +7,7 @@ use super::random::Random;
 pub struct Shape {
     /// The directory tracks beyond four.
     pub extra: usize,
-    /// The live slots, rising, with the sectors of each.
+    /// The live slots, rising, with the sectors of each; one without sectors is a directory.
     pub files: Vec<(usize, usize)>,
     /// The directory's end, behind every live slot; none where every slot has a name.
     pub end: Option<usize>,
@@ -49,7 +49,19 @@ impl Shape {
             3 if random.one_in(12) => random.pick(&[slots - 1, slots]),
             _ => random.between(2, 8),
         };
-        Shape::of(extra, live, sectors(extra, live, random), random)
+        let mut shape = Shape::of(extra, live, sectors(extra, live, random), random);
+        shape.make_directories(random);
+        shape
+    }
+
+    /// Some of the files, often none, made directories.
+    fn make_directories(&mut self, random: &mut Random) {
+        let often = random.pick(&[0, 0, 1, 2, 3, 5]);
+        for (_, sectors) in self.files.iter_mut().filter(|_| often > 0) {
+            if random.below(6) < often {
+                *sectors = 0;
+            }
+        }
     }
 
     /// So many files that have so many sectors together, in a directory of four tracks.

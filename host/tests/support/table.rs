@@ -1,11 +1,11 @@
 /// The words of document 01's table by number, copied from it; and those of the rows that document 02 moves or adds. Numbers
 /// between them belong to requests that have not landed.
 #[rustfmt::skip]
-pub const TABLE: [(u8, &str); 25] = [
+pub const TABLE: [(u8, &str); 29] = [
     (1, "the image is not 819,200 bytes"),
     (2, "the kind is not known"),
     (3, "the first name byte is 0 (given no more)"),
-    (4, "the count is not 1 to the number of data sectors"),
+    (4, "the count is not 1 to the number of data sectors, or a directory's is not 0"),
     (5, "the map's set bits are not as many as the count"),
     (6, "the first address is not a data sector, or its bit is clear, or the map has a bit inside the directory"),
     (7, "carried kind, and 510 × count is below 9 + length"),
@@ -14,7 +14,7 @@ pub const TABLE: [(u8, &str); 25] = [
     (10, "the chain is broken"),
     (11, "carried kind, and the header's first byte (whole), remainder (mod 16,384) or pages differ from the slot's kind, remainder, pages"),
     (12, "the name is not usable"),
-    (13, "the kind asked for (save) or found (read, start address) is not one that this call takes"),
+    (13, "the kind asked for (save) or found (read, start address, tree) is not one that this call takes"),
     (14, "start page above 31, or offset outside 32,768 to 49,151 (save, start address)"),
     (15, "no live slot has the name, capitals or not"),
     (16, "a live slot has the new name, capitals or not"),
@@ -26,6 +26,10 @@ pub const TABLE: [(u8, &str); 25] = [
     (22, "carried kind, and the count is above the least that its length needs (waste sectors behind the file)"),
     (24, "the number of directory tracks beyond four, byte 255 of slot 1, is 36 to 254"),
     (25, "kind 1 to 4, and 510 × count is below 9 + the length in the header"),
+    (26, "a directory with code 0 or an earlier directory's code (tree)"),
+    (27, "a live slot's byte 254 is not 0 and no directory's code (tree)"),
+    (28, "a directory lies inside itself at some depth (tree)"),
+    (29, "a directory whose code, not 0, is another live slot's byte 254 (erase)"),
     (31, "a disk or join that would pass 65,535 disks"),
 ];
 

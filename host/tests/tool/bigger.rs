@@ -60,7 +60,7 @@ fn no_such_number_on_a_disk() {
         bytes[MORE] = byte;
         let image = folder.file("disk.mgt", &bytes);
         let said = "disk.mgt: refusal 24: the number of directory tracks beyond four, byte 255 of slot 1, is 36 to 254\n";
-        for command in ["check", "list", "map"] {
+        for command in ["check", "list", "tree", "map"] {
             on(command, &image, NONE).fails(1, said);
         }
         on("save", &image, ["NEW", "/dev/null"]).fails(1, "refusal 24: ");

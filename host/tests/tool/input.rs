@@ -13,7 +13,7 @@ fn images_of_every_length() {
         let image = folder.path("disk.mgt");
         File::create(&image).unwrap().set_len(length).unwrap();
         let began = Instant::now();
-        for command in ["check", "list", "map"] {
+        for command in ["check", "list", "tree", "map"] {
             on(command, &image, NONE).fails(1, "disk.mgt: refusal 1: the image is not 819,200 bytes: it has ");
         }
         on("read", &image, ["ONE"]).fails(1, "refusal 1: ");
@@ -66,7 +66,7 @@ fn what_is_no_file() {
     let folder = Folder::new();
     let directory = folder.path("");
     let missing = folder.path("missing.mgt");
-    for command in ["check", "list", "map"] {
+    for command in ["check", "list", "tree", "map"] {
         on(command, &directory, NONE).fails(3, "directory");
         on(command, &missing, NONE).fails(3, "missing.mgt: No such file");
     }
@@ -179,7 +179,7 @@ fn words_of_any_bytes() {
     let mut runs = 0;
     for word in odd.map(OsString::from_vec) {
         for command in [
-            "check", "list", "map", "read", "save", "erase", "rename", "hide", "sector", "blank", "help",
+            "check", "list", "tree", "map", "read", "save", "erase", "rename", "hide", "sector", "blank", "help",
         ] {
             let path = image.clone().into_os_string();
             let lines = [

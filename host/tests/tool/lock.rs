@@ -70,6 +70,7 @@ fn reading_waits_for_a_change_alone() {
     lock.lock_shared().unwrap();
     for words in [
         &["list", path][..],
+        &["tree", path],
         &["check", path],
         &["map", path],
         &["sector", path, "0", "1"],

@@ -1,6 +1,5 @@
 -- `changes::erase` meets its contract: what bars the name is the answer, and else what its slot gives.
 use mathlib.Core.Path.{sym, ap, _∙_}
-use native.Mathlib.Omega.{arith}
 use denote.Ref.{now}
 use Rattle.files.specs.Calls.{soughtOf}
 use Rattle.files.proofs.Named.{Named, lookup-named}
@@ -21,11 +20,8 @@ enum-known-r c = search needs
 enum-known-i : tie.Need-enum-known-i
 enum-known-i c = search needs
 
-slice-aggregate-touch-unprotected : tie.Need-slice-aggregate-touch-unprotected
-slice-aggregate-touch-unprotected c = search needs
-
-touch-unprotected-requires : tie.Need-touch-unprotected-requires
-touch-unprotected-requires c κs = record { slot = named-holds _ _ _ (named (c .before .before .before .before)); inside = omega arith }
+erase-at-requires : tie.Need-erase-at-requires
+erase-at-requires c κs = named-holds _ _ _ (named (c .before .before .before))
 
 same-length : tie.Need-same-length
 same-length c = search needs
@@ -40,7 +36,7 @@ same-length-3 : tie.Need-same-length-3
 same-length-3 c = search needs
 
 returns-2 : tie.Need-returns-2
-returns-2 c = let t = c .before .before .before .before in t .touch-unprotected .ensures ∙ erase-found _ _ _ _ (named (t .before .before .before .before .before))
+returns-2 c = let t = c .before .before .before .before in t .erase-at .ensures ∙ erase-found _ _ _ _ (named (t .before .before .before .before))
 
 pub erase-spec : {M : Type 1} → statement M
 erase-spec =
@@ -49,8 +45,7 @@ erase-spec =
     look-up-requires
     enum-known-r
     enum-known-i
-    slice-aggregate-touch-unprotected
-    touch-unprotected-requires
+    erase-at-requires
     same-length
     returns
     same-length-2

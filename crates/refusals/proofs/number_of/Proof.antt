@@ -86,6 +86,18 @@ enum-told-24 c = search needs
 enum-told-25 : tie.Need-enum-told-25
 enum-told-25 c = search needs
 
+enum-told-26 : tie.Need-enum-told-26
+enum-told-26 c = search needs
+
+enum-told-27 : tie.Need-enum-told-27
+enum-told-27 c = search needs
+
+enum-told-28 : tie.Need-enum-told-28
+enum-told-28 c = search needs
+
+enum-told-29 : tie.Need-enum-told-29
+enum-told-29 c = search needs
+
 returns : tie.Need-returns
 returns c = told (c .enum-told .given .1) refl (omega arith)
 
@@ -161,6 +173,18 @@ returns-24 c = told (c .enum-told24 .given .1) refl (omega arith)
 returns-25 : tie.Need-returns-25
 returns-25 c = told (c .enum-told25 .given .1) refl (omega arith)
 
+returns-26 : tie.Need-returns-26
+returns-26 c = told (c .enum-told26 .given .1) refl (omega arith)
+
+returns-27 : tie.Need-returns-27
+returns-27 c = told (c .enum-told27 .given .1) refl (omega arith)
+
+returns-28 : tie.Need-returns-28
+returns-28 c = told (c .enum-told28 .given .1) refl (omega arith)
+
+returns-29 : tie.Need-returns-29
+returns-29 c = told (c .enum-told29 .given .1) refl (omega arith)
+
 pub number-of-spec : {M : Type 1} → statement M
 number-of-spec =
     tie.close
@@ -190,6 +214,10 @@ number-of-spec =
     enum-told-23
     enum-told-24
     enum-told-25
+    enum-told-26
+    enum-told-27
+    enum-told-28
+    enum-told-29
     returns
     returns-2
     returns-3
@@ -214,4 +242,8 @@ number-of-spec =
     returns-22
     returns-23
     returns-24
-    returns-25)
+    returns-25
+    returns-26
+    returns-27
+    returns-28
+    returns-29)

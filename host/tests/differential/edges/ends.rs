@@ -86,7 +86,7 @@ fn faults_behind_the_end() {
 fn ends_at(disk: &Disk, end: usize) {
     expect(&Asked::new(Call::Check), &disk.image, 0);
     expect(&Asked::new(Call::CheckRelease), &disk.image, 0);
-    for call in CALLS.into_iter().filter(|call| call.takes().contains(&NAME)) {
+    for call in CALLS.into_iter().filter(|call| call.needs_name()) {
         expect(&Asked::new(call), &disk.image, 12);
     }
     let files = end - 1;

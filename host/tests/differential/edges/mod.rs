@@ -12,6 +12,7 @@ mod order;
 mod release;
 mod slots;
 mod spectrum;
+mod tree;
 
 use crate::support::asking::Asked;
 use crate::support::calls::{self, BODY, Call, NAME, OUT};

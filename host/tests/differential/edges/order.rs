@@ -108,7 +108,7 @@ fn the_disk_before_the_request() {
         assert_eq!(calls::slot(left.answer), last.slot);
     }
     disk.sector_mut(last.chain[0])[0] ^= 1;
-    for call in calls::CALLS.into_iter().filter(takes_name) {
+    for call in calls::CALLS.into_iter().filter(|call| call.needs_name()) {
         expect(&Asked::new(call), &disk.image, 12);
     }
     expect(&Asked::new(Call::List), &disk.image, 20);
@@ -143,7 +143,7 @@ fn rows_of_read_open_and_start() {
     let [read, open, start] = [Call::Read, Call::Open, Call::Start].map(|call| Asked::new(call).with(NAME, file.name));
     disk.slot_mut(file.slot)[fields::OFFSET + 1] = 0;
     let marks = disk.slot(file.slot)[0] & 192;
-    disk.slot_mut(file.slot)[0] = marks | 21;
+    disk.slot_mut(file.slot)[0] = marks | 22;
     for asked in [&read, &open, &start] {
         assert_eq!(calls::slot(expect(asked, &disk.image, 13).answer), file.slot);
     }

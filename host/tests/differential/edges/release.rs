@@ -89,7 +89,7 @@ fn by_kind() {
     set_length(&mut disk, 1, 9);
     // Kinds 1 to 4 have all 16 bits of their length there.
     disk.sector_mut(first)[fields::HEADER_REMAINDER + 1] = 0;
-    for kind in fields::KNOWN {
+    for kind in fields::KNOWN.into_iter().filter(|&kind| !fields::is_directory(kind)) {
         disk.sector_mut(first)[0] = kind;
         for marks in [0, 64, 128, 192] {
             disk.slot_mut(slot)[0] = marks | kind;
@@ -177,11 +177,14 @@ fn other_calls_accept_them() {
     set_length(&mut disk, 1, 3);
     disk.slot_mut(file.slot)[fields::OFFSET..fields::PAGES].copy_from_slice(&32_768_u16.to_le_bytes());
     disk.slot_mut(file.slot)[0] &= !fields::PROTECTED;
+    for slot in disk.files.iter().map(|file| file.slot).collect::<Vec<_>>() {
+        disk.slot_mut(slot)[fields::PARENT] = 0;
+    }
     let checks = |call: &Call| !matches!(call, Call::Sector | Call::ReportJoin);
     for call in CALLS.into_iter().filter(checks) {
         let asked = match call {
             Call::Check | Call::CheckRelease => Asked::new(call),
-            Call::List | Call::Next => Asked::new(call).with(OUT, vec![0x5c; 1_000]),
+            Call::List | Call::Next | Call::Tree => Asked::new(call).with(OUT, vec![0x5c; 1_000]),
             Call::Open | Call::Start => Asked::new(call).with(NAME, file.name),
             Call::ReportAdd => Asked::new(call).with(OUT, [0; reports::REPORT]),
             Call::Save => super::save(vec![7; 10]),

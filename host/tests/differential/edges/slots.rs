@@ -34,6 +34,7 @@ fn byte_0() {
         let number = match byte & 63 {
             _ if byte == 0 => 0,
             found if !fields::is_known(found) => 2,
+            found if fields::is_directory(found) => 4,
             found if fields::is_carried(found) && found != kind => 11,
             found if fields::is_spectrum(found) && long => 25,
             _ => 0,

@@ -122,7 +122,8 @@ fn header_bytes() {
     }
 }
 
-/// Kinds beside each other: 1 to 4 have this header, 5 to 12 have none and cannot be read, nor can 21 to 23.
+/// Kinds beside each other: 1 to 4 have this header, 5 to 12 have none and cannot be read, nor can 22 and 23. 21 has no
+/// sectors.
 #[test]
 fn by_kind() {
     let mut disk = disk(4, 2);
@@ -130,7 +131,8 @@ fn by_kind() {
     let marks = disk.slot(slot)[0] & 192;
     for (length, long) in [(700, false), (fills(2), false), (fills(2) + 1, true)] {
         head(&mut disk, 1, length, 65_535);
-        for kind in fields::KNOWN.into_iter().filter(|&kind| !fields::is_carried(kind)) {
+        let sectors = |&kind: &u8| !fields::is_carried(kind) && !fields::is_directory(kind);
+        for kind in fields::KNOWN.into_iter().filter(sectors) {
             disk.slot_mut(slot)[0] = marks | kind;
             let spectrum = kind <= 4;
             given(&disk, if spectrum && long { 25 } else { 0 }, 1);

@@ -46,6 +46,7 @@ fn look(request: &Request, out: &mut [u8]) -> Result<Parts, Refused> {
             let came = paper::next(image, &mut reader, out);
             Ok(at(reader, came))
         }
+        Call::Tree => paper::tree(image, name, out).map(|slots| [0, slots, 0]),
         Call::Start => paper::start(image, name).map(|address| [0, address as usize, 0]),
         Call::Sector => paper::sector(image, two, a, b, c).map(|place| [0, place, 0]),
         Call::ReportAdd => paper::report_add(image, out).map(|disks| [0, disks, 0]),

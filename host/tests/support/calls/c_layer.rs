@@ -33,6 +33,7 @@ pub unsafe fn ask_c(call: Call, numbers: [u32; 3], parts: &[Part; 8]) -> u64 {
             Call::Read => raw::varnucht_read(i, il, n, nl, o, ol),
             Call::Open => raw::varnucht_open(i, il, n, nl),
             Call::Next => raw::varnucht_next(i, il, a, b, c, o, ol),
+            Call::Tree => raw::varnucht_tree(i, il, n, nl, o, ol),
             Call::Start => raw::varnucht_start(i, il, n, nl),
             Call::Sector => raw::varnucht_sector(i, il, two.front, two.length, a, b, c),
             Call::Save => raw::varnucht_save(

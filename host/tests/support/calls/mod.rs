@@ -20,6 +20,7 @@ pub enum Call {
     Read,
     Open,
     Next,
+    Tree,
     Start,
     Sector,
     Save,
@@ -33,13 +34,14 @@ pub enum Call {
     ReportJoin,
 }
 
-pub const CALLS: [Call; 17] = [
+pub const CALLS: [Call; 18] = [
     Call::Check,
     Call::CheckRelease,
     Call::List,
     Call::Read,
     Call::Open,
     Call::Next,
+    Call::Tree,
     Call::Start,
     Call::Sector,
     Call::Save,
@@ -72,7 +74,7 @@ pub const NEW: usize = 3;
 pub const EXEC: usize = 4;
 pub const INFO: usize = 5;
 pub const BODY: usize = 6;
-/// The output buffer of list, read and next, the list of sector numbers of a change, the report that is added or joined to.
+/// The output buffer of list, read, next and tree, the list of sector numbers of a change, the report that is added or joined to.
 pub const OUT: usize = 7;
 pub const ROLES: [&str; 8] = [
     "image",
@@ -98,6 +100,11 @@ impl Call {
     /// Whether this call is on reports.
     pub fn is_report(self) -> bool {
         matches!(self, Call::ReportAdd | Call::ReportJoin)
+    }
+
+    /// Whether this call takes a name and refuses an empty one. To a tree that is the root.
+    pub fn needs_name(self) -> bool {
+        self.takes().contains(&NAME) && self != Call::Tree
     }
 
     /// What this call answers to an image of another length than a disk's.

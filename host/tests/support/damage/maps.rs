@@ -71,10 +71,9 @@ fn shared_with_earlier(disk: &mut Disk, index: usize, random: &mut Random) -> Op
 }
 
 fn shared_with_later(disk: &mut Disk, index: usize, random: &mut Random) -> Option<Outcome> {
-    if index + 1 == disk.files.len() {
-        return None;
-    }
-    let later = random.between(index + 1, disk.files.len() - 1);
+    let with_sectors = |&later: &usize| !disk.files[later].chain.is_empty();
+    let later = some((index + 1..disk.files.len()).filter(with_sectors).collect())?;
+    let later = random.pick(&later);
     let bit = random.pick(&disk.files[later].chain);
     counted(disk, index, bit);
     Some(Outcome::Refused(8, disk.files[later].slot))
@@ -140,10 +139,8 @@ fn later_bit(disk: &Disk, index: usize, random: &mut Random) -> Option<usize> {
 }
 
 fn bit_of_earlier(disk: &Disk, index: usize, random: &mut Random) -> Option<usize> {
-    (index > 0).then(|| {
-        let earlier = random.below(index);
-        random.pick(&disk.files[earlier].chain)
-    })
+    let earlier = disk.files[..index].iter().flat_map(|file| file.chain.iter().copied());
+    some(earlier.collect()).map(|bits| random.pick(&bits))
 }
 
 /// The bits that are not this file's.
@@ -170,6 +167,6 @@ fn free(disk: &Disk) -> Option<Vec<usize>> {
     some((0..BITS).filter(|&bit| !used[bit] && is_data(bit, disk.extra)).collect())
 }
 
-fn some(bits: Vec<usize>) -> Option<Vec<usize>> {
-    if bits.is_empty() { None } else { Some(bits) }
+fn some(numbers: Vec<usize>) -> Option<Vec<usize>> {
+    if numbers.is_empty() { None } else { Some(numbers) }
 }

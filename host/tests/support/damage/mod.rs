@@ -5,6 +5,7 @@ mod bytes;
 mod chains;
 mod ends;
 mod firsts;
+mod folders;
 mod headers;
 mod maps;
 mod names;
@@ -43,6 +44,7 @@ pub fn all() -> Vec<&'static Damage> {
         chains::ALL,
         headers::ALL,
         ends::ALL,
+        folders::ALL,
         tracks::ALL,
         bytes::ALL,
     ]
@@ -86,17 +88,20 @@ pub fn several(random: &mut Random) -> (Disk, Outcome) {
     }
 }
 
-/// At the first file that allows it, from a drawn one on.
+/// At the first file that allows it, from a drawn one on. Damages to directories take these alone, and all others files.
 fn somewhere(damage: &Damage, disk: &mut Disk, random: &mut Random) -> Option<(usize, Outcome)> {
     let files = disk.files.len();
     let from = if files == 0 { return None } else { random.below(files) };
+    let to_directory = folders::ALL.iter().any(|other| other.title == damage.title);
+    let fits: Vec<bool> = disk.files.iter().map(|file| file.chain.is_empty() == to_directory).collect();
     (0..files)
         .map(|i| (from + i) % files)
+        .filter(|&index| fits[index])
         .find_map(|index| Some((index, (damage.apply)(disk, index, random)?)))
 }
 
-/// 24 comes first; then all slots for 2 to 9, before all slots for 10, 11 and 25; then the lowest slot, and at a slot the lowest number. What
-/// stands behind the directory's end is not seen.
+/// 24 comes first; then all slots for 2 to 9, before all slots for 10, 11 and 25; then the lowest slot, and at a slot the lowest
+/// number. What stands behind the directory's end is not seen.
 fn earlier(one: Outcome, other: Outcome) -> Outcome {
     let (one, other) = (seen_before(one, other), seen_before(other, one));
     let rank = |outcome: Outcome| match outcome {

@@ -15,13 +15,13 @@ pub const ALL: &[&Damage] = &[
     &Damage { title: "nearly another file's name", own: false, apply: name_nearly },
 ];
 
-fn nameless(disk: &mut Disk, index: usize, _: &mut Random) -> Option<Outcome> {
+pub fn nameless(disk: &mut Disk, index: usize, _: &mut Random) -> Option<Outcome> {
     let slot = disk.files[index].slot;
     disk.slot_mut(slot)[fields::NAME] = 0;
     Some(Outcome::Ends(slot))
 }
 
-fn name_of_earlier(disk: &mut Disk, index: usize, random: &mut Random) -> Option<Outcome> {
+pub fn name_of_earlier(disk: &mut Disk, index: usize, random: &mut Random) -> Option<Outcome> {
     let name = disk.files[random.below(index.max(1))].name;
     let slot = disk.files[index].slot;
     (index > 0).then(|| {
@@ -41,7 +41,7 @@ fn name_of_later(disk: &mut Disk, index: usize, random: &mut Random) -> Option<O
 }
 
 /// The case of its letters makes no difference to the file itself.
-fn name_turned(disk: &mut Disk, index: usize, random: &mut Random) -> Option<Outcome> {
+pub fn name_turned(disk: &mut Disk, index: usize, random: &mut Random) -> Option<Outcome> {
     let slot = disk.files[index].slot;
     let name = names::turned(disk.files[index].name, random);
     rename(disk, slot, &name);

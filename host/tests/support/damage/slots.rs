@@ -11,6 +11,7 @@ pub const ALL: &[&Damage] = &[
     &Damage { title: "unknown kind", own: true, apply: unknown_kind },
     &Damage { title: "kind that cannot be read", own: true, apply: kind_not_read },
     &Damage { title: "kind of the Spectrum", own: true, apply: kind_of_spectrum },
+    &Damage { title: "a file made a directory", own: true, apply: made_directory },
     &Damage { title: "hidden or protected turned", own: true, apply: marks },
     &Damage { title: "erased", own: true, apply: erased },
     &Damage { title: "count out of range", own: true, apply: count_outside },
@@ -22,7 +23,7 @@ pub const ALL: &[&Damage] = &[
     &Damage { title: "bytes that no rule reads", own: true, apply: unread },
 ];
 
-fn unknown_kind(disk: &mut Disk, index: usize, random: &mut Random) -> Option<Outcome> {
+pub fn unknown_kind(disk: &mut Disk, index: usize, random: &mut Random) -> Option<Outcome> {
     let slot = disk.files[index].slot;
     let kind = loop {
         let byte = random.byte();
@@ -36,7 +37,7 @@ fn unknown_kind(disk: &mut Disk, index: usize, random: &mut Random) -> Option<Ou
 
 /// A kind made one that is only known: its header is looked at no more.
 fn kind_not_read(disk: &mut Disk, index: usize, random: &mut Random) -> Option<Outcome> {
-    set_kind(disk, index, random.pick(&[5, 6, 12, 21, 22, 23]));
+    set_kind(disk, index, random.pick(&[5, 6, 12, 22, 23]));
     Some(Outcome::Accepted)
 }
 
@@ -52,19 +53,25 @@ fn kind_of_spectrum(disk: &mut Disk, index: usize, random: &mut Random) -> Optio
     })
 }
 
-fn set_kind(disk: &mut Disk, index: usize, kind: u8) {
+/// A directory has no sectors.
+fn made_directory(disk: &mut Disk, index: usize, _: &mut Random) -> Option<Outcome> {
+    set_kind(disk, index, fields::DIRECTORY);
+    Some(Outcome::Refused(4, disk.files[index].slot))
+}
+
+pub fn set_kind(disk: &mut Disk, index: usize, kind: u8) {
     let slot = disk.files[index].slot;
     let byte = &mut disk.slot_mut(slot)[0];
     *byte = *byte & 192 | kind;
 }
 
-fn marks(disk: &mut Disk, index: usize, random: &mut Random) -> Option<Outcome> {
+pub fn marks(disk: &mut Disk, index: usize, random: &mut Random) -> Option<Outcome> {
     let slot = disk.files[index].slot;
     disk.slot_mut(slot)[0] ^= random.pick(&[64, 128, 192]);
     Some(Outcome::Accepted)
 }
 
-fn erased(disk: &mut Disk, index: usize, _: &mut Random) -> Option<Outcome> {
+pub fn erased(disk: &mut Disk, index: usize, _: &mut Random) -> Option<Outcome> {
     let slot = disk.files[index].slot;
     disk.slot_mut(slot)[0] = 0;
     Some(Outcome::Accepted)

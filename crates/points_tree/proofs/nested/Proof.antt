@@ -1,0 +1,64 @@
+-- `points_tree::nested` is safe and ends: the image keeps its length, and the slots run out.
+use Prim.Native.Nat.{_-_}
+use mathlib.Core.Path.{_≡_}
+use lib.ListN.{length}
+use borrow.Author.Needs.{needs}
+use Rattle.points_tree.proofs.nested.Statement.{statement}
+use Rattle.points_tree.proofs.nested.Tie as tie
+
+abbrev Inv-loop : tie.InvT-loop
+Inv-loop image₀ i₀ image i = length image ≡ length image₀
+
+abbrev μ-loop : tie.MeasureT-loop
+μ-loop image₀ i₀ image i = 255 - i
+
+loop-holds : tie.Need-loop-holds Inv-loop μ-loop
+loop-holds c = search needs
+
+add-folder : tie.Need-add-folder Inv-loop μ-loop
+add-folder c = search needs
+
+cast-folder : tie.Need-cast-folder Inv-loop μ-loop
+cast-folder c = search needs
+
+cast-folder-2 : tie.Need-cast-folder-2 Inv-loop μ-loop
+cast-folder-2 c = search needs
+
+folder-requires : tie.Need-folder-requires Inv-loop μ-loop
+folder-requires c κs = search needs
+
+add-i : tie.Need-add-i Inv-loop μ-loop
+add-i c = search needs
+
+loop-less : tie.Need-loop-less Inv-loop μ-loop
+loop-less c = search needs
+
+loop-again : tie.Need-loop-again Inv-loop μ-loop
+loop-again c = search needs
+
+put-requires : tie.Need-put-requires Inv-loop μ-loop
+put-requires c κs = search needs
+
+same-length : tie.Need-same-length Inv-loop μ-loop
+same-length c = search needs
+
+returns : tie.Need-returns Inv-loop μ-loop
+returns c = search needs
+
+pub nested-spec : {M : Type 1} → statement M
+nested-spec =
+    tie.close
+    (tie.spec
+    Inv-loop
+    μ-loop
+    loop-holds
+    add-folder
+    cast-folder
+    cast-folder-2
+    folder-requires
+    add-i
+    loop-less
+    loop-again
+    put-requires
+    same-length
+    returns)

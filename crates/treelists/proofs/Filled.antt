@@ -1,0 +1,143 @@
+-- Filling: what the loop has put after i slots of a level.
+use Prim.Native.Nat.{ℕ, zero, suc, _+_, _-_, _≤_, _<_}
+use mathlib.Core.Path.{_≡_, refl, sym, ap, ap₂, _∙_}
+use mathlib.Core.Bool.{Bool, true, false, cond}
+use mathlib.Core.List.{List, [], _∷_, _++_, append-nil, append-assoc}
+use mathlib.Core.Option.{Option, none, some}
+use native.Mathlib.Nat.{add-zero, add-suc}
+use native.Mathlib.Numerals.{add-one}
+use native.Mathlib.Omega.{arith}
+use borrow.Author.Tests.{eq-eqb, ne-eqb}
+use lib.Dec.{eqb}
+use lib.ListN.{length, length-append}
+use Rattle.buffers.specs.Bytes.{put}
+use Rattle.buffers.specs.Sums.{gather}
+use Rattle.buffers.proofs.Lists.{length-put, put-none, put-append}
+use Rattle.buffers.proofs.Sums.{gather-more, gather-le, gather-rest}
+use Rattle.slots.specs.Slot.{isDirectory, codeOf, parentOf}
+use Rattle.directory.specs.Places.{slots}
+use Rattle.directory.specs.Directory.{held, Directory}
+use Rattle.trees.specs.Tree.{levelAt, level, inside, beneath}
+use Rattle.treelists.specs.Steps.{Put}
+
+-- the listing of the first i slots of a level
+abbrev pub partly : Directory → ℕ → ℕ → ℕ → List ℕ
+partly v n c i = gather i (levelAt v c (inside n v))
+
+pub record Filled (v : Directory) (n c : ℕ) (buf : List ℕ) (from i at : ℕ) (now : List ℕ) : Type 0 where
+  pub place : at ≡ from + length (partly v n c i)
+  pub numbers : now ≡ put buf from (partly v n c i)
+
+-- ---- a level, slot by slot
+
+-- a directory is entered while there is one not yet entered
+pub inside-folder : (v : Directory) (n : ℕ) (s : List ℕ) → isDirectory s ≡ true → 0 < n → inside n v s ≡ beneath (n - 1) v (codeOf s)
+unfolding inside beneath
+inside-folder v zero s e h = absurd (omega arith)
+inside-folder v (suc n) s e h = let z : suc n - 1 ≡ n = omega arith in rw (e, z)
+
+-- nothing lies beneath a file
+pub inside-file : (v : Directory) (n : ℕ) (s : List ℕ) → isDirectory s ≡ false → inside n v s ≡ []
+unfolding inside
+inside-file v zero s e = refl
+inside-file v (suc n) s e = rw e
+
+pub inside-last : (v : Directory) (n : ℕ) (s : List ℕ) → n ≤ 0 → inside n v s ≡ []
+unfolding inside
+inside-last v n s h = let z : n ≡ 0 = omega arith in rw z
+
+module _ (v : Directory) (n c : ℕ) where
+  pub level-dead : (i : ℕ) → v i ≡ none → levelAt v c (inside n v) i ≡ []
+  unfolding levelAt
+  level-dead i e = rw e
+
+  pub level-other : (i : ℕ) (s : List ℕ) → v i ≡ some s → (parentOf s ≡ c → ⊥) → levelAt v c (inside n v) i ≡ []
+  unfolding levelAt
+  level-other i s e h = rw (e, ne-eqb (parentOf s) c h)
+
+  pub level-in : (i : ℕ) (s : List ℕ) → v i ≡ some s → parentOf s ≡ c → levelAt v c (inside n v) i ≡ (i + 1) ∷ inside n v s
+  unfolding levelAt
+  level-in i s e h = rw (e, eq-eqb (parentOf s) c h, add-one i)
+
+  -- ---- the loop
+
+  module _ (buf : List ℕ) (from : ℕ) where
+    pub filled-none : Filled v n c buf from 0 from buf
+    unfolding gather
+    filled-none = record { place = omega arith; numbers = put-none buf from [] }
+
+    -- no place is past the end of the whole listing
+    pub filled-low : (i at : ℕ) (now : List ℕ) → Filled v n c buf from i at now → i ≤ slots → from + length (beneath n v c) ≤ 65535 → at ≤ 65535
+    unfolding beneath level
+    filled-low i at now f h l =
+        let z : i + (slots - i) ≡ slots = omega arith in
+        omega (arith, f .place, gather-le (slots - i) i (levelAt v c (inside n v)), ap (λ (m : ℕ). length (gather m (levelAt v c (inside n v)))) z)
+
+    module _ (i at : ℕ) (now : List ℕ) (f : Filled v n c buf from i at now) where
+      more : (x : List ℕ) → levelAt v c (inside n v) i ≡ x → partly v n c (i + 1) ≡ partly v n c i ++ x
+      more x e = gather-more i (levelAt v c (inside n v)) ∙ ap (λ (y : List ℕ). partly v n c i ++ y) e
+
+      pub filled-skip : levelAt v c (inside n v) i ≡ [] → Filled v n c buf from (i + 1) at now
+      filled-skip e =
+          let z : partly v n c (i + 1) ≡ partly v n c i = more [] e ∙ append-nil (partly v n c i) in
+          record { place = f .place ∙ ap (λ (x : List ℕ). from + length x) (sym z); numbers = f .numbers ∙ ap (put buf from) (sym z) }
+
+      -- the slot's number, and what lies beneath it
+      pub filled-in : (s : List ℕ) → v i ≡ some s → parentOf s ≡ c → (e : List ℕ) → e ≡ put now at ((i + 1) ∷ [])
+          → (r : ℕ) (g : List ℕ) → Put e (at + 1) (inside n v s) g r → Filled v n c buf from (i + 1) r g
+      filled-in s q h e w r g p =
+          let z : partly v n c (i + 1) ≡ partly v n c i ++ ((i + 1) ∷ inside n v s) = more _ (level-in i s q h) in
+          record {
+            place = omega (arith, p .place, f .place, ap length z, length-append (partly v n c i) ((i + 1) ∷ inside n v s));
+            numbers =
+                p .numbers ∙ ap (λ (x : List ℕ). put x (at + 1) (inside n v s)) w ∙ put-append now at ((i + 1) ∷ []) (inside n v s)
+                ∙ ap₂ (λ (x : List ℕ) (a : ℕ). put x a ((i + 1) ∷ inside n v s)) (f .numbers) (f .place)
+                ∙ put-append buf from (partly v n c i) ((i + 1) ∷ inside n v s) ∙ ap (put buf from) (sym z);
+          }
+
+      -- with nothing beneath it
+      pub filled-one : (s : List ℕ) → v i ≡ some s → parentOf s ≡ c → inside n v s ≡ [] → (e : List ℕ) → e ≡ put now at ((i + 1) ∷ [])
+          → Filled v n c buf from (i + 1) (at + 1) e
+      filled-one s q h o e w =
+          filled-in s q h e w (at + 1) e
+          (record { place = omega (arith, ap length o); numbers = put-none e (at + 1) [] ∙ ap (put e (at + 1)) (sym o) })
+
+      -- room for the slot and for what lies beneath it
+      pub filled-room : (s : List ℕ) → v i ≡ some s → parentOf s ≡ c → i < slots → from + length (beneath n v c) ≤ 65535 → at + 1 + length (inside n v s) ≤ 65535
+      unfolding beneath level
+      filled-room s q h k l =
+          let z : (i + 1) + (slots - (i + 1)) ≡ slots = omega arith in
+          omega (
+            arith,
+            f .place,
+            ap length (more _ (level-in i s q h)),
+            length-append (partly v n c i) ((i + 1) ∷ inside n v s),
+            gather-le (slots - (i + 1)) (i + 1) (levelAt v c (inside n v)),
+            ap (λ (m : ℕ). length (gather m (levelAt v c (inside n v)))) z,
+          )
+
+      -- a directory, and what a call of itself put, which enters one directory less
+      pub folder-room : (s : List ℕ) → v i ≡ some s → parentOf s ≡ c → isDirectory s ≡ true → 0 < n → i < slots → from + length (beneath n v c) ≤ 65535
+          → (d : ℕ) → d ≡ codeOf s → at + 1 + length (beneath (n - 1) v d) ≤ 65535
+      folder-room s q h b o k l d w =
+          omega (arith, filled-room s q h k l, ap length (inside-folder v n s b o), ap (λ (m : ℕ). length (beneath (n - 1) v m)) w)
+
+      pub filled-folder : (s : List ℕ) → v i ≡ some s → parentOf s ≡ c → isDirectory s ≡ true → 0 < n → (e : List ℕ) → e ≡ put now at ((i + 1) ∷ [])
+          → (d : ℕ) → d ≡ codeOf s → (r : ℕ) (g : List ℕ) → Put e (at + 1) (beneath (n - 1) v d) g r → Filled v n c buf from (i + 1) r g
+      filled-folder s q h b o e w d z r g p =
+          let y : beneath (n - 1) v d ≡ inside n v s = ap (beneath (n - 1) v) z ∙ sym (inside-folder v n s b o) in
+          filled-in s q h e w r g
+          (record { place = p .place ∙ ap (λ (x : List ℕ). at + 1 + length x) y; numbers = p .numbers ∙ ap (put e (at + 1)) y })
+
+    -- past the slots that are read there is nothing to put
+    pub filled-all : (i at : ℕ) (now : List ℕ) → Filled v n c buf from i at now → i ≤ slots → ((k : ℕ) → i ≤ k → v k ≡ none)
+        → Put buf from (beneath n v c) now at
+    unfolding beneath level
+    filled-all i at now f h e =
+        let z : i + (slots - i) ≡ slots = omega arith in
+        let w : partly v n c i ≡ partly v n c slots =
+        sym (gather-rest (slots - i) i (levelAt v c (inside n v)) (λ k l. level-dead k (e k l))) ∙ ap (partly v n c) z in
+        record { place = f .place ∙ ap (λ (l : List ℕ). from + length l) w; numbers = f .numbers ∙ ap (put buf from) w }
+
+    pub filled-long : (i at : ℕ) (now : List ℕ) → Filled v n c buf from i at now → length now ≡ length buf
+    filled-long i at now f = ap length (f .numbers) ∙ length-put buf from (partly v n c i)
