@@ -1,0 +1,33 @@
+// The slots of each directory, linked: to go from slot to slot of one directory without a look at the others.
+ghost use mathlib.Core.Path.{_≡_};
+ghost use lib.ListN.{replicate};
+ghost use Rattle.directory.specs.Places.{slots};
+ghost use Rattle.directory.specs.Directory.{directory};
+ghost use Rattle.levels.specs.Links.{linksOf};
+
+// A table with no link; 778 is the number of no slot, counted from 0.
+fn no_links() -> [u16; 1034]
+    ensures { λ r. ⌜ r ≡ replicate 1034 slots ⌝ }
+{
+    [778u16; 1034]
+}
+
+// 256 numbers by code, the first slot in the directory with that code; then one for each slot, the next slot in the directory
+// that it is in. Slots are counted from 0, and 778 says that there is none. From the last slot to the first, each is put in front
+// of those that its directory has.
+pub fn link_slots(dir: &[u8]) -> [u16; 1034]
+    ensures { λ r. ⌜ r ≡ linksOf (directory (now (dir .entry))) ⌝ }
+{
+    let mut links = no_links();
+    let mut i = directory::slots_read(dir);
+    while 0 < i {
+        i -= 1;
+        let s = directory::slot_at(dir, i);
+        if slots::is_live(s) {
+            let code = slots::parent_of(s);
+            links[256 + i] = links[code];
+            links[code] = i as u16;
+        }
+    }
+    links
+}
