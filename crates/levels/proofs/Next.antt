@@ -17,7 +17,7 @@ use Rattle.directory.specs.Directory.{held, Directory}
 use Rattle.levels.specs.Links.{inAt, nextIn, nextOf, linkAt, linksOf}
 
 -- slot n is in the directory with code c
-pub record In (v : Directory) (c n : ℕ) : Type 0 where
+pub record Inside (v : Directory) (c n : ℕ) : Type 0 where
   pub bytes : List ℕ
   pub here : v n ≡ some bytes
   pub inside : parentOf bytes ≡ c
@@ -26,7 +26,7 @@ pub record In (v : Directory) (c n : ℕ) : Type 0 where
 pub record From (v : Directory) (c i n : ℕ) : Type 0 where
   pub low : i ≤ n
   pub most : n ≤ slots
-  pub found : n < slots → In v c n
+  pub found : n < slots → Inside v c n
   pub skipped : (k : ℕ) (s : List ℕ) → i ≤ k → k < n → v k ≡ some s → parentOf s ≡ c → ⊥
 
 module _ (v : Directory) (c : ℕ) where

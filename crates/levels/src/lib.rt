@@ -1,9 +1,22 @@
 // The slots of each directory, linked: to go from slot to slot of one directory without a look at the others.
 ghost use mathlib.Core.Path.{_≡_};
-ghost use lib.ListN.{replicate};
+ghost use lib.ListN.{getD, replicate};
 ghost use Rattle.directory.specs.Places.{slots};
 ghost use Rattle.directory.specs.Directory.{directory};
 ghost use Rattle.levels.specs.Links.{linksOf};
+
+// An entry of the table; 0 past its end.
+fn entry_at(links: &[u16], k: usize) -> u16
+    ensures { λ r. ⌜ r ≡ getD (now (links .entry)) k 0 ⌝ }
+{
+    if k < links.len() { links[k] } else { 0 }
+}
+
+pub fn link_at(links: &[u16], k: usize) -> usize
+    ensures { λ r. ⌜ r ≡ getD (now (links .entry)) k 0 ⌝ }
+{
+    entry_at(links, k) as usize
+}
 
 // A table with no link; 778 is the number of no slot, counted from 0.
 fn no_links() -> [u16; 1034]

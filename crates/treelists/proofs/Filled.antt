@@ -20,7 +20,7 @@ use Rattle.directory.specs.Directory.{held, Directory, directory, slotOr}
 use Rattle.directory.proofs.Ends.{slot-read}
 use Rattle.directory.proofs.Live.{directory-some}
 use Rattle.levels.specs.Links.{linksOf}
-use Rattle.levels.proofs.Next.{In, From, first-link, next-link}
+use Rattle.levels.proofs.Next.{Inside, From, first-link, next-link}
 use Rattle.trees.specs.Tree.{levelAt, level, inside, beneath}
 use Rattle.treelists.specs.Steps.{Put}
 
@@ -36,10 +36,10 @@ pub record Filled (v : Directory) (n c : ℕ) (buf : List ℕ) (from i at : ℕ)
 pub record Walked (v : Directory) (n c : ℕ) (buf : List ℕ) (from i at : ℕ) (now : List ℕ) : Type 0 where
   pub filled : Filled v n c buf from i at now
   pub most : i ≤ slots
-  pub found : i < slots → In v c i
+  pub found : i < slots → Inside v c i
 
 -- the slot that the loop looks at, by its bytes
-module _ (d : List ℕ) (c i : ℕ) (o : In (directory d) c i) (s : List ℕ) (e : s ≡ slotOr d i) where
+module _ (d : List ℕ) (c i : ℕ) (o : Inside (directory d) c i) (s : List ℕ) (e : s ≡ slotOr d i) where
   same-slot : o .bytes ≡ s
   same-slot = let w = directory-some d i (o .bytes) (o .here) in w .1 ∙ sym (slot-read d i (w .0)) ∙ sym e
 
@@ -176,6 +176,9 @@ module _ (v : Directory) (n c : ℕ) where
         → (s : List ℕ) → v i ≡ some s → parentOf s ≡ c → (j : ℕ) → j ≡ getD links (256 + i) 0 → Walked v n c buf from j at now
     walked-next i at now f links e h s w p j q =
         filled-from (i + 1) at now f j (subst (λ (x : ℕ). From v x (i + 1) j) p (next-link v links e i s h w j q))
+
+    pub walked-less : (i : ℕ) (links : List ℕ) → links ≡ linksOf v → i < slots → (s : List ℕ) → v i ≡ some s → (j : ℕ) → j ≡ getD links (256 + i) 0 → slots - j < slots - i
+    walked-less i links e h s w j q = let g = next-link v links e i s h w j q in omega (arith, g .low, g .most)
 
     pub walked-all : (i at : ℕ) (now : List ℕ) → Walked v n c buf from i at now → slots ≤ i → Put buf from (beneath n v c) now at
     unfolding beneath level

@@ -4,7 +4,7 @@ ghost use Prim.Native.Nat.{_+_, _≤_, _<_};
 ghost use mathlib.Core.List.{_∷_, []};
 ghost use mathlib.Core.Option.{none};
 ghost use lib.Dec.{leb};
-ghost use lib.ListN.{length, getD};
+ghost use lib.ListN.{length};
 ghost use Rattle.buffers.specs.Bytes.{put};
 ghost use Rattle.refusals.specs.Answers.{replyOf, outcomeOf, out};
 ghost use Rattle.directory.specs.Directory.{directory};
@@ -60,17 +60,6 @@ fn put_number(list: &mut [u16], at: usize, n: usize)
     }
 }
 
-// A link; 0 past the end of the table, which is not asked for.
-fn link_at(links: &[u16], k: usize) -> usize
-    ensures { λ r. ⌜ r ≡ getD (now (links .entry)) k 0 ⌝ }
-{
-    if k < links.len() {
-        links[k] as usize
-    } else {
-        0
-    }
-}
-
 // Puts what lies beneath the directory with a code at a place of a list, as far as the list goes, and gives the place after
 // all of it; `left` directories are not yet entered. It goes from slot to slot by the links, so that it looks at those alone that
 // it puts, and it calls itself for each directory that it enters, so it keeps no more than it must.
@@ -79,12 +68,12 @@ fn fill(dir: &[u8], links: &[u16], left: usize, code: usize, list: &mut [u16], f
     ensures { λ r. ⌜ Put (now (list .entry)) from (beneath left (directory (now (dir .entry))) code) (now (list .exit)) r ⌝ }
 {
     let mut at = from;
-    let mut i = link_at(links, code);
+    let mut i = levels::link_at(links, code);
     while i < directory::SLOTS {
         let s = directory::slot_at(dir, i);
         put_number(list, at, i + 1);
         at += 1;
-        i = link_at(links, 256 + i);
+        i = levels::link_at(links, 256 + i);
         if slots::is_directory(s) {
             if 0 < left {
                 at = fill(dir, links, left - 1, slots::code_of(s), list, at);
