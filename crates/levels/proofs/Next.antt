@@ -14,7 +14,7 @@ use Rattle.refusals.specs.Order.{sweepFrom, _else_}
 use Rattle.slots.specs.Slot.{parentOf}
 use Rattle.directory.specs.Places.{slots}
 use Rattle.directory.specs.Directory.{held, Directory}
-use Rattle.levels.specs.Links.{inAt, nextIn, nextOf, linkAt, linksOf}
+use Rattle.levels.specs.Links.{inAt, nextIn, nextOf, linkAt, linksOf, entryOf}
 
 -- slot n is in the directory with code c
 pub record Inside (v : Directory) (c n : ℕ) : Type 0 where
@@ -76,17 +76,26 @@ pub links-long : (v : Directory) → length (linksOf v) ≡ 1034
 unfolding linksOf
 links-long v = length-tab 1034 (linkAt v)
 
-module _ (v : Directory) (links : List ℕ) (e : links ≡ linksOf v) where
-  at-link : (k : ℕ) → k < 1034 → getD links k 0 ≡ linkAt v k
-  unfolding linksOf
-  at-link k h = ap (λ (l : List ℕ). getD l k 0) e ∙ getD-tab 1034 (linkAt v) k h
+module _ (links : List ℕ) (k : ℕ) where
+  pub entry-in : k < 1034 → entryOf links k ≡ getD links k 0
+  unfolding entryOf
+  entry-in h = rw (lt-ltb k 1034 h)
 
-  pub first-link : (c : ℕ) → c < 256 → (n : ℕ) → n ≡ getD links c 0 → From v c 0 n
+  pub entry-past : 1034 ≤ k → entryOf links k ≡ 0
+  unfolding entryOf
+  entry-past h = rw (le-ltb k 1034 h)
+
+module _ (v : Directory) (links : List ℕ) (e : links ≡ linksOf v) where
+  at-link : (k : ℕ) → k < 1034 → entryOf links k ≡ linkAt v k
+  unfolding linksOf
+  at-link k h = entry-in links k h ∙ ap (λ (l : List ℕ). getD l k 0) e ∙ getD-tab 1034 (linkAt v) k h
+
+  pub first-link : (c : ℕ) → c < 256 → (n : ℕ) → n ≡ entryOf links c → From v c 0 n
   first-link c h n q =
       let z : linkAt v c ≡ nextIn v c 0 = rw (lt-ltb c 256 h) in
       subst (From v c 0) (sym (q ∙ at-link c (omega arith) ∙ z)) (next-from v c 0 (omega arith))
 
-  pub next-link : (i : ℕ) (s : List ℕ) → i < slots → v i ≡ some s → (n : ℕ) → n ≡ getD links (256 + i) 0 → From v (parentOf s) (i + 1) n
+  pub next-link : (i : ℕ) (s : List ℕ) → i < slots → v i ≡ some s → (n : ℕ) → n ≡ entryOf links (256 + i) → From v (parentOf s) (i + 1) n
   unfolding nextOf
   next-link i s h w n q =
       let y : (256 + i) - 256 ≡ i = omega arith in

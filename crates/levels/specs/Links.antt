@@ -5,6 +5,7 @@ use mathlib.Core.Bool.{cond}
 use mathlib.Core.List.{List}
 use mathlib.Core.Option.{Option, none, some}
 use lib.Dec.{eqb, ltb}
+use lib.ListN.{getD}
 use Rattle.buffers.specs.Bytes.{tab}
 use Rattle.refusals.specs.Order.{sweepFrom}
 use Rattle.slots.specs.Slot.{parentOf}
@@ -29,3 +30,7 @@ linkAt v k = cond (ltb k 256) (nextIn v k 0) (nextOf v (k - 256))
 
 unfoldable pub linksOf : Directory → List ℕ
 linksOf v = tab 1034 (linkAt v)
+
+-- an entry of a table, and 0 past its end
+unfoldable pub entryOf : List ℕ → ℕ → ℕ
+entryOf links k = cond (ltb k 1034) (getD links k 0) 0

@@ -1,28 +1,19 @@
 // The slots of each directory, linked: to go from slot to slot of one directory without a look at the others.
 ghost use mathlib.Core.Path.{_≡_};
-ghost use lib.ListN.{getD, replicate};
-ghost use Rattle.directory.specs.Places.{slots};
 ghost use Rattle.directory.specs.Directory.{directory};
-ghost use Rattle.levels.specs.Links.{linksOf};
+ghost use Rattle.levels.specs.Links.{linksOf, entryOf};
 
 // An entry of the table; 0 past its end.
-fn entry_at(links: &[u16], k: usize) -> u16
-    ensures { λ r. ⌜ r ≡ getD (now (links .entry)) k 0 ⌝ }
+fn entry_at(links: &[u16; 1034], k: usize) -> u16
+    ensures { λ r. ⌜ r ≡ entryOf (now (links .entry)) k ⌝ }
 {
-    if k < links.len() { links[k] } else { 0 }
+    if k < 1034 { links[k] } else { 0 }
 }
 
-pub fn link_at(links: &[u16], k: usize) -> usize
-    ensures { λ r. ⌜ r ≡ getD (now (links .entry)) k 0 ⌝ }
+pub fn link_at(links: &[u16; 1034], k: usize) -> usize
+    ensures { λ r. ⌜ r ≡ entryOf (now (links .entry)) k ⌝ }
 {
     entry_at(links, k) as usize
-}
-
-// A table with no link; 778 is the number of no slot, counted from 0.
-fn no_links() -> [u16; 1034]
-    ensures { λ r. ⌜ r ≡ replicate 1034 slots ⌝ }
-{
-    [778u16; 1034]
 }
 
 // 256 numbers by code, the first slot in the directory with that code; then one for each slot, the next slot in the directory
@@ -31,7 +22,7 @@ fn no_links() -> [u16; 1034]
 pub fn link_slots(dir: &[u8]) -> [u16; 1034]
     ensures { λ r. ⌜ r ≡ linksOf (directory (now (dir .entry))) ⌝ }
 {
-    let mut links = no_links();
+    let mut links = [778u16; 1034];
     let mut i = directory::slots_read(dir);
     while 0 < i {
         i -= 1;

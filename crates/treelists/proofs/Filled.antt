@@ -9,7 +9,7 @@ use native.Mathlib.Numerals.{add-one}
 use native.Mathlib.Omega.{arith}
 use borrow.Author.Tests.{eq-eqb, ne-eqb}
 use lib.Dec.{eqb}
-use lib.ListN.{length, length-append, getD}
+use lib.ListN.{length, length-append}
 use Rattle.buffers.specs.Bytes.{put}
 use Rattle.buffers.specs.Sums.{gather}
 use Rattle.buffers.proofs.Lists.{length-put, put-none, put-append}
@@ -19,7 +19,7 @@ use Rattle.directory.specs.Places.{slots}
 use Rattle.directory.specs.Directory.{held, Directory, directory, slotOr}
 use Rattle.directory.proofs.Ends.{slot-read}
 use Rattle.directory.proofs.Live.{directory-some}
-use Rattle.levels.specs.Links.{linksOf}
+use Rattle.levels.specs.Links.{linksOf, entryOf}
 use Rattle.levels.proofs.Next.{Inside, From, first-link, next-link}
 use Rattle.trees.specs.Tree.{levelAt, level, inside, beneath}
 use Rattle.treelists.specs.Steps.{Put}
@@ -168,16 +168,16 @@ module _ (v : Directory) (n c : ℕ) where
           found = g .found;
         }
 
-    pub walked-first : (links : List ℕ) → links ≡ linksOf v → c < 256 → (j : ℕ) → j ≡ getD links c 0 → Walked v n c buf from j from buf
+    pub walked-first : (links : List ℕ) → links ≡ linksOf v → c < 256 → (j : ℕ) → j ≡ entryOf links c → Walked v n c buf from j from buf
     walked-first links e h j q = filled-from 0 from buf filled-none j (first-link v links e c h j q)
 
     -- the slot i is put, and j is the next
     pub walked-next : (i at : ℕ) (now : List ℕ) → Filled v n c buf from (i + 1) at now → (links : List ℕ) → links ≡ linksOf v → i < slots
-        → (s : List ℕ) → v i ≡ some s → parentOf s ≡ c → (j : ℕ) → j ≡ getD links (256 + i) 0 → Walked v n c buf from j at now
+        → (s : List ℕ) → v i ≡ some s → parentOf s ≡ c → (j : ℕ) → j ≡ entryOf links (256 + i) → Walked v n c buf from j at now
     walked-next i at now f links e h s w p j q =
         filled-from (i + 1) at now f j (subst (λ (x : ℕ). From v x (i + 1) j) p (next-link v links e i s h w j q))
 
-    pub walked-less : (i : ℕ) (links : List ℕ) → links ≡ linksOf v → i < slots → (s : List ℕ) → v i ≡ some s → (j : ℕ) → j ≡ getD links (256 + i) 0 → slots - j < slots - i
+    pub walked-less : (i : ℕ) (links : List ℕ) → links ≡ linksOf v → i < slots → (s : List ℕ) → v i ≡ some s → (j : ℕ) → j ≡ entryOf links (256 + i) → slots - j < slots - i
     walked-less i links e h s w j q = let g = next-link v links e i s h w j q in omega (arith, g .low, g .most)
 
     pub walked-all : (i at : ℕ) (now : List ℕ) → Walked v n c buf from i at now → slots ≤ i → Put buf from (beneath n v c) now at

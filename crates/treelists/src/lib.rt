@@ -63,7 +63,14 @@ fn put_number(list: &mut [u16], at: usize, n: usize)
 // Puts what lies beneath the directory with a code at a place of a list, as far as the list goes, and gives the place after
 // all of it; `left` directories are not yet entered. It goes from slot to slot by the links, so that it looks at those alone that
 // it puts, and it calls itself for each directory that it enters, so it keeps no more than it must.
-fn fill(dir: &[u8], links: &[u16], left: usize, code: usize, list: &mut [u16], from: usize) -> usize
+fn fill(
+    dir: &[u8],
+    links: &[u16; 1034],
+    left: usize,
+    code: usize,
+    list: &mut [u16],
+    from: usize,
+) -> usize
     requires { ⌜ Room (now dir) (now links) left code from ⌝ }
     ensures { λ r. ⌜ Put (now (list .entry)) from (beneath left (directory (now (dir .entry))) code) (now (list .exit)) r ⌝ }
 {
@@ -85,7 +92,7 @@ fn fill(dir: &[u8], links: &[u16], left: usize, code: usize, list: &mut [u16], f
 
 // Whether a list of `room` numbers holds all that lies beneath the directory with a code. There are never more than slots, so
 // a list that holds as many need not be counted for.
-fn has_room(dir: &[u8], links: &[u16], number: usize, code: usize, room: usize) -> bool
+fn has_room(dir: &[u8], links: &[u16; 1034], number: usize, code: usize, room: usize) -> bool
     requires { ⌜ Clean (now dir) (now links) number code ⌝ }
     ensures { λ r. ⌜ r ≡ leb (length (tree (directory (now (dir .entry))) code)) room ⌝ }
 {
@@ -97,7 +104,13 @@ fn has_room(dir: &[u8], links: &[u16], number: usize, code: usize, room: usize) 
 }
 
 // The listing of a directory by its code.
-fn list_code(dir: &[u8], links: &[u16], number: usize, code: usize, list: &mut [u16]) -> Answer
+fn list_code(
+    dir: &[u8],
+    links: &[u16; 1034],
+    number: usize,
+    code: usize,
+    list: &mut [u16],
+) -> Answer
     requires { ⌜ Clean (now dir) (now links) number code ⌝ }
     ensures { λ r. ⌜ out (outcomeOf r) (now (list .exit)) ≡ fillWith (tree (directory (now (dir .entry))) code) none (now (list .entry)) ⌝ }
 {

@@ -1,6 +1,6 @@
 -- `levels::link_slots` meets its contract: the slots from slot `i` on are linked.
 use Prim.Native.Nat.{ℕ, _-_, _≤_, _<_}
-use mathlib.Core.Path.{_≡_, ap, _∙_}
+use mathlib.Core.Path.{_≡_, refl, ap, _∙_}
 use native.Mathlib.Omega.{arith}
 use denote.Ref.{now}
 use Rattle.directory.specs.Places.{slots}
@@ -19,20 +19,17 @@ abbrev μ-loop : tie.MeasureT-loop
 μ-loop dir links₀ i₀ links i = i
 
 -- the slot that the loop looks at is read
-read : (c : tie.In-loop Inv-loop μ-loop) → c .before .loop .i - 1 < slotsRead (now (c .before .before .before .before .before .args .dir))
+read : (c : tie.In-loop Inv-loop μ-loop) → c .before .loop .i - 1 < slotsRead (now (c .before .before .before .before .args .dir))
 read c = omega (arith, c .before .loop .inv .0, c .loop-test .taken)
 
 low : (c : tie.In-loop Inv-loop μ-loop) → c .before .loop .i - 1 < slots
-low c = omega (arith, read c, read-most (now (c .before .before .before .before .before .args .dir)))
-
-no-links-requires : tie.Need-no-links-requires Inv-loop μ-loop
-no-links-requires c κs = search needs
+low c = omega (arith, read c, read-most (now (c .before .before .before .before .args .dir)))
 
 slots-read-requires : tie.Need-slots-read-requires Inv-loop μ-loop
 slots-read-requires c κs = search needs
 
 loop-holds : tie.Need-loop-holds Inv-loop μ-loop
-loop-holds c = let s = c .slots-read .ensures in (omega (arith, s .0), linking-none _ _ _ (c .before .no-links .ensures) (λ k h. directory-unread _ k (omega (arith, s .0))))
+loop-holds c = let s = c .slots-read .ensures in (omega (arith, s .0), linking-none _ _ _ refl (λ k h. directory-unread _ k (omega (arith, s .0))))
 
 sub-i : tie.Need-sub-i Inv-loop μ-loop
 sub-i c = search needs
@@ -102,7 +99,6 @@ link-slots-spec =
     (tie.spec
     Inv-loop
     μ-loop
-    no-links-requires
     slots-read-requires
     loop-holds
     sub-i

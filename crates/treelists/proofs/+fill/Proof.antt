@@ -41,14 +41,14 @@ abbrev fill-μ-loop : fill-lts.MeasureT-loop
 fill-μ-loop dir links left code list₀ from at₀ i₀ list at i = slots - i
 
 -- the slot that the loop looks at is in the directory
-looked : (t : ℕ) (s : fill-lts.After-slot-at (claims t) (fill-at t) fill.Post fill-Inv-loop fill-μ-loop) → Inside (directory (now (s .before .before .before .before .before .before .before .args .dir))) (s .before .before .before .before .before .before .before .args .code) (s .before .before .loop .i)
+looked : (t : ℕ) (s : fill-lts.After-slot-at (claims t) (fill-at t) fill.Post fill-Inv-loop fill-μ-loop) → Inside (directory (now (s .before .before .before .before .before .before .args .dir))) (s .before .before .before .before .before .before .args .code) (s .before .before .loop .i)
 looked t s = s .before .before .loop .inv .found (s .before .loop-test .taken)
 
 -- the next slot is a later one
 later : (t : ℕ) (k : fill-lts.After-link-at2 (claims t) (fill-at t) fill.Post fill-Inv-loop fill-μ-loop) → slots - k .link-at2 .result < slots - k .before .before .before .before .before .before .before .loop .i
 later t k =
     let s = k .before .before .before .before .before in
-    let b = s .before .before .before .before .before .before .before in
+    let b = s .before .before .before .before .before .before in
     walked-less _ (b .args .left) (b .args .code) (now (b .args .list)) (b .args .from) (s .before .before .loop .i) _ (b .pre .1 .linked) (s .before .loop-test .taken) _ (met-here _ _ _ (looked t s) _ (s .slot-at .ensures)) _ (k .link-at2 .ensures)
 
 fill-link-at-requires : (t : ℕ) → fill-lts.Need-link-at-requires (claims t) (fill-at t) fill.Post fill-Inv-loop fill-μ-loop
@@ -56,7 +56,7 @@ fill-link-at-requires t c κs = search needs
 
 fill-loop-holds : (t : ℕ) → fill-lts.Need-loop-holds (claims t) (fill-at t) fill.Post fill-Inv-loop fill-μ-loop
 fill-loop-holds t c =
-    let b = c .before .before .before .before in
+    let b = c .before .before .before in
     walked-first _ _ _ _ _ _ (b .pre .1 .linked) (b .pre .1 .coded) _ (c .link-at .ensures)
 
 fill-slot-at-requires : (t : ℕ) → fill-lts.Need-slot-at-requires (claims t) (fill-at t) fill.Post fill-Inv-loop fill-μ-loop
@@ -74,7 +74,7 @@ fill-add-at : (t : ℕ) → fill-lts.Need-add-at (claims t) (fill-at t) fill.Pos
 fill-add-at t c =
     let l = c .before .before .before .before .before in
     let a = l .before .loop in
-    omega (arith, filled-low _ _ _ _ _ (a .i) _ _ (a .inv .filled) (a .inv .most) (l .before .before .before .before .before .before .pre .1 .room))
+    omega (arith, filled-low _ _ _ _ _ (a .i) _ _ (a .inv .filled) (a .inv .most) (l .before .before .before .before .before .pre .1 .room))
 
 fill-add-link-at : (t : ℕ) → fill-lts.Need-add-link-at (claims t) (fill-at t) fill.Post fill-Inv-loop fill-μ-loop
 fill-add-link-at t c =
@@ -98,7 +98,7 @@ fill-fill-requires t c κs =
     let k = z .before .before .before in
     let s = k .before .before .before .before .before in
     let a = s .before .before .loop in
-    let b = s .before .before .before .before .before .before .before in
+    let b = s .before .before .before .before .before .before in
     let o = looked t s in
     let e = met-here _ _ _ o _ (s .slot-at .ensures) in
     let p = met-inside _ _ _ o _ (s .slot-at .ensures) in (
@@ -123,7 +123,7 @@ fill-loop-again t c =
     let k = z .before .before .before in
     let s = k .before .before .before .before .before in
     let a = s .before .before .loop in
-    let b = s .before .before .before .before .before .before .before in
+    let b = s .before .before .before .before .before .before in
     let o = looked t s in
     let e = met-here _ _ _ o _ (s .slot-at .ensures) in
     let p = met-inside _ _ _ o _ (s .slot-at .ensures) in
@@ -140,7 +140,7 @@ fill-loop-again-2 t c =
     let k = c .before .before .before in
     let s = k .before .before .before .before .before in
     let a = s .before .before .loop in
-    let b = s .before .before .before .before .before .before .before in
+    let b = s .before .before .before .before .before .before in
     let o = looked t s in
     let e = met-here _ _ _ o _ (s .slot-at .ensures) in
     let p = met-inside _ _ _ o _ (s .slot-at .ensures) in
@@ -156,7 +156,7 @@ fill-loop-again-3 t c =
     let k = c .before .before in
     let s = k .before .before .before .before .before in
     let a = s .before .before .loop in
-    let b = s .before .before .before .before .before .before .before in
+    let b = s .before .before .before .before .before .before in
     let o = looked t s in
     let e = met-here _ _ _ o _ (s .slot-at .ensures) in
     let p = met-inside _ _ _ o _ (s .slot-at .ensures) in

@@ -49,9 +49,6 @@ enum-told-3 c = search needs
 link-slots-requires : tie.Need-link-slots-requires
 link-slots-requires c κs = search needs
 
-slice-aggregate-list-code : tie.Need-slice-aggregate-list-code
-slice-aggregate-list-code c = search needs
-
 asked-code-requires : tie.Need-asked-code-requires
 asked-code-requires c κs = search needs
 
@@ -103,7 +100,6 @@ list-tree-spec =
     enum-known-r-2
     enum-told-3
     link-slots-requires
-    slice-aggregate-list-code
     asked-code-requires
     list-code-requires
     returns
