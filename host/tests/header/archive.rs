@@ -84,7 +84,7 @@ fn the_calls_need_little_stack() {
         assert!(said.is_none_or(|most| bytes <= most), "{line}: the header says {said:?}");
         let most = match call {
             "save" => 8192,
-            "tree" => 36 * 1024,
+            "tree" => 30 * 1024,
             _ => 2048,
         };
         assert!(bytes > 0 && bytes < most, "{line}");
