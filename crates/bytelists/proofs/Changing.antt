@@ -32,7 +32,7 @@ use Rattle.plans.specs.Saving.{passing, freeBit, taken, lowestSlot, slotTaken}
 use Rattle.plans.specs.Plan.{touch, oldName, saveSteps, Plan, no, go, orNo, byName, takenAt, nameTaken, takenBy, renameTaken, isProtected, isOccupied, saveReply, planOf, plan, Result, stopped, made, settle, checked, run, Changed, changed, changedBy, change}
 use Rattle.plans.proofs.Respelt.{taken-found}
 use Rattle.plans.proofs.Ended.{dirs-some}
-use Rattle.plans.proofs.Refused.{save-long}
+use Rattle.plans.proofs.Saved.{save-long}
 use Rattle.plans.proofs.Sure.{save-tested}
 use Rattle.plans.proofs.Demand3.{run-room}
 use Rattle.saves.proofs.Planned.{free-le}

@@ -113,7 +113,7 @@ module _ (d : List ℕ) (count : ℕ) where
       by false q = refl
 
   -- the run that is found is the lowest that is free
-  found-run : (b : ℕ) → lowestRun (extra (look d)) (slotsOf (look d)) count ≡ some b → LowestRun d count b
+  pub found-run : (b : ℕ) → lowestRun (extra (look d)) (slotsOf (look d)) count ≡ some b → LowestRun d count b
   unfolding lowestRun
   found-run b e =
       let w = sweep-first 1560 startAt b e in
