@@ -22,12 +22,12 @@ use Rattle.files.specs.Calls.{fileNamed}
 use Rattle.files.specs.Asked.{someNamed, slotNamed, row12, row15, row20, by-check, by-row}
 use Rattle.plans.specs.Change.{gather}
 use Rattle.plans.specs.Gathering.{scattered, upFrom, lowestRun}
-use Rattle.plans.specs.Plan.{oldName, stopped, run}
+use Rattle.plans.specs.Plan.{oldName, stopped, made, run}
 use Rattle.plans.specs.Refused.{gatherRow13, row32, gatherLong, changeRows, Refuses, Accepts}
 use Rattle.plans.specs.Accepted.{Named}
 use Rattle.plans.specs.Gathered.{InOrder, FreeRun, NoRun, Moves, Gatherable}
 use Rattle.plans.proofs.Frame.{disk-sound}
-use Rattle.plans.proofs.Runs.{no-run, in-order, not-order}
+use Rattle.plans.proofs.Runs.{no-run, run-few, in-order, not-order}
 use Rattle.plans.proofs.Sure.{not-directory}
 use Rattle.plans.proofs.Moved.{gather-numbers, gather-long}
 use Rattle.plans.proofs.Effect.{Shifted, gathers}
@@ -209,3 +209,13 @@ gather-exactly d n room = (
       },
   λ g. gathers-so d n room (g .disk) (g .name) (g .slot) (g .file) (g .found) (g .kind) (g .place),
 )
+
+-- ---- how many sectors it names at most
+
+pub gather-few : (d n : List ℕ) (room : ℕ) (new ss : List ℕ) → run (gather n) d room ≡ made new ss → length ss ≤ 781
+gather-few d n room new ss e =
+    let ok = run-room (gather n) d room new ss e .accepted in
+    let t = gathers d ok room new ss n e in
+    ⊎-elim (λ a. subst (λ (x : List ℕ). length x ≤ 781) (sym (a .2)) (omega arith))
+    (λ a. omega (arith, shifted-long d (t .slot) (t .file) new ss a, run-few d (disk-sound d ok) (t .slot) (t .file) (t .found .here) (a .bit) (a .lowest .here)))
+    (t .done)
