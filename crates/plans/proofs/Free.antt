@@ -27,7 +27,7 @@ use Rattle.surveys.proofs.Union.{has-union}
 use Rattle.disk.specs.Look.{Look, look, slotsOf, extra}
 use Rattle.disk.specs.Sound.{Sound}
 use Rattle.disk.proofs.Look.{look-extra}
-use Rattle.steps.specs.Sectors.{listed}
+use Rattle.steps.specs.Sectors.{listed, Once}
 use Rattle.steps.proofs.Sectors.{listed-tail}
 use Rattle.plans.specs.Change.{Wish}
 use Rattle.plans.specs.Saving.{passing, freeBit, taken, lowestSlot}
@@ -75,6 +75,10 @@ module _ (p : ℕ → Bool) where
       by : (t : Bool) → listed c bs ≡ t → t ≡ false
       by true e = absurd (omega (arith, run-listed (suc b) bs r c e .low))
       by false e = refl
+
+  pub run-once : (l : ℕ) (bs : List ℕ) → Run p l bs → Once bs
+  run-once l [] r = tt
+  run-once l (b ∷ bs) r = (run-fresh b b bs (omega arith) (r .1), run-once (suc b) bs (r .1))
 
   -- by place
   pub run-at : (l : ℕ) (bs : List ℕ) → Run p l bs → (k : ℕ) → k < length bs → From p l (getD bs k 0)

@@ -12,18 +12,23 @@ use lib.Dec.{eqb}
 use lib.ListN.{length, getD}
 use Rattle.buffers.specs.Bytes.{any}
 use Rattle.buffers.proofs.Counts.{any-none, none-any}
+use Rattle.maps.specs.Bits.{join}
+use Rattle.maps.proofs.Laws.{bits-le, bits-join, none-share}
 use Rattle.refusals.proofs.First.{sweep-none, none-sweep, sweep-first, first-sweep}
-use Rattle.slots.specs.Slot.{countOf, firstOf}
+use Rattle.slots.specs.Slot.{countOf, firstOf, mapOf}
 use Rattle.slots.proofs.Tracks.{data-is}
 use Rattle.chains.specs.File.{File}
 use Rattle.chains.specs.Chain.{linked}
 use Rattle.disk.specs.Look.{look, slotsOf, extra}
+use Rattle.disk.specs.Sound.{Sound}
 use Rattle.disk.proofs.Look.{look-extra}
 use Rattle.steps.specs.Sectors.{listed}
-use Rattle.plans.specs.Saving.{freeBit}
+use Rattle.plans.specs.Saving.{freeBit, mapWith}
 use Rattle.plans.specs.Gathering.{scattered, upFrom, runAt, lowestRun}
 use Rattle.plans.specs.Gathered.{InOrder, FreeRun, NoRun, LowestRun}
-use Rattle.plans.proofs.Free.{Run, free-data, free-unused, unused-free}
+use Rattle.plans.proofs.Frame.{holds}
+use Rattle.plans.proofs.Free.{Run, run-listed, free-data, free-unused, unused-free}
+use Rattle.plans.proofs.NewFile.{length-mapWith, has-mapWith, bits-mapWith}
 
 -- ---- the count bits from b on
 
@@ -113,7 +118,7 @@ module _ (d : List ℕ) (count : ℕ) where
       by false q = refl
 
   -- the run that is found is the lowest that is free
-  found-run : (b : ℕ) → lowestRun (extra (look d)) (slotsOf (look d)) count ≡ some b → LowestRun d count b
+  pub found-run : (b : ℕ) → lowestRun (extra (look d)) (slotsOf (look d)) count ≡ some b → LowestRun d count b
   unfolding lowestRun
   found-run b e =
       let w = sweep-first 1560 startAt b e in
@@ -143,6 +148,22 @@ module _ (d : List ℕ) (count : ℕ) where
     pub no-run : (lowestRun (extra (look d)) (slotsOf (look d)) count ≡ none) ↔ NoRun d count
     unfolding lowestRun
     no-run = (λ e b w. passed b (sweep-none 1560 startAt e b (start-small b w)) w, λ u. none-sweep 1560 startAt (λ b h. skipped b (u b)))
+
+-- the sectors of a file and a free run of as many: both are on the disk, and none twice
+pub run-few : (d : List ℕ) → Sound (look d) → (i : ℕ) (f : File) → look d .files i ≡ some f → (b : ℕ) → FreeRun d (countOf (f .bytes)) b → countOf (f .bytes) ≤ 780
+run-few d ok i f e b w =
+    let bs : List ℕ = upFrom (countOf (f .bytes)) b in
+    let p : (ℕ → Bool) = freeBit (extra (look d)) (slotsOf (look d)) in
+    let r : Run p 0 bs = free-rises d (countOf (f .bytes)) b w in
+    let apart = none-share (mapWith bs) (mapOf (f .bytes)) (λ c h u v. free-unused d c (run-listed p 0 bs r c (sym (has-mapWith p 0 bs r c) ∙ u) .passes) i f e v) in
+    omega (
+      arith,
+      bits-join (mapWith bs) (mapOf (f .bytes)) (length-mapWith bs) apart,
+      bits-le (join (mapWith bs) (mapOf (f .bytes))),
+      bits-mapWith p 0 bs r,
+      up-long (countOf (f .bytes)) b,
+      ok .good i f (holds d i f e .here) e .bits,
+    )
 
 -- ---- in order
 

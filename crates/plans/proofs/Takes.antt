@@ -41,7 +41,8 @@ use Rattle.plans.proofs.Ended.{reach-free}
 use Rattle.plans.proofs.Free.{From, run-listed, run-rises, free-data, free-unused, unused-free, taken-lowest, free-small}
 use Rattle.plans.proofs.NewFile.{newFile, length-slot, slot-byte, name-is, block-byte, block-track, block-sector, filled, sector-at}
 use Rattle.plans.proofs.Good.{own-bit, slot-names}
-use Rattle.plans.proofs.Saved.{data-numbers, data-goes, save-disk}
+use Rattle.plans.proofs.Laid.{data-numbers, laid-goes}
+use Rattle.plans.proofs.Saved.{save-disk}
 use Rattle.plans.proofs.Demand3.{run-room}
 use Rattle.plans.proofs.ReadBack.{Stored, stored}
 use Rattle.plans.proofs.Exactly.{first-empty}
@@ -180,7 +181,7 @@ module _ (d : List ℕ) (w : Wish) (room : ℕ) (new ss : List ℕ) (e : run (sa
       ∙ clean-else m (oldName d (k .slot)) refl c ∙ sym (at-sector mid m) ∙ ap (λ (s : List ℕ). getD s (m % 512) 0) (data-other m (apart m h)) ∙ at-sector d m
     where
       data-other : (m : ℕ) → listed (m / 512) (numbers (dataSteps (stream w) 0 (k .bits))) ≡ false → sector mid (m / 512) ≡ sector d (m / 512)
-      data-other m q = goes-other look Sound (dataSteps (stream w) 0 (k .bits)) d (data-goes d (disk-sound d ok) (k .slot) (k .lowest) w (k .bits) (k .ready)) (m / 512) q
+      data-other m q = goes-other look Sound (dataSteps (stream w) 0 (k .bits)) d (laid-goes d (disk-sound d ok) (stream w) (k .bits) (k .ready .run)) (m / 512) q
 
   pub after-save : AfterSave d w new ss
   unfolding save-takes

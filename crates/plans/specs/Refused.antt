@@ -2,6 +2,7 @@
 use Prim.Native.Nat.{ℕ, _+_}
 use mathlib.Core.Bool.{Bool, true, false, cond, not, _&&_}
 use mathlib.Core.List.{List, [], _∷_}
+use mathlib.Core.Logic.{_⊎_}
 use mathlib.Core.Option.{none}
 use mathlib.Core.Path.{_≡_}
 use lib.Dec.{ltb}
@@ -74,10 +75,8 @@ abbrev pub gatherRow13 : Look → List ℕ → SlotRow
 gatherRow13 l n = rowFound 13 l n isDirectory
 
 -- "32 (slot 0), exactly when the file must move and no such run exists, after 19"
-abbrev pub row32 : Look → List ℕ → SlotRow
-row32 l n =
-    rowAt 32 0
-    (scattered (fileNamed l n) && held true (λ b. false) (lowestRun (extra l) (slotsOf l) (countOf (fileNamed l n .bytes))))
+abbrev pub row32 : Look → File → SlotRow
+row32 l f = rowAt 32 0 (scattered f && held true (λ b. false) (lowestRun (extra l) (slotsOf l) (countOf (f .bytes))))
 
 -- how many numbers a gather names
 unfoldable pub gatherLong : File → ℕ
@@ -91,15 +90,19 @@ changeRows old (save w) l room =
 changeRows old (erase n) l room = row12 (askable n) ∷ row15 l n ∷ row17 l n ∷ row29 l n ∷ row20 room 1 ∷ []
 changeRows old (rename n new) l room = row12 (askable n && usable new) ∷ row15 l n ∷ renameRow16 l n new ∷ row17 l n ∷ row20 room 1 ∷ []
 changeRows old (mark m n) l room = row12 (askable n) ∷ row15 l n ∷ row20 room 1 ∷ []
-changeRows old (gather n) l room = row12 (askable n) ∷ gatherRow13 l n ∷ row15 l n ∷ row32 l n ∷ row20 room (gatherLong (fileNamed l n)) ∷ []
+changeRows old (gather n) l room = row12 (askable n) ∷ gatherRow13 l n ∷ row15 l n ∷ row32 l (fileNamed l n) ∷ row20 room (gatherLong (fileNamed l n)) ∷ []
 
--- the same in the order of their numbers: 29 and 32 stand before 20
+-- the numbers above 20 that stand before it: "29 .., after 17" and "32 .., after 19"
+abbrev pub Ahead : ℕ → Type 0
+Ahead k = (k ≡ 29) ⊎ (k ≡ 32)
+
+-- the same in the order of their numbers
 unfoldable pub byNumber : (ℕ → Bool) → Change → Look → ℕ → List SlotRow
 byNumber old (save w) l room = changeRows old (save w) l room
 byNumber old (erase n) l room = row12 (askable n) ∷ row15 l n ∷ row17 l n ∷ row20 room 1 ∷ row29 l n ∷ []
 byNumber old (rename n new) l room = changeRows old (rename n new) l room
 byNumber old (mark m n) l room = changeRows old (mark m n) l room
-byNumber old (gather n) l room = row12 (askable n) ∷ gatherRow13 l n ∷ row15 l n ∷ row20 room (gatherLong (fileNamed l n)) ∷ row32 l n ∷ []
+byNumber old (gather n) l room = row12 (askable n) ∷ gatherRow13 l n ∷ row15 l n ∷ row20 room (gatherLong (fileNamed l n)) ∷ row32 l (fileNamed l n) ∷ []
 
 -- ---- refused, and accepted
 
