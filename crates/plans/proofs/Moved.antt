@@ -55,7 +55,7 @@ module _ (f : File) where
   payload-byte j k h q =
       let a : (510 * j + k) / 510 ≡ j = omega arith in
       let b : (510 * j + k) % 510 ≡ k = omega arith in
-      getD-tab (510 * countOf (f .bytes)) (λ k. getD (along (k / 510)) (k % 510) 0) (510 * j + k) (omega arith) ∙ ap₂ (λ (j k : ℕ). getD (along j) k 0) a b
+      getD-tab _ (λ k. getD (along (k / 510)) (k % 510) 0) (510 * j + k) (omega arith) ∙ ap₂ (λ (j k : ℕ). getD (along j) k 0) a b
 
   -- its j-th sector is that one, with other links
   pub payload-block : (j t s : ℕ) → j < countOf (f .bytes)
