@@ -17,12 +17,11 @@ use Rattle.chains.specs.File.{File}
 use Rattle.directory.specs.Directory.{held}
 use Rattle.disk.specs.Look.{Look, look, slotsOf, extra}
 use Rattle.disk.specs.Check.{checkDisk}
-use Rattle.disk.specs.Sound.{HasSectors}
 use Rattle.files.specs.Calls.{fileNamed}
-use Rattle.files.specs.Asked.{someNamed, slotNamed, row12, row15, row20, by-check, by-row}
+use Rattle.files.specs.Asked.{row15, row20, by-check, by-row}
 use Rattle.plans.specs.Change.{gather}
 use Rattle.plans.specs.Gathering.{scattered, upFrom, lowestRun}
-use Rattle.plans.specs.Plan.{oldName, stopped, made, run}
+use Rattle.plans.specs.Plan.{stopped, made, run}
 use Rattle.plans.specs.Refused.{gatherRow13, row32, gatherLong, changeRows, Refuses, Accepts}
 use Rattle.plans.specs.Accepted.{Named}
 use Rattle.plans.specs.Gathered.{InOrder, FreeRun, NoRun, Moves, Gatherable}

@@ -1,41 +1,40 @@
 -- An accepted gather: every answer stays, the file lies in order on the lowest run, and it is left when gathered again.
 use Prim.Native.Nat.{ℕ, _+_, _*_, _/_, _%_, _≤_, _<_}
-use mathlib.Core.Path.{_≡_, refl, sym, ap, ap₂, _∙_, subst, subst₂}
-use mathlib.Core.Bool.{Bool, true, false}
-use mathlib.Core.List.{List, [], _∷_, _++_}
+use mathlib.Core.Path.{_≡_, refl, sym, ap, ap₂, _∙_, subst}
+use mathlib.Core.Bool.{true, false}
+use mathlib.Core.List.{List, []}
 use mathlib.Core.Logic.{_⊎_, inl, inr, ⊎-elim}
 use mathlib.Core.Option.{none, some}
 use native.Mathlib.Omega.{arith}
 use borrow.Author.Tests.{le-ltb}
 use lib.ListN.{length, getD}
-use Rattle.buffers.specs.Bytes.{tab, put}
+use Rattle.buffers.specs.Bytes.{tab}
 use Rattle.buffers.proofs.Lists.{below-or-not, tab-cong, length-part, put-before, put-after}
 use Rattle.maps.specs.Bits.{has}
-use Rattle.slots.specs.Slot.{spectrum, directoryKind, isDirectory, nameOf, kindOf, countOf, firstOf, mapOf, pageOf, offsetOf, facts, lengthOf}
+use Rattle.slots.specs.Slot.{spectrum, directoryKind, isDirectory, nameOf, kindOf, countOf, firstOf, mapOf, pageOf, offsetOf, facts}
 use Rattle.names.specs.Name.{askable, padded}
 use Rattle.names.proofs.Names.{same-of}
 use Rattle.chains.specs.File.{File, sectorAt}
 use Rattle.chains.specs.Chain.{linked}
-use Rattle.chains.specs.Whole.{Whole}
 use Rattle.chains.proofs.Laws.{sectors-else}
-use Rattle.headers.specs.Header.{headerLength, headerStart, bodyByte, fileLength, body}
+use Rattle.headers.specs.Header.{bodyByte, fileLength, body}
 use Rattle.directory.specs.Places.{slotAt}
 use Rattle.directory.specs.Directory.{held}
-use Rattle.disk.specs.Look.{Look, look, slotsOf, extra}
+use Rattle.disk.specs.Look.{look, slotsOf, extra}
 use Rattle.disk.specs.Check.{checkDisk}
 use Rattle.disk.specs.Sound.{Sound}
 use Rattle.files.specs.Calls.{noFile, fileAt, address, startOf}
-use Rattle.steps.specs.Sectors.{sector, listed}
+use Rattle.steps.specs.Sectors.{listed}
 use Rattle.steps.specs.Steps.{enact, numbers}
 use Rattle.steps.proofs.Sectors.{at-sector}
 use Rattle.steps.proofs.Steps.{goes-long, goes-other}
 use Rattle.plans.specs.Change.{gather}
-use Rattle.plans.specs.Saving.{freeBit, chained}
+use Rattle.plans.specs.Saving.{freeBit}
 use Rattle.plans.specs.Gathering.{scattered, upFrom, payloadOf, placed}
-use Rattle.plans.specs.Plan.{upd, dataSteps, gatherSteps, movePlan, planOf, made, run}
+use Rattle.plans.specs.Plan.{dataSteps, gatherSteps, movePlan, planOf, made, run}
 use Rattle.plans.specs.Accepted.{Named}
-use Rattle.plans.specs.After.{SameAnswers, Outside}
-use Rattle.plans.specs.Gathered.{InOrder, LowestRun, runSectors, MovedTo, Left, AfterGather}
+use Rattle.plans.specs.After.{SameAnswers}
+use Rattle.plans.specs.Gathered.{InOrder, runSectors, MovedTo, AfterGather}
 use Rattle.plans.proofs.Frame.{disk-sound, holds, holds-long, holds-sector}
 use Rattle.plans.proofs.Kept.{sound-long}
 use Rattle.plans.proofs.Named.{found-here}
@@ -45,7 +44,7 @@ use Rattle.plans.proofs.NewFile.{listed-at, chained-else}
 use Rattle.plans.proofs.Good.{whole-of, chained-along}
 use Rattle.plans.proofs.Laid.{data-numbers, laid-goes}
 use Rattle.plans.proofs.Past.{unmapped, whole-past}
-use Rattle.plans.proofs.Moved.{placed-long, gathered, before, after, kind-now, count-now, name-now, length-now, was-sectors, some-bits, now-names, now-byte, now-first, now-linked, now-head, now-map, gather-disk}
+use Rattle.plans.proofs.Moved.{placed-long, gathered, after, kind-now, count-now, name-now, length-now, was-sectors, some-bits, now-names, now-byte, now-first, now-linked, now-head, now-map, gather-disk}
 use Rattle.plans.proofs.Sure.{not-directory}
 use Rattle.plans.proofs.Effect.{Shifted, Gathers, gathers}
 use Rattle.plans.proofs.Demand3.{change-accepted, run-room}

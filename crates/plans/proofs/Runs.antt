@@ -1,8 +1,8 @@
 -- Consecutive bits: whether a file lies on them in rising order, and the lowest run of them that is free.
 use Prim.Native.Nat.{ℕ, zero, suc, _+_, _≤_, _<_}
-use mathlib.Core.Path.{_≡_, refl, sym, ap, _∙_, subst}
-use mathlib.Core.Bool.{Bool, true, false, cond, not, _&&_, _||_, true≢false, false≢true, and-eq-true-iff}
-use mathlib.Core.List.{List, [], _∷_}
+use mathlib.Core.Path.{_≡_, refl, sym, ap, _∙_}
+use mathlib.Core.Bool.{Bool, true, false, cond, not, _||_, true≢false, false≢true, and-eq-true-iff}
+use mathlib.Core.List.{List}
 use mathlib.Core.Logic.{_↔_}
 use mathlib.Core.Option.{Option, none, some, Option·some-ne-none, Option·some-injective}
 use native.Mathlib.Nat.{le-of-suc-le-suc, not-suc-le-zero, add-zero}
@@ -10,7 +10,6 @@ use native.Mathlib.Omega.{arith}
 use borrow.Author.Tests.{eqb-true, eq-eqb, not-false}
 use lib.Dec.{eqb}
 use lib.ListN.{length, getD}
-use Rattle.buffers.specs.Bytes.{any}
 use Rattle.buffers.proofs.Counts.{any-none, none-any}
 use Rattle.maps.specs.Bits.{join}
 use Rattle.maps.proofs.Laws.{bits-le, bits-join, none-share}
