@@ -4,7 +4,8 @@ use mathlib.Core.Path.{_≡_, refl, sym, ap, ap₂, _∙_, subst}
 use mathlib.Core.Bool.{true, false}
 use mathlib.Core.List.{List, []}
 use mathlib.Core.Logic.{_⊎_, inl, inr, ⊎-elim}
-use mathlib.Core.Option.{none, some}
+use mathlib.Core.Option.{none, some, Option·some-injective}
+use native.Mathlib.Decide.{ℕ-discrete}
 use native.Mathlib.Omega.{arith}
 use borrow.Author.Tests.{le-ltb}
 use lib.ListN.{length, getD}
@@ -16,11 +17,13 @@ use Rattle.names.specs.Name.{askable, padded}
 use Rattle.names.proofs.Names.{same-of}
 use Rattle.chains.specs.File.{File, sectorAt}
 use Rattle.chains.specs.Chain.{linked}
-use Rattle.chains.proofs.Laws.{sectors-else}
+use Rattle.chains.proofs.Laws.{sectors-else, map-small}
 use Rattle.headers.specs.Header.{bodyByte, fileLength, body}
 use Rattle.directory.specs.Places.{slotAt}
-use Rattle.directory.specs.Directory.{held}
-use Rattle.disk.specs.Look.{look, slotsOf, extra}
+use Rattle.directory.specs.Directory.{held, tracksOf, directory}
+use Rattle.surveys.specs.Survey.{free}
+use Rattle.disk.specs.Look.{Look, look, slotsOf, extra}
+use Rattle.disk.proofs.Look.{look-slots, look-extra}
 use Rattle.disk.specs.Check.{checkDisk}
 use Rattle.disk.specs.Sound.{Sound}
 use Rattle.files.specs.Calls.{noFile, fileAt, address, startOf}
@@ -31,25 +34,25 @@ use Rattle.steps.proofs.Steps.{goes-long, goes-other}
 use Rattle.plans.specs.Change.{gather}
 use Rattle.plans.specs.Saving.{freeBit}
 use Rattle.plans.specs.Gathering.{scattered, upFrom, payloadOf, placed}
-use Rattle.plans.specs.Plan.{dataSteps, gatherSteps, movePlan, planOf, made, run}
+use Rattle.plans.specs.Plan.{upd, dataSteps, gatherSteps, movePlan, planOf, made, run}
 use Rattle.plans.specs.Accepted.{Named}
 use Rattle.plans.specs.After.{SameAnswers}
 use Rattle.plans.specs.Gathered.{InOrder, runSectors, MovedTo, AfterGather}
-use Rattle.plans.proofs.Frame.{disk-sound, holds, holds-long, holds-sector}
-use Rattle.plans.proofs.Kept.{sound-long}
+use Rattle.plans.proofs.Frame.{disk-sound, upd-other, upd-again, extra-upd, holds, holds-long, holds-sector}
+use Rattle.plans.proofs.Kept.{sound-apart, sound-long}
 use Rattle.plans.proofs.Named.{found-here}
-use Rattle.plans.proofs.Free.{Run}
-use Rattle.plans.proofs.Runs.{up-long, up-at, up-listed, free-rises, in-order, not-order}
+use Rattle.plans.proofs.Free.{Run, unused-free}
+use Rattle.plans.proofs.Runs.{up-long, up-at, up-listed, listed-up, free-rises, in-order, not-order}
 use Rattle.plans.proofs.NewFile.{listed-at, chained-else}
 use Rattle.plans.proofs.Good.{whole-of, chained-along}
-use Rattle.plans.proofs.Laid.{data-numbers, laid-goes}
+use Rattle.plans.proofs.Laid.{data-numbers, laid-unused, laid-goes}
 use Rattle.plans.proofs.Past.{unmapped, whole-past}
 use Rattle.plans.proofs.Moved.{placed-long, gathered, after, kind-now, count-now, name-now, length-now, was-sectors, some-bits, now-names, now-byte, now-first, now-linked, now-head, now-map, gather-disk}
 use Rattle.plans.proofs.Sure.{not-directory}
 use Rattle.plans.proofs.Effect.{Shifted, Gathers, gathers}
 use Rattle.plans.proofs.Demand3.{change-accepted, run-room}
 use Rattle.plans.proofs.Others.{Alike}
-use Rattle.plans.proofs.After.{picked, swap-here, swap-answers, swap-find}
+use Rattle.plans.proofs.After.{freed-count, picked, swap-here, swap-answers, swap-find}
 
 -- ---- reading it
 
@@ -202,8 +205,34 @@ module _ (d n : List ℕ) (ok : checkDisk d ≡ none) (new ss : List ℕ) (i : �
       ap (λ (x : List ℕ). getD x j 0) (holds-sector new i then here (a .bit + k) v) ∙ ap (λ (x : ℕ). getD (then .sectors x) j 0) (sym b)
       ∙ now-byte d ds i f (found .here) other bs rises many k u j q
 
-  moved-to : MovedTo d n i f (a .bit) new ss
-  moved-to = record {
+  -- its old sectors are free
+  freed : checkDisk new ≡ none → (c : ℕ) → has (mapOf (f .bytes)) c ≡ true → freeBit (tracksOf new) (directory new) c ≡ true
+  freed now c m =
+      rw (← look-slots new, ← look-extra new)
+      (unused-free new c
+      (rw (sym (look-extra new) ∙ ap extra (a .seen) ∙ extra-upd (look d) i (some then)) (ds .good i f (found .below) (found .here) .data-bits c m))
+      (λ j g q u. by j g q u (ℕ-discrete j i)))
+    where
+      by : (j : ℕ) (g : File) → look new .files j ≡ some g → has (mapOf (g .bytes)) c ≡ true → Dec (j ≡ i) → ⊥
+      by j g q u (yes z) =
+          let e : then ≡ g = Option·some-injective then g (sym here ∙ ap (look new .files) (sym z) ∙ q) in
+          laid-unused d ds (payloadOf f) bs rises c i f
+          (sym (now-map d ds i f (found .here) other bs rises many c) ∙ ap (λ (x : File). has (mapOf (x .bytes)) c) e ∙ u) (found .here) m
+      by j g q u (no z) =
+          let s : look d .files j ≡ some g = sym (upd-other (look d) i (some then) j z) ∙ ap (λ (l : Look). l .files j) (sym (a .seen)) ∙ q in
+          sound-apart (look d) ds i j f g (found .below) (holds d j g s .here) z (found .here) s .sectors c (map-small (f .bytes) c m) u m
+
+  as-many : checkDisk new ≡ none → free (tracksOf new) (directory new) ≡ free (tracksOf d) (directory d)
+  as-many now =
+      let was = freed-count (look d) ds i f (found .below) (found .here) in
+      let is = freed-count (look new) (disk-sound new now) i then (found .below) here in
+      let e : upd (look new) i none ≡ upd (look d) i none = ap (λ (l : Look). upd l i none) (a .seen) ∙ upd-again (look d) i (some then) none in
+      let same : free (extra (upd (look new) i none)) (slotsOf (upd (look new) i none)) ≡ free (extra (upd (look d) i none)) (slotsOf (upd (look d) i none)) =
+      ap (λ (l : Look). free (extra l) (slotsOf l)) e in
+      rw (← look-slots new, ← look-slots d, ← look-extra new, ← look-extra d) (omega (arith, was, is, same, count-is))
+
+  moved-to : checkDisk new ≡ none → MovedTo d n i f (a .bit) new ss
+  moved-to now-ok = record {
     must = not-order f (a .must);
     lowest = a .lowest;
     long = ap length (a .disk) ∙ goes-long (gatherSteps (look d) i f bs) d;
@@ -218,7 +247,12 @@ module _ (d n : List ℕ) (ok : checkDisk d ≡ none) (new ss : List ℕ) (i : �
     first = first-is;
     count = count-is;
     order = ordered;
-    bits = λ c u. up-listed count (a .bit) c (sym (now-map d ds i f (found .here) other bs rises many c) ∙ u);
+    bits = λ c. (
+      λ u. up-listed count (a .bit) c (sym (now-map d ds i f (found .here) other bs rises many c) ∙ u),
+      λ u. now-map d ds i f (found .here) other bs rises many c ∙ listed-up count (a .bit) c (u .0) (u .1),
+    );
+    freed = freed now-ok;
+    as-many = as-many now-ok;
     sectors = a .sectors;
   }
 
@@ -261,7 +295,7 @@ after-gather d n room new ss e = by (t .done)
       file = t .file;
       found = t .found;
       kind = other;
-      done = inr (a .bit, moved-to d n ok new ss (t .slot) (t .file) (t .found) other a);
+      done = inr (a .bit, moved-to d n ok new ss (t .slot) (t .file) (t .found) other a now);
       answers = kept d n ok new ss (t .slot) (t .file) (t .found) other a now;
       again = again d n ok new ss (t .slot) (t .file) (t .found) other a now (t .askable-name) (t .no-directory);
     }
