@@ -83,15 +83,6 @@ module _ (l : Look) (i : ℕ) (o : Option File) where
   unfolding extra upd
   extra-upd = refl
 
-  -- and changed again
-  pub upd-again : (p : Option File) → upd (upd l i o) i p ≡ upd l i p
-  unfolding upd
-  upd-again p = λ z. record { long = l .long; label = l .label; files = λ j. by j (eqb j i) refl z }
-    where
-      by : (j : ℕ) (t : Bool) → eqb j i ≡ t → cond t p (cond t o (l .files j)) ≡ cond t p (l .files j)
-      by j true q = refl
-      by j false q = refl
-
   pub slots-same : slotsOf (upd l i o) i ≡ held none (λ f. some (f .bytes)) o
   unfolding slotsOf
   slots-same = ap (held none (λ f. some (f .bytes))) upd-same

@@ -28,7 +28,7 @@ use Rattle.plans.specs.Gathered.{InOrder, FreeRun, NoRun, Moves, Gathera
 use Rattle.plans.proofs.Frame.{disk-sound}
 use Rattle.plans.proofs.Runs.{no-run, run-few, in-order, not-order}
 use Rattle.plans.proofs.Sure.{not-directory}
-use Rattle.plans.proofs.Moved.{gather-numbers, gather-long}
+use Rattle.plans.proofs.Moved.{has-sectors, gather-numbers, gather-long}
 use Rattle.plans.proofs.Effect.{Shifted, gathers}
 use Rattle.plans.proofs.Demand3.{run-room}
 use Rattle.plans.proofs.Refused.{refused-exactly, accepted-exactly}
@@ -95,7 +95,7 @@ module _ (d n : List ℕ) (room : ℕ) (ok : checkDisk d ≡ none) (name : askab
     count = countOf (f .bytes)
 
     some-sectors : 1 ≤ count
-    some-sectors = ⊎-elim (λ a. absurd (kind (a .0))) (λ a. a .1 .some-sectors) (disk-sound d ok .good i f (found .below) (found .here) .sectors)
+    some-sectors = has-sectors d (disk-sound d ok) i f (found .here) kind .some-sectors
 
     not-13 : gatherRow13 l n .holds ≡ false
     not-13 = row13-is ∙ no-directory (f .bytes) kind

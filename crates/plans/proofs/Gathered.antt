@@ -1,13 +1,14 @@
 -- An accepted gather: every answer stays, the file lies in order on the lowest run, and it is left when gathered again.
 use Prim.Native.Nat.{ℕ, _+_, _*_, _/_, _%_, _≤_, _<_}
 use mathlib.Core.Path.{_≡_, refl, sym, ap, ap₂, _∙_, subst}
-use mathlib.Core.Bool.{true, false}
+use mathlib.Core.Bool.{Bool, true, false, cond}
 use mathlib.Core.List.{List, []}
 use mathlib.Core.Logic.{_⊎_, inl, inr, ⊎-elim}
-use mathlib.Core.Option.{none, some, Option·some-injective}
+use mathlib.Core.Option.{Option, none, some, Option·some-injective}
 use native.Mathlib.Decide.{ℕ-discrete}
 use native.Mathlib.Omega.{arith}
 use borrow.Author.Tests.{le-ltb}
+use lib.Dec.{eqb}
 use lib.ListN.{length, getD}
 use Rattle.buffers.specs.Bytes.{tab}
 use Rattle.buffers.proofs.Lists.{below-or-not, tab-cong, length-part, put-before, put-after}
@@ -38,7 +39,7 @@ use Rattle.plans.specs.Plan.{upd, dataSteps, gatherSteps, movePlan, plan
 use Rattle.plans.specs.Accepted.{Named}
 use Rattle.plans.specs.After.{SameAnswers}
 use Rattle.plans.specs.Gathered.{InOrder, runSectors, MovedTo, AfterGather}
-use Rattle.plans.proofs.Frame.{disk-sound, upd-other, upd-again, extra-upd, holds, holds-long, holds-sector}
+use Rattle.plans.proofs.Frame.{disk-sound, upd-other, extra-upd, holds, holds-long, holds-sector}
 use Rattle.plans.proofs.Kept.{sound-apart, sound-long}
 use Rattle.plans.proofs.Named.{found-here}
 use Rattle.plans.proofs.Free.{Run, unused-free}
@@ -47,7 +48,7 @@ use Rattle.plans.proofs.NewFile.{listed-at, chained-else}
 use Rattle.plans.proofs.Good.{whole-of, chained-along}
 use Rattle.plans.proofs.Laid.{data-numbers, laid-unused, laid-goes}
 use Rattle.plans.proofs.Past.{unmapped, whole-past}
-use Rattle.plans.proofs.Moved.{placed-long, gathered, after, kind-now, count-now, name-now, length-now, was-sectors, some-bits, now-names, now-byte, now-first, now-linked, now-head, now-map, gather-disk}
+use Rattle.plans.proofs.Moved.{placed-long, gathered, after, kind-now, count-now, name-now, length-now, has-sectors, some-bits, now-names, now-byte, now-first, now-linked, now-head, now-map, gather-disk}
 use Rattle.plans.proofs.Sure.{not-directory}
 use Rattle.plans.proofs.Effect.{Shifted, Gathers, gathers}
 use Rattle.plans.proofs.Demand3.{change-accepted, run-room}
@@ -74,7 +75,7 @@ module _ (d : List ℕ) (w : Sound (look d)) (i : ℕ) (f : File) (e : look d .f
   was-past : (k : ℕ) → length bs ≤ k → linked (f .sectors) (firstOf (f .bytes)) k ≡ 1560
   unfolding facts
   was-past k h =
-      let s = was-sectors d w i f e other bs r n in
+      let s = has-sectors d w i f e other in
       whole-past (facts (f .bytes)) (f .sectors) (s .some-sectors) (omega (arith, length-part 15 195 (f .bytes))) (s .chain) was-none k (omega (arith, n))
 
   now-past : (k : ℕ) → length bs ≤ k → linked (now .sectors) (firstOf (now .bytes)) k ≡ 1560
@@ -135,6 +136,15 @@ left-alone d n ok a i f w q s room =
     rw (ok, a, found-here (look d) (disk-sound d ok) n i f (w .below) (w .here) (w .name), z, q, s, le-ltb room 0 (omega arith))
 
 -- ---- a file that has moved
+
+-- a slot of a look changed twice
+upd-again : (l : Look) (i : ℕ) (o p : Option File) → upd (upd l i o) i p ≡ upd l i p
+unfolding upd
+upd-again l i o p = λ z. record { long = l .long; label = l .label; files = λ j. by j (eqb j i) z }
+  where
+    by : (j : ℕ) (t : Bool) → cond t p (cond t o (l .files j)) ≡ cond t p (l .files j)
+    by j true = refl
+    by j false = refl
 
 module _ (d n : List ℕ) (ok : checkDisk d ≡ none) (new ss : List ℕ) (i : ℕ) (f : File) (found : Named d n i f) (other : kindOf (f .bytes) ≡ 21 → ⊥)
     (a : Shifted d i f new ss) where

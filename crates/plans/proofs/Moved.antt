@@ -121,6 +121,10 @@ module _ (f : File) (bs : List ℕ) (long : length (f .bytes) ≡ 256) where
 
 -- ---- on free bits of a sound disk
 
+-- a file of another kind than 21 has sectors
+pub has-sectors : (d : List ℕ) → Sound (look d) → (i : ℕ) (f : File) → look d .files i ≡ some f → (kindOf (f .bytes) ≡ 21 → ⊥) → HasSectors f
+has-sectors d w i f e other = ⊎-elim (λ a. absurd (other (a .0))) (λ a. a .1) (w .good i f (holds d i f e .here) e .sectors)
+
 module _ (d : List ℕ) (w : Sound (look d)) (i : ℕ) (f : File) (e : look d .files i ≡ some f) (other : kindOf (f .bytes) ≡ 21 → ⊥)
     (bs : List ℕ) (r : Run (freeBit (extra (look d)) (slotsOf (look d))) 0 bs) (n : length bs ≡ countOf (f .bytes)) where
   abbrev free : ℕ → Bool
@@ -142,11 +146,8 @@ module _ (d : List ℕ) (w : Sound (look d)) (i : ℕ) (f : File) (e : look d .f
   was : GoodFile (extra (look d)) f
   was = w .good i f (own .here) e
 
-  pub was-sectors : HasSectors f
-  was-sectors = ⊎-elim (λ a. absurd (other (a .0))) (λ a. a .1) (was .sectors)
-
   pub some-bits : 1 ≤ length bs
-  some-bits = omega (arith, n, was-sectors .some-sectors)
+  some-bits = omega (arith, n, has-sectors d w i f e other .some-sectors)
 
   pub now-names : Names (now .bytes) bs
   now-names = names f bs long n
