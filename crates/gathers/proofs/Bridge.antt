@@ -22,7 +22,7 @@ use Rattle.surveys.specs.Survey.{union, usedMap}
 use Rattle.surveys.specs.declared.UsedMap.{UsedMap}
 use Rattle.surveys.proofs.Union.{counted-bytes, counted-tracks}
 use Rattle.disk.specs.Look.{look, slotsOf, extra}
-use Rattle.disk.specs.Sound.{HasSectors, GoodFile}
+use Rattle.disk.specs.Sound.{HasSectors}
 use Rattle.disk.proofs.Look.{look-slots, look-extra, look-some}
 use Rattle.disk.proofs.Examined.{accepted-size}
 use Rattle.files.specs.Steps.{Accepted}
@@ -31,6 +31,7 @@ use Rattle.plans.specs.Gathering.{runAt, lowestRun}
 use Rattle.plans.specs.Gathered.{FreeRun}
 use Rattle.plans.proofs.Frame.{disk-sound}
 use Rattle.plans.proofs.Runs.{found-run}
+use Rattle.plans.proofs.Moved.{has-sectors}
 use Rattle.taking.specs.Taken.{shutMap}
 use Rattle.taking.proofs.Shut.{shut-is}
 use Rattle.runs.specs.Runs.{clearBit, lowestClear}
@@ -75,16 +76,13 @@ module _ (d : List ℕ) (u : UsedMap) (i : ℕ) (w : Held d u i) (other : isDire
   here : look d .files i ≡ some (fileOf d s)
   here = look-some d i s (w .live)
 
-  good : GoodFile (extra (look d)) (fileOf d s)
-  good = disk-sound d (w .disk .accepted) .good i (fileOf d s) (w .slot) here
-
   no-kind : kindOf s ≡ 21 → ⊥
   unfolding isDirectory directoryKind
   no-kind e = let z : true ≡ false = sym (eq-eqb (kindOf s) 21 e) ∙ other in let y : _≡_ {A = ℕ} 0 1 = cc in omega arith
 
   sectors : HasSectors (fileOf d s)
   unfolding fileOf
-  sectors = ⊎-elim (λ a. absurd (no-kind (a .0))) (λ a. a .1) (good .sectors)
+  sectors = has-sectors d (disk-sound d (w .disk .accepted)) i (fileOf d s) here no-kind
 
   pub chain-is : Chained d (slotOr d i)
   unfolding facts fileOf

@@ -3,18 +3,18 @@ use Prim.Native.Nat.{ℕ, zero, suc, _+_, _-_, _*_, _≤_, _<_}
 use mathlib.Core.Path.{_≡_, refl, sym, ap, ap₂, _∙_, subst}
 use mathlib.Core.Bool.{true}
 use mathlib.Core.List.{List, [], _∷_, _++_}
-use mathlib.Core.Logic.{_⊎_, ⊎-elim}
+use mathlib.Core.Logic.{_⊎_, inl, inr, ⊎-elim}
 use native.Mathlib.Numerals.{add-one}
 use native.Mathlib.Nat.{add-zero}
 use native.Mathlib.Omega.{arith}
 use borrow.Author.Tests.{lt-ltb}
-use lib.ListN.{length, getD, replicate, length-replicate, getD-replicate}
-use lib.Seq.{ext-getD}
+use lib.ListN.{length, getD, take, set, length-append, length-take, length-set, List·getD-append}
+use lib.Seq.{ext-getD, getD-append-add}
 use Rattle.buffers.specs.Bytes.{part, put}
-use Rattle.buffers.proofs.Lists.{below-or-not, past-end, length-put, part-at, put-in, put-before, put-after, put-append}
+use Rattle.buffers.proofs.Lists.{below-or-not, length-put, part-at, part-long, put-before, put-after, put-none, put-more, put-all, put-append}
 use Rattle.geometry.specs.Disk.{bitOf, bitPlace, placeOrEnd, trackOf, sectorOf, addressOf}
 use Rattle.geometry.specs.declared.Address.the-variants.{Sector, NoBit}
-use Rattle.geometry.proofs.Laws.{place-or-end, address-sector, address-data}
+use Rattle.geometry.proofs.Laws.{place-or-end, place-inside, places-apart, address-sector, address-data}
 use Rattle.geometry.proofs.Tests.{data-bounds}
 use Rattle.maps.specs.Bits.{has, clear, marked}
 use Rattle.slots.specs.Slot.{countOf, firstOf, mapOf}
@@ -34,7 +34,7 @@ use Rattle.plans.proofs.Frame.{sector-else}
 use Rattle.plans.proofs.NewFile.{length-block, block-byte, block-track, block-sector}
 use Rattle.plans.proofs.Moved.{payload-block}
 use Rattle.gathers.specs.declared.Link.{Link}
-use Rattle.gathers.specs.Moving.{fileIn, countIn, linkOf, dataOf, Movable}
+use Rattle.gathers.specs.Moving.{fileIn, countIn, linkOf, dataOf, Movable, Apart, TwoBits}
 use Rattle.gathers.proofs.Walk.{link-own, chain-own}
 
 -- ---- the link
@@ -64,55 +64,88 @@ link-some (suc n) b r h t s a p q =
 
 -- ---- a sector copied
 
-module _ (d : List ℕ) (p t u : ℕ) where
-  -- 510 bytes of it in a new one, and then its link
-  held-is : (z x y : List ℕ) → length z ≡ 512 → x ≡ put z 0 (part p 510 d) → ((k : ℕ) → getD z k 0 ≡ 0) → y ≡ put x 510 (t ∷ u ∷ []) → y ≡ block (part p 512 d) 0 t u
-  held-is z x y l e v q = ext-getD 0 y (block (part p 512 d) 0 t u) (long ∙ sym (length-block (part p 512 d) 0 t u)) (λ k h. at k (omega (arith, long)))
+-- j bytes are copied
+pub record Copied (d : List ℕ) (from to : ℕ) (e : List ℕ) (j : ℕ) : Type 0 where
+  pub far : j ≤ 510
+  pub long : length e ≡ length d
+  pub is : e ≡ put d to (take j (part from 510 d))
+
+pub copied-none : (d : List ℕ) (from to : ℕ) → Copied d from to d 0
+copied-none d from to = record { far = omega arith; long = refl; is = put-none d to (part from 510 d) }
+
+module _ (d : List ℕ) (from to : ℕ) (s : Apart (length d) from to) (e : List ℕ) (j : ℕ) (w : Copied d from to e j) where
+  part-510 : length (part from 510 d) ≡ 510
+  part-510 = part-long from 510 d (s .source)
+
+  -- the byte read is as it was
+  read : j < 510 → getD e (from + j) 0 ≡ getD (part from 510 d) j 0
+  read h =
+      ap (λ (x : List ℕ). getD x (from + j) 0) (w .is)
+      ∙ ⊎-elim
+      (λ (l : from + 510 ≤ to). put-before d to (take j (part from 510 d)) (from + j) (omega arith))
+      (λ (l : to + 510 ≤ from). put-after d to (take j (part from 510 d)) (from + j) (omega (arith, length-take j (part from 510 d)))) (s .apart)
+      ∙ sym (part-at from 510 d j h)
+
+  pub copied-more : j < 510 → Copied d from to (set e (to + j) (getD e (from + j) 0)) (j + 1)
+  copied-more h = record {
+    far = omega arith;
+    long = length-set e (to + j) (getD e (from + j) 0) ∙ w .long;
+    is = ap₂ (λ (x : List ℕ) (v : ℕ). set x (to + j) v) (w .is) (read h) ∙ put-more d to (part from 510 d) j (omega (arith, part-510)) (omega (arith, s .target));
+  }
+
+  pub copied-all : 510 ≤ j → e ≡ put d to (part from 510 d)
+  copied-all h = w .is ∙ put-all d to (part from 510 d) j (omega (arith, part-510))
+
+-- the payload, and then the link
+block-is : (d : List ℕ) (p t u : ℕ) → p + 512 ≤ length d → part p 510 d ++ (t ∷ u ∷ []) ≡ block (part p 512 d) 0 t u
+block-is d p t u l = ext-getD 0 (part p 510 d ++ (t ∷ u ∷ [])) (block (part p 512 d) 0 t u) (long ∙ sym (length-block (part p 512 d) 0 t u)) (λ k h. at k (omega (arith, long)))
+  where
+    front : length (part p 510 d) ≡ 510
+    front = part-long p 510 d (omega arith)
+
+    long : length (part p 510 d ++ (t ∷ u ∷ [])) ≡ 512
+    long = length-append (part p 510 d) (t ∷ u ∷ []) ∙ omega (arith, front)
+
+    payload : (k : ℕ) → k < 510 → getD (part p 510 d ++ (t ∷ u ∷ [])) k 0 ≡ getD (block (part p 512 d) 0 t u) k 0
+    payload k h =
+        List·getD-append (part p 510 d) (t ∷ u ∷ []) 0 k (omega (arith, front)) ∙ part-at p 510 d k h ∙ sym (part-at p 512 d k (omega arith))
+        ∙ ap (λ (j : ℕ). getD (part p 512 d) j 0) (omega arith) ∙ sym (block-byte (part p 512 d) 0 t u k h)
+
+    after : (i : ℕ) → getD (part p 510 d ++ (t ∷ u ∷ [])) (510 + i) 0 ≡ getD (t ∷ u ∷ []) i 0
+    after i = ap (λ (n : ℕ). getD (part p 510 d ++ (t ∷ u ∷ [])) (n + i) 0) (sym front) ∙ getD-append-add (part p 510 d) (t ∷ u ∷ []) i 0
+
+    at : (k : ℕ) → k < 512 → getD (part p 510 d ++ (t ∷ u ∷ [])) k 0 ≡ getD (block (part p 512 d) 0 t u) k 0
+    at k h =
+        ⊎-elim (payload k)
+        (λ (m : 510 ≤ k).
+        ⊎-elim (λ (w : k < 511). let z : k ≡ 510 = omega arith in rw z (after 0 ∙ sym (block-track (part p 512 d) 0 t u)))
+        (λ (w : 511 ≤ k). let z : k ≡ 511 = omega arith in rw z (after 1 ∙ sym (block-sector (part p 512 d) 0 t u))) (below-or-not k 511))
+        (below-or-not k 510)
+
+-- of two map bits
+module _ (d : List ℕ) (from to p q : ℕ) (s : TwoBits (length d) from to) (a : p ≡ placeOrEnd from) (b : q ≡ placeOrEnd to) where
+  place-from : p ≡ bitPlace from
+  place-from = a ∙ place-or-end from (s .source)
+
+  place-to : q ≡ bitPlace to
+  place-to = b ∙ place-or-end to (s .target)
+
+  pub places-are : Apart (length d) p q
+  places-are =
+      ⊎-elim
+      (λ (l : bitPlace from + 512 ≤ bitPlace to). record { source = inside .0; target = inside .1; apart = inl (omega (arith, place-from, place-to)) })
+      (λ (l : bitPlace to + 512 ≤ bitPlace from). record { source = inside .0; target = inside .1; apart = inr (omega (arith, place-from, place-to)) })
+      (places-apart from to (s .source) (s .target) (s .other))
     where
-      xl : length x ≡ 512
-      xl = ap length e ∙ length-put z 0 (part p 510 d) ∙ l
+      inside : (p + 510 ≤ length d) × (q + 510 ≤ length d)
+      inside = (omega (arith, place-from, place-inside from (s .source), s .size), omega (arith, place-to, place-inside to (s .target), s .size))
 
-      long : length y ≡ 512
-      long = ap length q ∙ length-put x 510 (t ∷ u ∷ []) ∙ xl
-
-      front : (k : ℕ) → k < 510 → getD x k 0 ≡ getD (part p 510 d) k 0
-      front k h =
-          ap (λ (x : List ℕ). getD x k 0) e
-          ∙ ⊎-elim
-          (λ (m : k < length (part p 510 d)).
-          let o : k ≡ 0 + k = omega arith in
-          ap (λ (j : ℕ). getD (put z 0 (part p 510 d)) j 0) o ∙ put-in z 0 (part p 510 d) k m (omega arith))
-          (λ (m : length (part p 510 d) ≤ k). put-after z 0 (part p 510 d) k (omega arith) ∙ v k ∙ sym (past-end (part p 510 d) k m))
-          (below-or-not k (length (part p 510 d)))
-
-      payload : (k : ℕ) → k < 510 → getD y k 0 ≡ getD (block (part p 512 d) 0 t u) k 0
-      payload k h =
-          ap (λ (y : List ℕ). getD y k 0) q ∙ put-before x 510 (t ∷ u ∷ []) k h ∙ front k h ∙ part-at p 510 d k h ∙ sym (part-at p 512 d k (omega arith))
-          ∙ ap (λ (j : ℕ). getD (part p 512 d) j 0) (omega arith) ∙ sym (block-byte (part p 512 d) 0 t u k h)
-
-      at : (k : ℕ) → k < 512 → getD y k 0 ≡ getD (block (part p 512 d) 0 t u) k 0
-      at k h =
-          ⊎-elim (payload k)
-          (λ (m : 510 ≤ k).
-          ⊎-elim
-          (λ (w : k < 511).
-          let z : k ≡ 510 = omega arith in
-          rw z (ap (λ (y : List ℕ). getD y 510 0) q ∙ put-in x 510 (t ∷ u ∷ []) 0 (omega arith) (omega (arith, xl)) ∙ sym (block-track (part p 512 d) 0 t u)))
-          (λ (w : 511 ≤ k).
-          let z : k ≡ 511 = omega arith in
-          rw z (ap (λ (y : List ℕ). getD y 511 0) q ∙ put-in x 510 (t ∷ u ∷ []) 1 (omega arith) (omega (arith, xl)) ∙ sym (block-sector (part p 512 d) 0 t u)))
-          (below-or-not k 511))
-          (below-or-not k 510)
-
-  pub held-of : (p′ : ℕ) → p ≡ p′ → (w x y : List ℕ) → w ≡ part p 510 d → x ≡ put (replicate 512 0) 0 w → y ≡ put x 510 (t ∷ u ∷ []) → y ≡ block (part p′ 512 d) 0 t u
-  held-of p′ i w x y a b c =
-      held-is (replicate 512 0) x y (length-replicate {A = ℕ} 512 0) (b ∙ ap (put (replicate 512 0) 0) a)
-      (λ k. ⊎-elim (λ (l : k < 512). getD-replicate 512 k 0 0 l)
-      (λ (l : 512 ≤ k). past-end (replicate 512 0) k (omega (arith, length-replicate {A = ℕ} 512 0))) (below-or-not k 512)) c
-      ∙ ap (λ (p : ℕ). block (part p 512 d) 0 t u) i
-
-pub put-there : (d e h x : List ℕ) (p q : ℕ) → h ≡ x → p ≡ q → e ≡ put d p h → e ≡ put d q x
-put-there d e h x p q a b c = c ∙ ap₂ (put d) b a
+  pub sector-is : (t u : ℕ) (x y : List ℕ) → x ≡ put d q (part p 510 d) → y ≡ put x (q + 510) (t ∷ u ∷ []) → y ≡ put d (placeOrEnd to) (block (part (placeOrEnd from) 512 d) 0 t u)
+  sector-is t u x y e f =
+      let l : length (part p 510 d) ≡ 510 = part-long p 510 d (places-are .source) in
+      f ∙ ap₂ (λ (x : List ℕ) (n : ℕ). put x (q + n) (t ∷ u ∷ [])) e (sym l) ∙ put-append d q (part p 510 d) (t ∷ u ∷ [])
+      ∙ ap (put d q) (block-is d p t u (omega (arith, place-from, place-inside from (s .source), s .size)))
+      ∙ ap₂ (λ (p q : ℕ). put d q (block (part p 512 d) 0 t u)) a b
 
 -- ---- the move
 
@@ -147,6 +180,15 @@ module _ (d : List ℕ) (i b : ℕ) (s : Movable d i b) (e : List ℕ) (bit k : 
 
     pub bit-small : bit < 1560
     bit-small = map-small (slotOr d i) bit own
+
+    -- it is none of the run
+    pub two-bits : TwoBits (length e) bit (b + k)
+    two-bits = record {
+      size = w .long ∙ s .long;
+      source = bit-small;
+      target = omega (arith, s .small);
+      other = λ z. ⊎-elim (λ (v : bit < b). omega arith) (λ (v : b + n ≤ bit). omega arith) (s .apart bit own);
+    }
 
     -- it is read as it was
     source-kept : part (placeOrEnd bit) 512 e ≡ part (placeOrEnd bit) 512 d
@@ -203,6 +245,9 @@ module _ (d : List ℕ) (i b : ℕ) (s : Movable d i b) (e : List ℕ) (bit k : 
 
   -- the same with the count as the code has it
   module _ (m : ℕ) (c : m ≡ countIn d i) where
+    pub turn-bits : k < m → TwoBits (length e) bit (b + k)
+    turn-bits h = two-bits (omega arith)
+
     pub moving-turn : k < m → (p t u x : ℕ) → p ≡ placeOrEnd bit → t ≡ getD e (p + 510) 0 → u ≡ getD e (p + 511) 0 → x ≡ bitOf t u
         → (link : Link) → link ≡ linkOf (m - (k + 1)) (b + (k + 1)) → (next : List ℕ)
         → next ≡ put e (placeOrEnd (b + k)) (block (part (placeOrEnd bit) 512 e) 0 (link .track) (link .sector)) → Moving d i b next x (k + 1)

@@ -46,3 +46,16 @@ pub record Movable (d : List ℕ) (i b : ℕ) : Type 0 where
   pub chain : Chained d (slotOr d i)
   pub small : b + countIn d i ≤ 1560
   pub apart : (c : ℕ) → has (mapOf (slotOr d i)) c ≡ true → (c < b) ⊎ (b + countIn d i ≤ c)
+
+-- the 510 bytes from two places on lie in an image of so many bytes, and share none
+pub record Apart (long from to : ℕ) : Type 0 where
+  pub source : from + 510 ≤ long
+  pub target : to + 510 ≤ long
+  pub apart : (from + 510 ≤ to) ⊎ (to + 510 ≤ from)
+
+-- two map bits of an image of so many bytes
+pub record TwoBits (long from to : ℕ) : Type 0 where
+  pub size : long ≡ imageSize
+  pub source : from < 1560
+  pub target : to < 1560
+  pub other : from ≡ to → ⊥

@@ -14,7 +14,7 @@ ghost use Rattle.plans.specs.Gathering.{scattered, upFrom};
 ghost use Rattle.plans.specs.Gathered.{runSectors};
 ghost use Rattle.plans.specs.Plan.{gatherSteps};
 ghost use Rattle.changes.specs.Settled.{Returns};
-ghost use Rattle.gathers.specs.Moving.{Chained, Movable, fileIn, countIn, dataOf, linkOf};
+ghost use Rattle.gathers.specs.Moving.{Chained, Movable, Apart, TwoBits, fileIn, countIn, dataOf, linkOf};
 ghost use Rattle.gathers.specs.Call.{Held, Placed, sectorsOf, ends, settling, gathering, Fit, barring};
 use directory::Found;
 use geometry::Address;
@@ -66,28 +66,28 @@ fn is_scattered(image: &[u8], s: &[u8]) -> bool
     false
 }
 
-// The sector at bit `from` with another link.
-fn sector_of(image: &[u8], from: usize, link: Link) -> [u8; 512]
-    ensures { λ r. ⌜ r ≡ block (part (placeOrEnd from) 512 (now (image .entry))) 0 (link .track) (link .sector) ⌝ }
+// Copies 510 bytes of an image to a place apart from them. Neither is lent beside the other, so they go one by one, and the
+// compiler makes runs of them.
+fn copy_payload(image: &mut [u8], from: usize, to: usize)
+    requires { ⌜ Apart (length (now image)) from to ⌝ }
+    ensures { λ _. ⌜ now (image .exit) ≡ put (now (image .entry)) to (part from 510 (now (image .entry))) ⌝ }
 {
-    let mut held = [0u8; 512];
-    buffers::copy_into(
-        &mut held,
-        0,
-        buffers::part_at(image, geometry::bit_place(from), 510),
-    );
-    let last = [link.track, link.sector];
-    buffers::copy_into(&mut held, 510, &last);
-    held
+    let mut j: usize = 0;
+    while j < 510 {
+        image[to + j] = image[from + j];
+        j += 1;
+    }
 }
 
-// Copies the payload of the sector at bit `from` to bit `to`, with another link. An image is not lent twice: the sector goes
-// through an array.
+// Copies the payload of the sector at bit `from` to bit `to`, with another link.
 fn move_sector(image: &mut [u8], from: usize, to: usize, link: Link)
+    requires { ⌜ TwoBits (length (now image)) from to ⌝ }
     ensures { λ _. ⌜ now (image .exit) ≡ put (now (image .entry)) (placeOrEnd to) (block (part (placeOrEnd from) 512 (now (image .entry))) 0 (link .track) (link .sector)) ⌝ }
 {
-    let held = sector_of(image, from, link);
-    buffers::copy_into(image, geometry::bit_place(to), &held);
+    let at = geometry::bit_place(to);
+    copy_payload(image, geometry::bit_place(from), at);
+    let last = [link.track, link.sector];
+    buffers::copy_into(image, at + 510, &last);
 }
 
 // The link to the first of the `n` bits from `b` on; 0, 0 where there is none.

@@ -162,7 +162,7 @@ module _ (l : Look) (w : Sound l) (i : ℕ) (f : File) (h : i < slots) (e : l .f
       (none-share (leftMap l i) (mapOf (f .bytes)) (λ b k p q. true≢false (sym p ∙ unused b q)))
       ∙ ap (λ (c : ℕ). bitsOf (leftMap l i) + c) (w .good i f h e .bits)
 
-  freed-count : free (extra (upd l i none)) (slotsOf (upd l i none)) ≡ free (extra l) (slotsOf l) + countOf (f .bytes)
+  pub freed-count : free (extra (upd l i none)) (slotsOf (upd l i none)) ≡ free (extra l) (slotsOf l) + countOf (f .bytes)
   unfolding free freeOf usedMap counted bitsOf
   freed-count =
       omega (

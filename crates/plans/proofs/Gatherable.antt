@@ -17,19 +17,18 @@ use Rattle.chains.specs.File.{File}
 use Rattle.directory.specs.Directory.{held}
 use Rattle.disk.specs.Look.{Look, look, slotsOf, extra}
 use Rattle.disk.specs.Check.{checkDisk}
-use Rattle.disk.specs.Sound.{HasSectors}
 use Rattle.files.specs.Calls.{fileNamed}
-use Rattle.files.specs.Asked.{someNamed, slotNamed, row12, row15, row20, by-check, by-row}
+use Rattle.files.specs.Asked.{row15, row20, by-check, by-row}
 use Rattle.plans.specs.Change.{gather}
 use Rattle.plans.specs.Gathering.{scattered, upFrom, lowestRun}
-use Rattle.plans.specs.Plan.{oldName, stopped, made, run}
+use Rattle.plans.specs.Plan.{stopped, made, run}
 use Rattle.plans.specs.Refused.{gatherRow13, row32, gatherLong, changeRows, Refuses, Accepts}
 use Rattle.plans.specs.Accepted.{Named}
 use Rattle.plans.specs.Gathered.{InOrder, FreeRun, NoRun, Moves, Gatherable}
 use Rattle.plans.proofs.Frame.{disk-sound}
 use Rattle.plans.proofs.Runs.{no-run, run-few, in-order, not-order}
 use Rattle.plans.proofs.Sure.{not-directory}
-use Rattle.plans.proofs.Moved.{gather-numbers, gather-long}
+use Rattle.plans.proofs.Moved.{has-sectors, gather-numbers, gather-long}
 use Rattle.plans.proofs.Effect.{Shifted, gathers}
 use Rattle.plans.proofs.Demand3.{run-room}
 use Rattle.plans.proofs.Refused.{refused-exactly, accepted-exactly}
@@ -96,7 +95,7 @@ module _ (d n : List ℕ) (room : ℕ) (ok : checkDisk d ≡ none) (name : askab
     count = countOf (f .bytes)
 
     some-sectors : 1 ≤ count
-    some-sectors = ⊎-elim (λ a. absurd (kind (a .0))) (λ a. a .1 .some-sectors) (disk-sound d ok .good i f (found .below) (found .here) .sectors)
+    some-sectors = has-sectors d (disk-sound d ok) i f (found .here) kind .some-sectors
 
     not-13 : gatherRow13 l n .holds ≡ false
     not-13 = row13-is ∙ no-directory (f .bytes) kind

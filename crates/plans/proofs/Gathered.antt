@@ -1,56 +1,59 @@
 -- An accepted gather: every answer stays, the file lies in order on the lowest run, and it is left when gathered again.
 use Prim.Native.Nat.{ℕ, _+_, _*_, _/_, _%_, _≤_, _<_}
-use mathlib.Core.Path.{_≡_, refl, sym, ap, ap₂, _∙_, subst, subst₂}
-use mathlib.Core.Bool.{Bool, true, false}
-use mathlib.Core.List.{List, [], _∷_, _++_}
+use mathlib.Core.Path.{_≡_, refl, sym, ap, ap₂, _∙_, subst}
+use mathlib.Core.Bool.{Bool, true, false, cond}
+use mathlib.Core.List.{List, []}
 use mathlib.Core.Logic.{_⊎_, inl, inr, ⊎-elim}
-use mathlib.Core.Option.{none, some}
+use mathlib.Core.Option.{Option, none, some, Option·some-injective}
+use native.Mathlib.Decide.{ℕ-discrete}
 use native.Mathlib.Omega.{arith}
 use borrow.Author.Tests.{le-ltb}
+use lib.Dec.{eqb}
 use lib.ListN.{length, getD}
-use Rattle.buffers.specs.Bytes.{tab, put}
+use Rattle.buffers.specs.Bytes.{tab}
 use Rattle.buffers.proofs.Lists.{below-or-not, tab-cong, length-part, put-before, put-after}
 use Rattle.maps.specs.Bits.{has}
-use Rattle.slots.specs.Slot.{spectrum, directoryKind, isDirectory, nameOf, kindOf, countOf, firstOf, mapOf, pageOf, offsetOf, facts, lengthOf}
+use Rattle.slots.specs.Slot.{spectrum, directoryKind, isDirectory, nameOf, kindOf, countOf, firstOf, mapOf, pageOf, offsetOf, facts}
 use Rattle.names.specs.Name.{askable, padded}
 use Rattle.names.proofs.Names.{same-of}
 use Rattle.chains.specs.File.{File, sectorAt}
 use Rattle.chains.specs.Chain.{linked}
-use Rattle.chains.specs.Whole.{Whole}
-use Rattle.chains.proofs.Laws.{sectors-else}
-use Rattle.headers.specs.Header.{headerLength, headerStart, bodyByte, fileLength, body}
+use Rattle.chains.proofs.Laws.{sectors-else, map-small}
+use Rattle.headers.specs.Header.{bodyByte, fileLength, body}
 use Rattle.directory.specs.Places.{slotAt}
-use Rattle.directory.specs.Directory.{held}
+use Rattle.directory.specs.Directory.{held, tracksOf, directory}
+use Rattle.surveys.specs.Survey.{free}
 use Rattle.disk.specs.Look.{Look, look, slotsOf, extra}
+use Rattle.disk.proofs.Look.{look-slots, look-extra}
 use Rattle.disk.specs.Check.{checkDisk}
 use Rattle.disk.specs.Sound.{Sound}
 use Rattle.files.specs.Calls.{noFile, fileAt, address, startOf}
-use Rattle.steps.specs.Sectors.{sector, listed}
+use Rattle.steps.specs.Sectors.{listed}
 use Rattle.steps.specs.Steps.{enact, numbers}
 use Rattle.steps.proofs.Sectors.{at-sector}
 use Rattle.steps.proofs.Steps.{goes-long, goes-other}
 use Rattle.plans.specs.Change.{gather}
-use Rattle.plans.specs.Saving.{freeBit, chained}
+use Rattle.plans.specs.Saving.{freeBit}
 use Rattle.plans.specs.Gathering.{scattered, upFrom, payloadOf, placed}
 use Rattle.plans.specs.Plan.{upd, dataSteps, gatherSteps, movePlan, planOf, made, run}
 use Rattle.plans.specs.Accepted.{Named}
-use Rattle.plans.specs.After.{SameAnswers, Outside}
-use Rattle.plans.specs.Gathered.{InOrder, LowestRun, runSectors, MovedTo, Left, AfterGather}
-use Rattle.plans.proofs.Frame.{disk-sound, holds, holds-long, holds-sector}
-use Rattle.plans.proofs.Kept.{sound-long}
+use Rattle.plans.specs.After.{SameAnswers}
+use Rattle.plans.specs.Gathered.{InOrder, runSectors, MovedTo, AfterGather}
+use Rattle.plans.proofs.Frame.{disk-sound, upd-other, extra-upd, holds, holds-long, holds-sector}
+use Rattle.plans.proofs.Kept.{sound-apart, sound-long}
 use Rattle.plans.proofs.Named.{found-here}
-use Rattle.plans.proofs.Free.{Run}
-use Rattle.plans.proofs.Runs.{up-long, up-at, up-listed, free-rises, in-order, not-order}
+use Rattle.plans.proofs.Free.{Run, unused-free}
+use Rattle.plans.proofs.Runs.{up-long, up-at, up-listed, listed-up, free-rises, in-order, not-order}
 use Rattle.plans.proofs.NewFile.{listed-at, chained-else}
 use Rattle.plans.proofs.Good.{whole-of, chained-along}
-use Rattle.plans.proofs.Laid.{data-numbers, laid-goes}
+use Rattle.plans.proofs.Laid.{data-numbers, laid-unused, laid-goes}
 use Rattle.plans.proofs.Past.{unmapped, whole-past}
-use Rattle.plans.proofs.Moved.{placed-long, gathered, before, after, kind-now, count-now, name-now, length-now, was-sectors, some-bits, now-names, now-byte, now-first, now-linked, now-head, now-map, gather-disk}
+use Rattle.plans.proofs.Moved.{placed-long, gathered, after, kind-now, count-now, name-now, length-now, has-sectors, some-bits, now-names, now-byte, now-first, now-linked, now-head, now-map, gather-disk}
 use Rattle.plans.proofs.Sure.{not-directory}
 use Rattle.plans.proofs.Effect.{Shifted, Gathers, gathers}
 use Rattle.plans.proofs.Demand3.{change-accepted, run-room}
 use Rattle.plans.proofs.Others.{Alike}
-use Rattle.plans.proofs.After.{picked, swap-here, swap-answers, swap-find}
+use Rattle.plans.proofs.After.{freed-count, picked, swap-here, swap-answers, swap-find}
 
 -- ---- reading it
 
@@ -72,7 +75,7 @@ module _ (d : List ℕ) (w : Sound (look d)) (i : ℕ) (f : File) (e : look d .f
   was-past : (k : ℕ) → length bs ≤ k → linked (f .sectors) (firstOf (f .bytes)) k ≡ 1560
   unfolding facts
   was-past k h =
-      let s = was-sectors d w i f e other bs r n in
+      let s = has-sectors d w i f e other in
       whole-past (facts (f .bytes)) (f .sectors) (s .some-sectors) (omega (arith, length-part 15 195 (f .bytes))) (s .chain) was-none k (omega (arith, n))
 
   now-past : (k : ℕ) → length bs ≤ k → linked (now .sectors) (firstOf (now .bytes)) k ≡ 1560
@@ -133,6 +136,15 @@ left-alone d n ok a i f w q s room =
     rw (ok, a, found-here (look d) (disk-sound d ok) n i f (w .below) (w .here) (w .name), z, q, s, le-ltb room 0 (omega arith))
 
 -- ---- a file that has moved
+
+-- a slot of a look changed twice
+upd-again : (l : Look) (i : ℕ) (o p : Option File) → upd (upd l i o) i p ≡ upd l i p
+unfolding upd
+upd-again l i o p = λ z. record { long = l .long; label = l .label; files = λ j. by j (eqb j i) z }
+  where
+    by : (j : ℕ) (t : Bool) → cond t p (cond t o (l .files j)) ≡ cond t p (l .files j)
+    by j true = refl
+    by j false = refl
 
 module _ (d n : List ℕ) (ok : checkDisk d ≡ none) (new ss : List ℕ) (i : ℕ) (f : File) (found : Named d n i f) (other : kindOf (f .bytes) ≡ 21 → ⊥)
     (a : Shifted d i f new ss) where
@@ -203,8 +215,34 @@ module _ (d n : List ℕ) (ok : checkDisk d ≡ none) (new ss : List ℕ) (i : �
       ap (λ (x : List ℕ). getD x j 0) (holds-sector new i then here (a .bit + k) v) ∙ ap (λ (x : ℕ). getD (then .sectors x) j 0) (sym b)
       ∙ now-byte d ds i f (found .here) other bs rises many k u j q
 
-  moved-to : MovedTo d n i f (a .bit) new ss
-  moved-to = record {
+  -- its old sectors are free
+  freed : checkDisk new ≡ none → (c : ℕ) → has (mapOf (f .bytes)) c ≡ true → freeBit (tracksOf new) (directory new) c ≡ true
+  freed now c m =
+      rw (← look-slots new, ← look-extra new)
+      (unused-free new c
+      (rw (sym (look-extra new) ∙ ap extra (a .seen) ∙ extra-upd (look d) i (some then)) (ds .good i f (found .below) (found .here) .data-bits c m))
+      (λ j g q u. by j g q u (ℕ-discrete j i)))
+    where
+      by : (j : ℕ) (g : File) → look new .files j ≡ some g → has (mapOf (g .bytes)) c ≡ true → Dec (j ≡ i) → ⊥
+      by j g q u (yes z) =
+          let e : then ≡ g = Option·some-injective then g (sym here ∙ ap (look new .files) (sym z) ∙ q) in
+          laid-unused d ds (payloadOf f) bs rises c i f
+          (sym (now-map d ds i f (found .here) other bs rises many c) ∙ ap (λ (x : File). has (mapOf (x .bytes)) c) e ∙ u) (found .here) m
+      by j g q u (no z) =
+          let s : look d .files j ≡ some g = sym (upd-other (look d) i (some then) j z) ∙ ap (λ (l : Look). l .files j) (sym (a .seen)) ∙ q in
+          sound-apart (look d) ds i j f g (found .below) (holds d j g s .here) z (found .here) s .sectors c (map-small (f .bytes) c m) u m
+
+  as-many : checkDisk new ≡ none → free (tracksOf new) (directory new) ≡ free (tracksOf d) (directory d)
+  as-many now =
+      let was = freed-count (look d) ds i f (found .below) (found .here) in
+      let is = freed-count (look new) (disk-sound new now) i then (found .below) here in
+      let e : upd (look new) i none ≡ upd (look d) i none = ap (λ (l : Look). upd l i none) (a .seen) ∙ upd-again (look d) i (some then) none in
+      let same : free (extra (upd (look new) i none)) (slotsOf (upd (look new) i none)) ≡ free (extra (upd (look d) i none)) (slotsOf (upd (look d) i none)) =
+      ap (λ (l : Look). free (extra l) (slotsOf l)) e in
+      rw (← look-slots new, ← look-slots d, ← look-extra new, ← look-extra d) (omega (arith, was, is, same, count-is))
+
+  moved-to : checkDisk new ≡ none → MovedTo d n i f (a .bit) new ss
+  moved-to now-ok = record {
     must = not-order f (a .must);
     lowest = a .lowest;
     long = ap length (a .disk) ∙ goes-long (gatherSteps (look d) i f bs) d;
@@ -219,7 +257,12 @@ module _ (d n : List ℕ) (ok : checkDisk d ≡ none) (new ss : List ℕ) (i : �
     first = first-is;
     count = count-is;
     order = ordered;
-    bits = λ c u. up-listed count (a .bit) c (sym (now-map d ds i f (found .here) other bs rises many c) ∙ u);
+    bits = λ c. (
+      λ u. up-listed count (a .bit) c (sym (now-map d ds i f (found .here) other bs rises many c) ∙ u),
+      λ u. now-map d ds i f (found .here) other bs rises many c ∙ listed-up count (a .bit) c (u .0) (u .1),
+    );
+    freed = freed now-ok;
+    as-many = as-many now-ok;
     sectors = a .sectors;
   }
 
@@ -262,7 +305,7 @@ after-gather d n room new ss e = by (t .done)
       file = t .file;
       found = t .found;
       kind = other;
-      done = inr (a .bit, moved-to d n ok new ss (t .slot) (t .file) (t .found) other a);
+      done = inr (a .bit, moved-to d n ok new ss (t .slot) (t .file) (t .found) other a now);
       answers = kept d n ok new ss (t .slot) (t .file) (t .found) other a now;
       again = again d n ok new ss (t .slot) (t .file) (t .found) other a now (t .askable-name) (t .no-directory);
     }

@@ -13,7 +13,7 @@ use Rattle.slots.specs.Slot.{mapOf}
 use Rattle.slots.specs.Tracks.{dataBit}
 use Rattle.chains.specs.File.{File, sectorAt, sectorsOf}
 use Rattle.directory.specs.Directory.{tracksOf}
-use Rattle.disk.specs.Look.{Look, look, slotsOf, extra}
+use Rattle.disk.specs.Look.{look, slotsOf, extra}
 use Rattle.disk.specs.Sound.{Sound}
 use Rattle.disk.proofs.Look.{look-extra}
 use Rattle.steps.specs.Sectors.{listed}
@@ -22,7 +22,7 @@ use Rattle.plans.specs.Saving.{freeBit, nextTrack, nextSector, chained, 
 use Rattle.plans.specs.Plan.{dataSteps}
 use Rattle.plans.proofs.Free.{Run, run-listed, run-once, free-data, free-unused}
 use Rattle.plans.proofs.NewFile.{has-mapWith, length-block, chained-here, chained-later, chained-else}
-use Rattle.plans.proofs.Blocks.{Block, blocks, bitsIn, dataBlocks, data-are, AllFit, Spare, blocks-goes, blocks-commits, Among, blocks-in}
+use Rattle.plans.proofs.Blocks.{blocks, bitsIn, dataBlocks, data-are, AllFit, Spare, blocks-goes, blocks-commits, Among, blocks-in}
 
 pub data-numbers : (st : List ℕ) (f : ℕ) (bs : List ℕ) → numbers (dataSteps st f bs) ≡ map bitNumber bs
 unfolding dataSteps numbers

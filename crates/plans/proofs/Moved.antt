@@ -1,5 +1,5 @@
 -- A gathered file is good and reads as it did, and its steps do what they say, on every sound disk.
-use Prim.Native.Nat.{ℕ, suc, _+_, _*_, _/_, _%_, _≤_, _<_}
+use Prim.Native.Nat.{ℕ, _+_, _*_, _/_, _%_, _≤_, _<_}
 use mathlib.Core.Path.{_≡_, refl, sym, ap, ap₂, _∙_, subst, subst₂}
 use mathlib.Core.Bool.{Bool, true, false, cond, false≢true}
 use mathlib.Core.List.{List, [], _∷_, _++_, map}
@@ -10,30 +10,27 @@ use borrow.Author.Tests.{ltb-true}
 use lib.Dec.{eqb, ltb}
 use lib.ListN.{length, getD, length-append, length-map}
 use lib.Seq.{take-all}
-use Rattle.buffers.specs.Bytes.{tab, part, put}
-use Rattle.buffers.proofs.Lists.{below-or-not, tab-cong, getD-tab, length-part, part-part, part-put, part-put-before, put-in, put-before, put-after}
+use Rattle.buffers.specs.Bytes.{part, put}
+use Rattle.buffers.proofs.Lists.{tab-cong, getD-tab, part-part, part-put, part-put-before, put-in, put-before, put-after}
 use Rattle.geometry.specs.Disk.{bitNumber}
 use Rattle.maps.specs.Bits.{has}
-use Rattle.slots.specs.Slot.{isLive, isNameless, spectrum, nameOf, kindOf, countOf, firstOf, mapOf, pageOf, offsetOf, remainderOf, pagesOf, facts, lengthOf}
+use Rattle.slots.specs.Slot.{isLive, nameOf, kindOf, countOf, firstOf, mapOf, remainderOf, pagesOf, facts, lengthOf}
 use Rattle.slots.proofs.Tracks.{label-high}
 use Rattle.names.proofs.Names.{same-to}
 use Rattle.chains.specs.File.{File, sectorsOf}
 use Rattle.chains.specs.Chain.{linked}
-use Rattle.chains.proofs.Laws.{sectors-else}
-use Rattle.headers.specs.Header.{headerLength, headerStart, firstSector, bodyByte, fileLength, body}
 use Rattle.directory.specs.Places.{slots, slotAt, slotBytes, dirSector}
 use Rattle.directory.specs.Directory.{slotsIn}
 use Rattle.directory.proofs.Ends.{seen-is}
 use Rattle.disk.specs.Look.{Look, look, slotsOf, extra}
-use Rattle.disk.specs.Sound.{Carried, Agrees, HasSectors, GoodFile, Sound}
-use Rattle.files.specs.Calls.{address, startOf}
+use Rattle.disk.specs.Sound.{HasSectors, GoodFile, Sound}
 use Rattle.steps.specs.Sectors.{listed, Once}
 use Rattle.steps.specs.Steps.{Step, enact, numbers, commits, lastOf, Goes}
 use Rattle.steps.proofs.Steps.{numbers-append, commits-append, goes-look}
 use Rattle.plans.specs.Saving.{freeBit, block, chained, mapWith}
 use Rattle.plans.specs.Gathering.{upFrom, payloadOf, placed}
 use Rattle.plans.specs.Plan.{upd, entryOf, slotStep, dataSteps, endSteps, endPuts, gatherSteps}
-use Rattle.plans.proofs.Frame.{entry-live, Holds, holds, holds-long, holds-named, Reach, reach-read}
+use Rattle.plans.proofs.Frame.{entry-live, Holds, holds, holds-long, holds-named, reach-read}
 use Rattle.plans.proofs.Kept.{Apart, sound-apart, sound-long}
 use Rattle.plans.proofs.Free.{Run, free-data}
 use Rattle.plans.proofs.Runs.{up-long}
@@ -55,7 +52,7 @@ module _ (f : File) where
   payload-byte j k h q =
       let a : (510 * j + k) / 510 ≡ j = omega arith in
       let b : (510 * j + k) % 510 ≡ k = omega arith in
-      getD-tab (510 * countOf (f .bytes)) (λ k. getD (along (k / 510)) (k % 510) 0) (510 * j + k) (omega arith) ∙ ap₂ (λ (j k : ℕ). getD (along j) k 0) a b
+      getD-tab _ (λ k. getD (along (k / 510)) (k % 510) 0) (510 * j + k) (omega arith) ∙ ap₂ (λ (j k : ℕ). getD (along j) k 0) a b
 
   -- its j-th sector is that one, with other links
   pub payload-block : (j t s : ℕ) → j < countOf (f .bytes)
@@ -124,6 +121,10 @@ module _ (f : File) (bs : List ℕ) (long : length (f .bytes) ≡ 256) where
 
 -- ---- on free bits of a sound disk
 
+-- a file of another kind than 21 has sectors
+pub has-sectors : (d : List ℕ) → Sound (look d) → (i : ℕ) (f : File) → look d .files i ≡ some f → (kindOf (f .bytes) ≡ 21 → ⊥) → HasSectors f
+has-sectors d w i f e other = ⊎-elim (λ a. absurd (other (a .0))) (λ a. a .1) (w .good i f (holds d i f e .here) e .sectors)
+
 module _ (d : List ℕ) (w : Sound (look d)) (i : ℕ) (f : File) (e : look d .files i ≡ some f) (other : kindOf (f .bytes) ≡ 21 → ⊥)
     (bs : List ℕ) (r : Run (freeBit (extra (look d)) (slotsOf (look d))) 0 bs) (n : length bs ≡ countOf (f .bytes)) where
   abbrev free : ℕ → Bool
@@ -145,11 +146,8 @@ module _ (d : List ℕ) (w : Sound (look d)) (i : ℕ) (f : File) (e : look d .f
   was : GoodFile (extra (look d)) f
   was = w .good i f (own .here) e
 
-  pub was-sectors : HasSectors f
-  was-sectors = ⊎-elim (λ a. absurd (other (a .0))) (λ a. a .1) (was .sectors)
-
   pub some-bits : 1 ≤ length bs
-  some-bits = omega (arith, n, was-sectors .some-sectors)
+  some-bits = omega (arith, n, has-sectors d w i f e other .some-sectors)
 
   pub now-names : Names (now .bytes) bs
   now-names = names f bs long n

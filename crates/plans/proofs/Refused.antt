@@ -1,43 +1,25 @@
 -- A change is refused exactly when the check refuses the disk or a row holds that has none before it, and a refused call changes nothing lent.
-use Prim.Native.Nat.{ℕ, suc, _+_, _<_}
+use Prim.Native.Nat.{ℕ}
 use mathlib.Core.Path.{_≡_, refl, sym, ap, _∙_, subst}
-use mathlib.Core.Bool.{Bool, true, false, cond, not, _&&_, _||_, true≢false}
-use mathlib.Core.List.{List, [], _∷_, map}
+use mathlib.Core.Bool.{Bool, true}
+use mathlib.Core.List.{List, [], _∷_}
 use mathlib.Core.Logic.{_⊎_, inl, inr, ⊎-elim, _≢_, _↔_}
-use mathlib.Core.Option.{Option, none, some, Option·some-ne-none}
+use mathlib.Core.Option.{none, some}
 use native.Mathlib.Omega.{arith}
-use borrow.Author.Tests.{ltb-true, ltb-false, le-leb, lt-leb}
-use lib.Dec.{leb, ltb}
-use lib.ListN.{length, getD, length-append, length-map}
-use Rattle.buffers.proofs.Counts.{any-some, none-any}
-use Rattle.geometry.specs.Disk.{bitNumber}
-use Rattle.refusals.specs.Order.{Refusal, refuse, Reply, _else_, row, SlotRow, rowAt, NoRow, FirstOf, bare, rises, Lowest}
+use lib.ListN.{length}
+use Rattle.refusals.specs.Order.{Refusal, Reply, SlotRow, FirstOf, bare, rises, Lowest}
 use Rattle.refusals.proofs.Lowest.{slot-lowest, slot-positive}
-use Rattle.refusals.specs.Answers.{done, refused, filled}
+use Rattle.refusals.specs.Answers.{refused}
 use Rattle.refusals.proofs.First.{first-same, first-none}
-use Rattle.slots.specs.Slot.{protected, carried, nameOf, sectorsFor}
-use Rattle.names.specs.Name.{sameName, askable, padded}
-use Rattle.chains.specs.File.{File}
-use Rattle.directory.specs.Places.{slotCount, slots}
-use Rattle.directory.specs.Directory.{held}
-use Rattle.surveys.specs.Survey.{free}
-use Rattle.directory.specs.Find.{find}
-use Rattle.directory.proofs.Search.{find-some, find-none}
-use Rattle.disk.specs.Look.{Look, look, slotsOf, extra}
-use Rattle.disk.specs.Check.{checkLook, checkDisk}
-use Rattle.disk.specs.Sound.{Sound}
+use Rattle.names.specs.Name.{askable}
+use Rattle.disk.specs.Look.{Look, look}
+use Rattle.disk.specs.Check.{checkDisk}
 use Rattle.disk.proofs.Order.{check-positive}
-use Rattle.files.specs.Calls.{noFile, fileAt, fileNamed, entries, listLook, readReply, readLook, listing, reading}
+use Rattle.files.specs.Calls.{fileNamed}
 use Rattle.files.specs.Asked.{row12, row15, row20, by-check, by-row}
-use Rattle.files.proofs.Asked.{some-named, none-named, outside-is}
-use Rattle.steps.specs.Steps.{Step, enact, numbers}
-use Rattle.steps.proofs.Steps.{length-numbers}
-use Rattle.trees.specs.Tree.{occupied}
 use Rattle.plans.specs.Change.{Change, save, erase, rename, mark, gather}
-use Rattle.plans.specs.Saving.{taken, lowestSlot, slotTaken}
 use Rattle.plans.specs.Plan.{oldName, planOf, Result, stopped, made, settle, checked, run, changedBy, change}
 use Rattle.plans.specs.Refused.{row17, row29, gatherRow13, row32, gatherLong, changeRows, Ahead, byNumber, Refuses, Passes, Accepts}
-use Rattle.plans.specs.Accepted.{many}
 use Rattle.plans.proofs.Frame.{disk-sound}
 use Rattle.plans.proofs.Rows.{Settled, stops, goes, settled}
 

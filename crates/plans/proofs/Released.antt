@@ -16,7 +16,7 @@ use Rattle.slots.specs.Slot.{isLive, kindOf, countOf, facts, lengthOf}
 use Rattle.names.specs.Name.{padded}
 use Rattle.slots.proofs.Least.{sectors-few}
 use Rattle.chains.specs.File.{File}
-use Rattle.disk.specs.Look.{Look, look, slotsOf}
+use Rattle.disk.specs.Look.{Look, look}
 use Rattle.disk.specs.Check.{checkDisk, checkRelease}
 use Rattle.disk.specs.Release.{LeanFile, Lean}
 use Rattle.disk.proofs.Release.{release-accepts, release-exactly}

@@ -1,33 +1,25 @@
 -- Each plan by its rows: what it gives is the first row that holds, or none holds.
-use Prim.Native.Nat.{ℕ, suc, _+_, _<_}
+use Prim.Native.Nat.{ℕ, suc, _+_}
 use mathlib.Core.Path.{_≡_, refl, sym, ap, _∙_, subst}
-use mathlib.Core.Bool.{Bool, true, false, cond, not, _&&_, _||_, true≢false}
-use mathlib.Core.List.{List, [], _∷_, map}
-use mathlib.Core.Logic.{_⊎_, inl, inr, ⊎-elim, _≢_, _↔_}
-use mathlib.Core.Option.{Option, none, some, Option·some-ne-none}
-use native.Mathlib.Omega.{arith}
-use borrow.Author.Tests.{ltb-true, ltb-false, le-leb, lt-leb}
+use mathlib.Core.Bool.{Bool, true, false, cond, not, _&&_}
+use mathlib.Core.List.{List, [], _∷_}
+use mathlib.Core.Logic.{inl, inr}
+use mathlib.Core.Option.{Option, none, some}
+use borrow.Author.Tests.{ltb-false}
 use lib.Dec.{leb, ltb}
-use lib.ListN.{length, getD, length-append, length-map}
+use lib.ListN.{length, getD}
 use Rattle.buffers.proofs.Counts.{any-some, none-any}
-use Rattle.geometry.specs.Disk.{bitNumber}
-use Rattle.refusals.specs.Order.{Refusal, refuse, Reply, _else_, row, SlotRow, rowAt, NoRow, FirstOf, bare, rises, Lowest}
-use Rattle.refusals.proofs.Lowest.{slot-lowest, slot-positive}
-use Rattle.refusals.specs.Answers.{done, refused, filled}
-use Rattle.refusals.proofs.First.{first-same, first-none}
+use Rattle.refusals.specs.Order.{Refusal, refuse, Reply, _else_, row, SlotRow, rowAt, NoRow, FirstOf}
 use Rattle.slots.specs.Slot.{protected, carried, isDirectory, countOf, sectorsFor}
-use Rattle.names.specs.Name.{sameName, askable, padded}
+use Rattle.names.specs.Name.{askable, padded}
 use Rattle.chains.specs.File.{File}
-use Rattle.directory.specs.Places.{slotCount, slots}
+use Rattle.directory.specs.Places.{slotCount}
 use Rattle.directory.specs.Directory.{held}
 use Rattle.surveys.specs.Survey.{free}
 use Rattle.directory.specs.Find.{find}
-use Rattle.directory.proofs.Search.{find-some, find-none}
-use Rattle.disk.specs.Look.{Look, look, slotsOf, extra}
-use Rattle.disk.specs.Check.{checkLook, checkDisk}
+use Rattle.disk.specs.Look.{Look, slotsOf, extra}
 use Rattle.disk.specs.Sound.{Sound}
-use Rattle.disk.proofs.Order.{check-positive}
-use Rattle.files.specs.Calls.{noFile, fileAt, fileNamed, entries, listLook, readReply, readLook, listing, reading}
+use Rattle.files.specs.Calls.{noFile, fileAt, fileNamed}
 use Rattle.files.specs.Asked.{someNamed, slotNamed, startOutside, row15, row20}
 use Rattle.files.proofs.Asked.{some-named, none-named, outside-is}
 use Rattle.steps.specs.Steps.{Step, enact, numbers}
@@ -39,7 +31,6 @@ use Rattle.plans.specs.Gathering.{scattered, upFrom, lowestRun}
 use Rattle.plans.specs.Plan.{touch, dirSectors, saveSteps, gatherSteps, Plan, no, go, orNo, byName, takenAt, nameTaken, respells, takenBy, renameTaken, isProtected, isOccupied, saveReply, movePlan, planOf, Result, stopped, made, settle}
 use Rattle.plans.specs.Refused.{someFree, row14, row16, renameRow16, row17, row29, row18, row19, listLong, gatherRow13, row32, gatherLong, changeRows}
 use Rattle.plans.specs.Accepted.{many}
-use Rattle.plans.proofs.Frame.{disk-sound}
 use Rattle.plans.proofs.Free.{lowest-slot, no-slot, taken-long}
 use Rattle.plans.proofs.Saved.{save-long}
 use Rattle.plans.proofs.Moved.{gather-long}

@@ -1,8 +1,8 @@
 -- Consecutive bits: whether a file lies on them in rising order, and the lowest run of them that is free.
-use Prim.Native.Nat.{ℕ, zero, suc, _+_, _≤_, _<_}
-use mathlib.Core.Path.{_≡_, refl, sym, ap, _∙_, subst}
-use mathlib.Core.Bool.{Bool, true, false, cond, not, _&&_, _||_, true≢false, false≢true, and-eq-true-iff}
-use mathlib.Core.List.{List, [], _∷_}
+use Prim.Native.Nat.{ℕ, zero, suc, _+_, _-_, _≤_, _<_}
+use mathlib.Core.Path.{_≡_, refl, sym, ap, _∙_}
+use mathlib.Core.Bool.{Bool, true, false, cond, not, _||_, true≢false, false≢true, and-eq-true-iff}
+use mathlib.Core.List.{List}
 use mathlib.Core.Logic.{_↔_}
 use mathlib.Core.Option.{Option, none, some, Option·some-ne-none, Option·some-injective}
 use native.Mathlib.Nat.{le-of-suc-le-suc, not-suc-le-zero, add-zero}
@@ -10,7 +10,6 @@ use native.Mathlib.Omega.{arith}
 use borrow.Author.Tests.{eqb-true, eq-eqb, not-false}
 use lib.Dec.{eqb}
 use lib.ListN.{length, getD}
-use Rattle.buffers.specs.Bytes.{any}
 use Rattle.buffers.proofs.Counts.{any-none, none-any}
 use Rattle.maps.specs.Bits.{join}
 use Rattle.maps.proofs.Laws.{bits-le, bits-join, none-share}
@@ -28,7 +27,7 @@ use Rattle.plans.specs.Gathering.{scattered, upFrom, runAt, lowestRun}
 use Rattle.plans.specs.Gathered.{InOrder, FreeRun, NoRun, LowestRun}
 use Rattle.plans.proofs.Frame.{holds}
 use Rattle.plans.proofs.Free.{Run, run-listed, free-data, free-unused, unused-free}
-use Rattle.plans.proofs.NewFile.{length-mapWith, has-mapWith, bits-mapWith}
+use Rattle.plans.proofs.NewFile.{length-mapWith, has-mapWith, bits-mapWith, listed-at}
 
 -- ---- the count bits from b on
 
@@ -52,6 +51,11 @@ up-listed (suc count) b c e = by (eqb c b) refl e (up-listed count (suc b) c)
         → (b ≤ c) × (c < b + suc count)
     by true q w k = let z = eqb-true c b q in (omega arith, omega arith)
     by false q w k = let z = k w in (omega arith, omega arith)
+
+pub listed-up : (count b c : ℕ) → b ≤ c → c < b + count → listed c (upFrom count b) ≡ true
+listed-up count b c h k =
+    let e : getD (upFrom count b) (c - b) 0 ≡ c = up-at count b (c - b) (omega arith) ∙ omega arith in
+    ap (λ (x : ℕ). listed x (upFrom count b)) (sym e) ∙ listed-at (upFrom count b) (c - b) (omega (arith, up-long count b))
 
 -- ---- each passes a test
 

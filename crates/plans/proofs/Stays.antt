@@ -10,7 +10,7 @@ use Rattle.names.specs.Name.{Same, askable, padded}
 use Rattle.names.proofs.Names.{same-eq, same-of, same-via}
 use Rattle.chains.specs.File.{File}
 use Rattle.directory.specs.Directory.{directory}
-use Rattle.disk.specs.Look.{look, slotsOf}
+use Rattle.disk.specs.Look.{look}
 use Rattle.disk.specs.Check.{checkDisk}
 use Rattle.plans.specs.Change.{Wish, Change, save, erase, rename, mark, gather}
 use Rattle.plans.specs.Gathering.{upFrom}

@@ -22,11 +22,11 @@ use Rattle.directory.specs.Places.{slotCount, slotBytes, dirSector}
 use Rattle.directory.specs.Directory.{labelOf, tracksOf, slotsIn, isSlot, nameless, endOf, slotsRead, seen}
 use Rattle.directory.proofs.Places.{dir-not-data}
 use Rattle.directory.proofs.Label.{tracks-few, tracks-agree}
-use Rattle.directory.proofs.Ends.{end-some, some-end, none-end, read-in, read-seen, unread, unseen-read, seen-is, unseen-later, unseen-past, unseen-nameless, seen-next, unread-kept}
+use Rattle.directory.proofs.Ends.{end-some, some-end, none-end, read-in, read-seen, unseen-read, seen-is, unseen-later, unseen-past, unseen-nameless, seen-next, unread-kept}
 use Rattle.disk.specs.Look.{look, slotsOf, extra}
 use Rattle.disk.specs.Check.{checkDisk}
 use Rattle.disk.proofs.Look.{look-extra}
-use Rattle.steps.specs.Sectors.{sector, listed, cut}
+use Rattle.steps.specs.Sectors.{listed, cut}
 use Rattle.steps.proofs.Sectors.{listed-append, listed-before, cut-old}
 use Rattle.plans.specs.Change.{Wish, Change, save, erase, rename, mark, gather}
 use Rattle.plans.specs.Gathering.{upFrom}

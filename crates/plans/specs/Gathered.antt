@@ -4,7 +4,7 @@ use Prim.Native.Nat.{ℕ, _+_, _/_, _≤_, _<_}
 use mathlib.Core.Path.{_≡_}
 use mathlib.Core.Bool.{true, false}
 use mathlib.Core.List.{List, [], _∷_, _++_, map}
-use mathlib.Core.Logic.{_⊎_}
+use mathlib.Core.Logic.{_⊎_, _↔_}
 use mathlib.Core.Option.{none}
 use lib.ListN.{length, getD}
 use Rattle.geometry.specs.Disk.{bitNumber}
@@ -15,10 +15,12 @@ use Rattle.names.specs.Name.{askable}
 use Rattle.chains.specs.File.{File, sectorAt}
 use Rattle.chains.specs.Chain.{linked}
 use Rattle.directory.specs.Places.{slotAt, dirSector}
-use Rattle.directory.specs.Directory.{tracksOf}
+use Rattle.directory.specs.Directory.{tracksOf, directory}
+use Rattle.surveys.specs.Survey.{free}
 use Rattle.disk.specs.Check.{checkDisk}
 use Rattle.steps.specs.Sectors.{listed}
 use Rattle.plans.specs.Change.{gather}
+use Rattle.plans.specs.Saving.{freeBit}
 use Rattle.plans.specs.Gathering.{upFrom}
 use Rattle.plans.specs.Plan.{made, run}
 use Rattle.plans.specs.Accepted.{Named, Unused}
@@ -83,7 +85,10 @@ pub record MovedTo (d n : List ℕ) (slot : ℕ) (f : File) (b : ℕ) (new ss : 
   pub first : firstOf (file .bytes) ≡ b
   pub count : countOf (file .bytes) ≡ countOf (f .bytes)
   pub order : InOrder file
-  pub bits : (c : ℕ) → has (mapOf (file .bytes)) c ≡ true → (b ≤ c) × (c < b + countOf (f .bytes))
+  pub bits : (c : ℕ) → (has (mapOf (file .bytes)) c ≡ true) ↔ ((b ≤ c) × (c < b + countOf (f .bytes)))
+  -- its old sectors are free then, and as many are free as before
+  pub freed : (c : ℕ) → has (mapOf (f .bytes)) c ≡ true → freeBit (tracksOf new) (directory new) c ≡ true
+  pub as-many : free (tracksOf new) (directory new) ≡ free (tracksOf d) (directory d)
   -- "Data first in chain order, slot sector last"
   pub sectors : ss ≡ runSectors (countOf (f .bytes)) b ++ (dirSector slot ∷ [])
 

@@ -31,13 +31,19 @@ fn short_lists(image: &mut [u8]) {
 }
 
 // FILE A lies on bits 0 and 1, FILE B on bit 3 and then bit 2.
-fn descending(image: &mut [u8], buf: &mut [u8], list: &mut [u16]) {
+fn two_files(image: &mut [u8], buf: &mut [u8]) {
     points::disks::file_a(image);
     points::disks::file_b(image);
     points::read(b"a descending chain", image, b"FILE B", buf);
     short_lists(image);
+}
+
+fn descending(image: &mut [u8], buf: &mut [u8], list: &mut [u16]) {
     gathered(b"a descending chain", image, b"FILE B", list);
     points::read(b"a descending chain", image, b"FILE B", buf);
+}
+
+fn left(image: &mut [u8], list: &mut [u16]) {
     gathered(b"it again", image, b"file b", list);
     gathered(b"FILE A", image, b"FILE A", list);
     points::checked(b"the disk", image);
@@ -46,17 +52,20 @@ fn descending(image: &mut [u8], buf: &mut [u8], list: &mut [u16]) {
 // 12, 15, and 13 of a directory in slot 3.
 fn refused(image: &mut [u8], list: &mut [u16]) {
     buffers::copy_into(image, 512, b"\x15FOLDER    ");
-    gathered(b"a name of eleven bytes", image, b"FILE AFILE A", list);
+    gathered(b"a name of eleven bytes", image, b"FILE AFILEA", list);
     gathered(b"no such name", image, b"FILE D", list);
     gathered(b"a directory", image, b"FOLDER", list);
 }
 
-// A file of one sector, and one on bits 0 and 2, which an erased file left.
-fn scattered(image: &mut [u8], body: &[u8], list: &mut [u16]) {
+// A file of one sector among others, and one on bits 0 and 2, which erased files left.
+fn of_one_sector(image: &mut [u8], body: &[u8], list: &mut [u16]) {
     saved(image, b"ONE", body, 501, list);
     saved(image, b"TWO", body, 501, list);
     saved(image, b"THREE", body, 501, list);
     gathered(b"a file of one sector", image, b"TWO", list);
+}
+
+fn scattered(image: &mut [u8], body: &[u8], list: &mut [u16]) {
     erased(image, b"ONE", list);
     erased(image, b"THREE", list);
     saved(image, b"WIDE", body, 1011, list);
@@ -71,12 +80,16 @@ fn middle(image: &mut [u8], body: &[u8], buf: &mut [u8], list: &mut [u16]) {
     points::checked(b"the disk", image);
 }
 
-// Another file on bits 0 and 2, and only the last bit is free; then the last two are.
-fn end(image: &mut [u8], body: &[u8], buf: &mut [u8], list: &mut [u16]) {
+// Another file on bits 0 and 2, and only the last bit is free.
+fn one_bit_short(image: &mut [u8], body: &[u8], list: &mut [u16]) {
     saved(image, b"AGAIN", body, 1011, list);
     saved(image, b"SIDE 2", body, 406461, list);
     saved(image, b"LAST BUT 1", body, 501, list);
     gathered(b"AGAIN, one bit short", image, b"AGAIN", list);
+}
+
+// Then the last two are.
+fn end(image: &mut [u8], buf: &mut [u8], list: &mut [u16]) {
     erased(image, b"LAST BUT 1", list);
     gathered(b"AGAIN", image, b"AGAIN", list);
     points::read(b"AGAIN", image, b"AGAIN", buf);
@@ -94,17 +107,29 @@ fn own_sectors(image: &mut [u8], body: &[u8], buf: &mut [u8], list: &mut [u16]) 
 fn small(buf: &mut [u8]) {
     let mut image = points::blank();
     let mut list = [7u16; 8];
+    two_files(&mut image, buf);
     descending(&mut image, buf, &mut list);
+    left(&mut image, &mut list);
     refused(&mut image, &mut list);
+}
+
+fn gaps(image: &mut [u8], body: &[u8], list: &mut [u16]) {
+    of_one_sector(image, body, list);
+    scattered(image, body, list);
+}
+
+fn ends(image: &mut [u8], body: &[u8], buf: &mut [u8], list: &mut [u16]) {
+    middle(image, body, buf, list);
+    one_bit_short(image, body, list);
+    end(image, buf, list);
+    own_sectors(image, body, buf, list);
 }
 
 fn large(body: &[u8], buf: &mut [u8]) {
     let mut image = points::blank();
     let mut list = [0u16; 1562];
-    scattered(&mut image, body, &mut list);
-    middle(&mut image, body, buf, &mut list);
-    end(&mut image, body, buf, &mut list);
-    own_sectors(&mut image, body, buf, &mut list);
+    gaps(&mut image, body, &mut list);
+    ends(&mut image, body, buf, &mut list);
 }
 
 fn main() {
@@ -112,6 +137,7 @@ fn main() {
     let mut buf = points::blank();
     buffers::copy_into(&mut body, 0, b"HEAD");
     buffers::copy_into(&mut body, 501, b"MIDDLE!");
+    buffers::copy_into(&mut buf, 501, b".......");
     small(&mut buf);
     large(&body, &mut buf);
 }

@@ -5,7 +5,7 @@ use native.Mathlib.Omega.{arith}
 use Rattle.slots.specs.Slot.{countOf, firstOf}
 use Rattle.gathers.specs.Moving.{countIn}
 use Rattle.gathers.proofs.Walk.{end-le}
-use Rattle.gathers.proofs.Moving.{Moving, moving-none, moving-turn, moving-all}
+use Rattle.gathers.proofs.Moving.{Moving, moving-none, turn-bits, moving-turn, moving-all}
 use borrow.Author.Needs.{needs}
 use Rattle.gathers.proofs.move_chain.Statement.{statement}
 use Rattle.gathers.proofs.move_chain.Tie as tie
@@ -78,7 +78,11 @@ link-to-requires c κs =
     omega (arith, inside (l .before .before .before .before .before))
 
 move-sector-requires : tie.Need-move-sector-requires Inv-loop μ-loop
-move-sector-requires c κs = search needs
+move-sector-requires c κs =
+    let l = c .before .before .before .before .before .before .before in
+    let o = l .before in
+    let a = o .before .before .before .before in
+    turn-bits _ _ _ (a .before .before .before .before .pre) _ (o .loop .bit) (o .loop .k) (o .loop .inv) _ (counted a) (l .loop-test .taken)
 
 bit-or-end-requires : tie.Need-bit-or-end-requires Inv-loop μ-loop
 bit-or-end-requires c κs = search needs
