@@ -2,7 +2,6 @@
 use Prim.Native.Nat.{_-_, _<_, _≤_}
 use mathlib.Core.Path.{sym, _∙_, subst}
 use native.Mathlib.Omega.{arith}
-use borrow.Author.Tests.{not-true, not-false}
 use Rattle.gathers.proofs.Walk.{Rising, rising-start, rising-small, rising-more, rising-not, rising-all, end-le}
 use borrow.Author.Needs.{needs}
 use Rattle.gathers.proofs.is_scattered.Statement.{statement}
@@ -45,19 +44,43 @@ add-k : tie.Need-add-k Inv-loop μ-loop
 add-k c = let l = c .before .before .before .before .before .loop in omega (arith, l .inv .few)
 
 add-if1 : tie.Need-add-if1 Inv-loop μ-loop
-add-if1 c = let l = c .before .before .before .before .before in let h = rising-small _ _ (l .before .before .before .before .before .pre) (l .loop .bit) (l .loop .k) (l .loop .inv) in omega arith
+add-if1 c =
+    let l = c .before .before .before .before .before in
+    let h = rising-small _ _ (l .before .before .before .before .before .pre) (l .loop .bit) (l .loop .k) (l .loop .inv) in
+    omega arith
 
 returns : tie.Need-returns Inv-loop μ-loop
-returns c = let e = c .before in let n = e .before in let m = n .before in let p = m .before in let i = p .before in let l = i .before in let q = l .before .before in let h = i .loop-test .taken in rising-not _ _ (q .before .before .before .pre) (l .loop .bit) (l .loop .k) (l .loop .inv) (subst (λ x. l .loop .k < x) (q .count-of .ensures .0) h) _ _ _ _ (p .bit-place .ensures) (m .num-at .ensures .0) (n .num-at2 .ensures .0) (e .bit-or-end .ensures .0) (c .if1 .taken)
+returns c =
+    let e = c .before in
+    let n = e .before in
+    let m = n .before in
+    let p = m .before in
+    let i = p .before in
+    let l = i .before in
+    let q = l .before .before in
+    let h = i .loop-test .taken in
+    rising-not _ _ (q .before .before .before .pre) (l .loop .bit) (l .loop .k) (l .loop .inv) (subst (λ x. l .loop .k < x) (q .count-of .ensures .0) h) _ _ _ _ (p .bit-place .ensures) (m .num-at .ensures .0) (n .num-at2 .ensures .0) (e .bit-or-end .ensures .0) (c .if1 .taken)
 
 loop-less : tie.Need-loop-less Inv-loop μ-loop
 loop-less c = search needs
 
 loop-again : tie.Need-loop-again Inv-loop μ-loop
-loop-again c = let e = c .before in let n = e .before in let m = n .before in let p = m .before in let i = p .before in let l = i .before in let q = l .before .before in let h = i .loop-test .taken in rising-more _ _ (q .before .before .before .pre) (l .loop .bit) (l .loop .k) (l .loop .inv) (subst (λ x. l .loop .k < x) (q .count-of .ensures .0) h) _ _ _ _ (p .bit-place .ensures) (m .num-at .ensures .0) (n .num-at2 .ensures .0) (e .bit-or-end .ensures .0) (c .if1 .left)
+loop-again c =
+    let e = c .before in
+    let n = e .before in
+    let m = n .before in
+    let p = m .before in
+    let i = p .before in
+    let l = i .before in
+    let q = l .before .before in
+    let h = i .loop-test .taken in
+    rising-more _ _ (q .before .before .before .pre) (l .loop .bit) (l .loop .k) (l .loop .inv) (subst (λ x. l .loop .k < x) (q .count-of .ensures .0) h) _ _ _ _ (p .bit-place .ensures) (m .num-at .ensures .0) (n .num-at2 .ensures .0) (e .bit-or-end .ensures .0) (c .if1 .left)
 
 returns-2 : tie.Need-returns-2 Inv-loop μ-loop
-returns-2 c = let l = c .before in let q = l .before .before in rising-all _ _ (q .before .before .before .pre) (l .loop .bit) (l .loop .k) (l .loop .inv) (subst (λ x. x ≤ l .loop .k) (q .count-of .ensures .0) (c .loop-test .left))
+returns-2 c =
+    let l = c .before in
+    let q = l .before .before in
+    rising-all _ _ (q .before .before .before .pre) (l .loop .bit) (l .loop .k) (l .loop .inv) (subst (λ x. x ≤ l .loop .k) (q .count-of .ensures .0) (c .loop-test .left))
 
 pub is-scattered-spec : {M : Type 1} → statement M
 is-scattered-spec =

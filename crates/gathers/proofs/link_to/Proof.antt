@@ -25,10 +25,15 @@ enum-told : tie.Need-enum-told
 enum-told c = search needs
 
 returns-2 : tie.Need-returns-2
-returns-2 c = let a = c .before .before .before in link-some _ _ _ (a .before .if1 .left) _ _ (sym (a .address-of .ensures) ∙ c .before .track .given .1) refl refl
+returns-2 c =
+    let a = c .before .before .before in
+    link-some _ _ _ (a .before .if1 .left) _ _ (sym (a .address-of .ensures) ∙ c .before .track .given .1) refl refl
 
 returns-3 : tie.Need-returns-3
-returns-3 c = let a = c .before .before in let n = a .before .if1 .left in absurd (link-no-bit _ (omega (arith, a .before .before .pre)) (sym (a .address-of .ensures) ∙ c .enum-told .given .1))
+returns-3 c =
+    let a = c .before .before in
+    let n = a .before .if1 .left in
+    absurd (link-no-bit _ (omega (arith, a .before .before .pre)) (sym (a .address-of .ensures) ∙ c .enum-told .given .1))
 
 pub link-to-spec : {M : Type 1} → statement M
 link-to-spec =

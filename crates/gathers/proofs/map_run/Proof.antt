@@ -36,7 +36,10 @@ loop-less : tie.Need-loop-less Inv-loop μ-loop
 loop-less c = search needs
 
 loop-again : tie.Need-loop-again Inv-loop μ-loop
-loop-again c = let t = c .before .before .before in let l = t .before .loop in (omega (arith, l .inv .0), map-more _ _ (l .j) (t .loop-test .taken) (l .inv .0) _ (l .inv .1) _ (c .before .mark .ensures))
+loop-again c =
+    let t = c .before .before .before in
+    let l = t .before .loop in
+    (omega (arith, l .inv .0), map-more _ _ (l .j) (t .loop-test .taken) (l .inv .0) _ (l .inv .1) _ (c .before .mark .ensures))
 
 returns : tie.Need-returns Inv-loop μ-loop
 returns c = let l = c .before .loop in map-all _ _ (l .j) (c .loop-test .left) _ (l .inv .1)

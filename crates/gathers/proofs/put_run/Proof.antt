@@ -22,7 +22,10 @@ bit-place-requires : tie.Need-bit-place-requires Inv-loop μ-loop
 bit-place-requires c κs = search needs
 
 cast-list : tie.Need-cast-list Inv-loop μ-loop
-cast-list c = let h = c .before .loop-test .taken in let s = c .before .before .before .before in omega (arith, number-place _ _ (omega (arith, s .pre .1)) (c .bit-place .ensures) .1)
+cast-list c =
+    let h = c .before .loop-test .taken in
+    let s = c .before .before .before .before in
+    omega (arith, number-place _ _ (omega (arith, s .pre .1)) (c .bit-place .ensures) .1)
 
 mul-list : tie.Need-mul-list Inv-loop μ-loop
 mul-list c = search needs
@@ -37,7 +40,10 @@ loop-less : tie.Need-loop-less Inv-loop μ-loop
 loop-less c = search needs
 
 loop-again : tie.Need-loop-again Inv-loop μ-loop
-loop-again c = let t = c .before in let s = t .before .before .before in listed-more _ _ _ _ _ (t .before .loop .inv) (t .loop-test .taken) (s .pre .1) _ (c .bit-place .ensures)
+loop-again c =
+    let t = c .before in
+    let s = t .before .before .before in
+    listed-more _ _ _ _ _ (t .before .loop .inv) (t .loop-test .taken) (s .pre .1) _ (c .bit-place .ensures)
 
 same-length : tie.Need-same-length Inv-loop μ-loop
 same-length c = listed-long _ _ _ _ _ (c .before .loop .inv)
