@@ -36,6 +36,7 @@ pub enum Reason {
     InsideItself,
     DirectoryNotEmpty,
     ReportFull,
+    NoFreeRun,
 }
 
 // A refusal: its reason, and the slot (from 1) it was found at, or 0.
@@ -90,6 +91,7 @@ pub fn number_of(reason: Reason) -> usize
         Reason::InsideItself => 28,
         Reason::DirectoryNotEmpty => 29,
         Reason::ReportFull => 31,
+        Reason::NoFreeRun => 32,
     }
 }
 
