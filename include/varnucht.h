@@ -1,6 +1,6 @@
 /* Varnucht: disk images of the SAM Coupé. Check a disk, list it, read a file's body, whole or piece by piece, give its start
  * address, tell what lies beneath a subdirectory, find a raw sector; save, erase, rename, hide, show, protect and release
- * files; count a shelf of disks. C99 and C++. Link libvarnucht.a.
+ * files, gather a scattered one; count a shelf of disks. C99 and C++. Link libvarnucht.a.
  *
  * Contents: 1 what a call takes and answers, 2 sizes, 3 refusals, 4 the calls that read, 5 the calls that change, and how
  * to write what they changed, 6 reading a listing, and what a disk says of itself, 7 names and kinds, 8 what is proved and
@@ -21,9 +21,9 @@
  * You own every buffer before, during and after a call. The library allocates nothing, keeps no pointer and has no state:
  * what a call does depends on its arguments alone. So calls on different buffers may run at once on different threads, and
  * calls that only read may share an image. Nobody may read or write a buffer while a call that may change it is running.
- * Nothing outside is called but memcpy, memset and their like. A save needs less than 8 KiB of stack, every other call
- * less than 2 KiB; but varnucht_tree less than 5 KiB where no more than ten subdirectories lie inside each other, and 128
- * bytes more for each beyond them: less than 36 KiB on any disk.
+ * Nothing outside is called but memcpy, memset and their like. A save and a gather need less than 8 KiB of stack, every
+ * other call less than 2 KiB; but varnucht_tree less than 5 KiB where no more than ten subdirectories lie inside each other,
+ * and 128 bytes more for each beyond them: less than 36 KiB on any disk.
  *
  * Every call answers one number with four parts, which the functions below take apart:
  *
@@ -81,21 +81,24 @@ enum varnucht_size {
     VARNUCHT_TREE_BYTES = 1556,         /* `slots` of varnucht_tree: 778 * 2 */
     VARNUCHT_BODY_BYTES = 795591,       /* `out` of varnucht_read; the longest body on an empty disk: 510 * 1,560 - 9 */
     VARNUCHT_SAVE_LIST_BYTES = 3124,    /* `list` of varnucht_save: 2 * 1,562, the data sectors and two of the directory */
+    VARNUCHT_GATHER_LIST_BYTES = 1562,  /* `list` of varnucht_gather: 2 * 781, half of all data sectors and one of the
+                                           directory, since a file moves to as many sectors as it leaves */
     VARNUCHT_CHANGE_LIST_BYTES = 2,     /* `list` of every other change */
     VARNUCHT_REPORT_BYTES = 496         /* a report: 124 numbers of four bytes */
 };
 
 /* 3. REFUSALS, in the words of the rules (document 01), in the order in which they are tested: 1 first; then 24; then 2 to 9
  * at every live slot, the lowest slot first and at a slot the lowest number; then 10, 11 and 25 likewise; then the lowest
- * that applies of 12 to 20. So 12 to 20 say that the disk itself is good. varnucht_check_release alone tests 22 too, directly
- * after 7 at a slot. varnucht_tree alone tests 26 at every live slot, the lowest slot first, and then 27 and 28 likewise;
- * both come before 12 to 20. varnucht_erase alone tests 29, after 17 and before 20. varnucht_sector tests 1 and then 21, and
- * looks at no directory. varnucht_next refuses nothing. The calls on reports test 20 and then 31. 3 is given no more, by any
- * call: its number stays reserved, and "1 to 11" below is without it.
+ * that applies of 12 to 20. So 12 to 20 say that the disk itself is good. varnucht_check_release alone tests 22 too,
+ * directly after 7 at a slot. varnucht_tree alone tests 26 at every live slot, the lowest slot first, and then 27 and 28
+ * likewise; both come before 12 to 20. varnucht_erase alone tests 29, after 17 and before 20, and varnucht_gather alone 32,
+ * after 15 and before 20. varnucht_sector tests 1 and then 21, and looks at no directory. varnucht_next refuses nothing. The
+ * calls on reports test 20 and then 31. 3 is given no more, by any call: its number stays reserved, and "1 to 11" below is
+ * without it.
  *
- * The slot comes with 2 to 11, 22 and 25 to 28; with 13 and 14 of varnucht_read, varnucht_open, varnucht_start and
- * varnucht_tree, where it is the file's; with 16, where it is that of the file which has the new name; and with 17 and 29.
- * With all others, 13 and 14 of varnucht_save too, it is 0. */
+ * The slot comes with 2 to 11, 22 and 25 to 28; with 13 and 14 of varnucht_read, varnucht_open, varnucht_start,
+ * varnucht_tree and varnucht_gather, where it is the file's; with 16, where it is that of the file which has the new name;
+ * and with 17 and 29. With all others, 13 and 14 of varnucht_save too, it is 0. */
 enum varnucht_reason {
     VARNUCHT_ACCEPTED = 0,
     /* The disk is not good. Every call can give these, 24 and 25 but varnucht_sector, which can give 1, varnucht_next, and
@@ -118,7 +121,7 @@ enum varnucht_reason {
     /* The request is not good, or cannot be met. Each call says which of these it can give. */
     VARNUCHT_NAME_NOT_USABLE = 12,      /* the name is not usable: section 7 */
     VARNUCHT_WRONG_KIND = 13,           /* the kind asked for (save: 16 to 20) or found (read, open, start: 16 to 20 and 1
-                                           to 4; tree: 21) is not one that this call takes */
+                                           to 4; tree: 21; gather: any but 21) is not one that this call takes */
     VARNUCHT_START_OUT_OF_RANGE = 14,   /* start page above 31, or offset outside 32,768 to 49,151 (save, start of kinds 16
                                            to 20) */
     VARNUCHT_NAME_NOT_FOUND = 15,       /* no live slot has the name, capitals or not */
@@ -142,7 +145,10 @@ enum varnucht_reason {
     /* A subdirectory is not empty. */
     VARNUCHT_DIRECTORY_NOT_EMPTY = 29,  /* a directory whose code, not 0, is another live slot's byte 254 (erase) */
     /* The shelf is full. */
-    VARNUCHT_REPORT_FULL = 31           /* a disk or join that would pass 65,535 disks (the calls on reports alone) */
+    VARNUCHT_REPORT_FULL = 31,          /* a disk or join that would pass 65,535 disks (the calls on reports alone) */
+    /* A scattered file has nowhere to go. */
+    VARNUCHT_NO_RUN = 32                /* the file must move, and no run of consecutive free map bits is as long as it is
+                                           (gather) */
 };
 
 /* A refusal in the words of the rules, for a message; UTF-8. A string that lasts, never NULL, for any number. */
@@ -167,7 +173,7 @@ static inline const char *varnucht_words(unsigned refusal) {
                "kind, remainder, pages";
     case VARNUCHT_NAME_NOT_USABLE: return "the name is not usable";
     case VARNUCHT_WRONG_KIND:
-        return "the kind asked for (save) or found (read, start address, tree) is not one that this call takes";
+        return "the kind asked for (save) or found (read, start address, tree, gather) is not one that this call takes";
     case VARNUCHT_START_OUT_OF_RANGE:
         return "start page above 31, or offset outside 32,768 to 49,151 (save, start address)";
     case VARNUCHT_NAME_NOT_FOUND: return "no live slot has the name, capitals or not";
@@ -188,6 +194,7 @@ static inline const char *varnucht_words(unsigned refusal) {
     case VARNUCHT_DIRECTORY_IN_ITSELF: return "a directory lies inside itself at some depth (tree)";
     case VARNUCHT_DIRECTORY_NOT_EMPTY: return "a directory whose code, not 0, is another live slot's byte 254 (erase)";
     case VARNUCHT_REPORT_FULL: return "a disk or join that would pass 65,535 disks";
+    case VARNUCHT_NO_RUN: return "the file must move and no run of consecutive free map bits has its length (gather)";
     default: return "not a number of refusal";
     }
 }
@@ -382,7 +389,8 @@ static inline unsigned varnucht_report_class_first(unsigned c) { return c == 0 ?
  * You may rely on that only if no sector reaches the storage before one that stands earlier in the list, and none reaches it
  * in part. Where a write fails, the image in memory is ahead of the file: read it again from there before the next change.
  *
- * `list`: VARNUCHT_SAVE_LIST_BYTES for a save and VARNUCHT_CHANGE_LIST_BYTES for any other change always suffice. */
+ * `list`: VARNUCHT_SAVE_LIST_BYTES for a save, VARNUCHT_GATHER_LIST_BYTES for a gather and VARNUCHT_CHANGE_LIST_BYTES for
+ * any other change always suffice. */
 
 /* The sector number at place i of a list, i below the value answered. */
 static inline unsigned varnucht_listed(const uint8_t *list, size_t i) { return list[2 * i] + 256u * list[2 * i + 1]; }
@@ -430,6 +438,19 @@ uint64_t varnucht_protect(uint8_t *image, size_t image_len, const uint8_t *name,
                           size_t list_len);
 uint64_t varnucht_release(uint8_t *image, size_t image_len, const uint8_t *name, size_t name_len, uint8_t *list,
                           size_t list_len);
+
+/* Gathers a scattered file, so that a drive need not click through it: moves it, all 510 bytes of each of its sectors in
+ * their order, to the lowest run of consecutive free map bits that is as long as its count, chained rising. Its own sectors
+ * do not count as free. A run may go on from the first side to the second, from map bit 759 to 760 (section 6:
+ * VARNUCHT_ENTRY_MAP), and has no bit of the directory. Of its slot only the first address and the map change, bytes 13 to
+ * 209, so that its body, its start address and all else that a listing says of it stay. What it leaves is free from then on.
+ * A file that lies on consecutive bits already, its chain rising, is left as it is: nothing is written, and any `list` is
+ * long enough. A protected file may be gathered, and any kind with sectors; a subdirectory is refused 13.
+ * Value: the file's sectors and one of the directory, named in this order, the first in that of the chain; 0 where the file
+ * is left. `list`: two bytes for each; a file that moves has at most 780 sectors, so VARNUCHT_GATHER_LIST_BYTES always
+ * suffice. Refusals: 1 to 11, 24, 25, 12, 13 (kind 21), 15, 32, 20. Stack: 9,999 bytes. */
+uint64_t varnucht_gather(uint8_t *image, size_t image_len, const uint8_t *name, size_t name_len, uint8_t *list,
+                         size_t list_len);
 
 /* 6. READING A LISTING. An entry is the slot's number, 2 bytes, low byte first, and then the slot's 256 bytes. These are the
  * places of its fields in the entry; the functions below read them. */
@@ -556,9 +577,9 @@ static inline size_t varnucht_disk_name(const uint8_t *image, uint8_t *name) {
  * listing shows it so. A name asked for may hold any bytes, but the first is not 0. A new name (save, rename) has bytes 32
  * to 126 alone, and the first is not 32. Anything else is refused 12.
  *
- * A kind is a number. 1 to 12 and 16 to 23 are known, and their files are listed, erased, renamed and marked. Only the
- * carried kinds, 16 to 20, and those of the Spectrum with a header of the Plus D, 1 to 4, have a body and a start address
- * for these calls. Only the carried kinds can be saved.
+ * A kind is a number. 1 to 12 and 16 to 23 are known, and their files are listed, erased, renamed, marked and gathered. Only
+ * the carried kinds, 16 to 20, and those of the Spectrum with a header of the Plus D, 1 to 4, have a body and a start
+ * address for these calls. Only the carried kinds can be saved.
  *
  * Kind 21 is a subdirectory, which MasterDOS makes: a slot with a name and no sectors. It is listed, renamed, marked and,
  * where nothing is in it, erased like a file. Byte 250 of its slot is its code, and byte 254 of every live slot is the code

@@ -1,4 +1,4 @@
-//! The eighteen calls on byte slices: safe, and total on every input, but without types that rule anything out.
+//! The nineteen calls on byte slices: safe, and total on every input, but without types that rule anything out.
 //!
 //! Each function hands its slices to the C layer and gives back the [`Answer`]. Nothing is decided here. A refused call
 //! changes no byte of anything lent. In the changes, `list` takes the numbers of the sectors to write, two bytes to a number,
@@ -201,4 +201,10 @@ pub fn protect(image: &mut [u8], name: &[u8], list: &mut [u8]) -> Answer {
 /// Takes a file's protected mark away. Value: how many sectors are to be written.
 pub fn release(image: &mut [u8], name: &[u8], list: &mut [u8]) -> Answer {
     on_name(raw::varnucht_release, image, name, list)
+}
+
+/// Moves a file to the lowest run of consecutive free sectors that is as long as it is. Value: how many sectors are to be
+/// written, 0 where it lies so already. 1,562 bytes are always enough for its list.
+pub fn gather(image: &mut [u8], name: &[u8], list: &mut [u8]) -> Answer {
+    on_name(raw::varnucht_gather, image, name, list)
 }

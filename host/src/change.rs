@@ -1,4 +1,4 @@
-//! The seven changes, as values.
+//! The eight changes, as values.
 use crate::answer::Answer;
 use crate::calls::{self, Wish};
 use crate::image::Image;
@@ -60,6 +60,10 @@ pub enum Change<'a> {
     Protect(Name),
     /// Take the protection away. Refused 15.
     Release(Name),
+    /// Move a file to the lowest run of consecutive free sectors that is as long as it is, its chain rising. One that lies so
+    /// already, wherever that is, stays: then no sector is to be written. Refused 15, 13 (a directory, which has no sectors)
+    /// and 32 (it must move, and there is no such run).
+    Gather(Name),
 }
 
 impl Change<'_> {
@@ -74,6 +78,7 @@ impl Change<'_> {
             Change::Show(name) => calls::show(image, name.as_bytes(), list),
             Change::Protect(name) => calls::protect(image, name.as_bytes(), list),
             Change::Release(name) => calls::release(image, name.as_bytes(), list),
+            Change::Gather(name) => calls::gather(image, name.as_bytes(), list),
         }
     }
 }

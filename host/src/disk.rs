@@ -1,5 +1,6 @@
 //! Accepted disks.
 use crate::calls;
+use crate::chain;
 use crate::change::{Change, NewFile};
 use crate::directory::{Directory, DiskName};
 use crate::entry::Entry;
@@ -8,7 +9,7 @@ use crate::listing::Listing;
 use crate::name::{Name, NewName};
 use crate::place::SectorNumber;
 use crate::reader::Reader;
-use crate::refusal::Refused;
+use crate::refusal::{Refusal, Refused};
 use crate::sectors::{LIST_LENGTH, Sectors};
 use crate::tree::Tree;
 use std::error::Error;
@@ -152,6 +153,18 @@ impl Disk {
             .map(|done| done.value)
     }
 
+    /// A file's sectors in the order in which its bytes lie in them, 510 to a sector; none of a directory. Refused 15.
+    pub fn chain(&self, name: &Name) -> Result<Vec<SectorNumber>, Refused> {
+        let found = self.listing.find(name).ok_or(Refusal::NotFound)?;
+        Ok(chain::chain(&self.image, found))
+    }
+
+    /// Whether a file lies scattered: its sectors are not those of consecutive map bits, in rising order.
+    /// [`gather`](Disk::gather) moves such a file and leaves any other. Refused 15.
+    pub fn is_scattered(&self, name: &Name) -> Result<bool, Refused> {
+        Ok(!chain::is_run(&self.chain(name)?))
+    }
+
     /// What lies beneath a directory, or beneath the root where no name is given: the files and directories in it, those in
     /// these, and so on. Refused with the slot 26, 27 and 28 where the directories of the disk do not fit together, and 13
     /// where the name is that of a file; and 15 where there is no such name.
@@ -251,6 +264,31 @@ impl Disk {
     /// Takes a file's protection away: [`Change::Release`]. Refused 15.
     pub fn release(&mut self, name: &Name) -> Result<Sectors<'_>, Refused> {
         self.change(&Change::Release(*name))
+    }
+
+    /// Gathers a scattered file: [`Change::Gather`]. Its body, its start address and all that its entry says stay, but where
+    /// its sectors are. What it leaves is free. Refused 15, 13 with the slot where it is a directory, and 32.
+    ///
+    /// ```
+    /// use varnucht::{CarriedKind, Disk, Image, NewFile, NewName, Start};
+    ///
+    /// let mut disk = Disk::open(Image::blank())?;
+    /// let file = |name, body| Ok::<_, varnucht::Refused>(NewFile::new(CarriedKind::Code, name, Start::new(1, 32_768)?, body));
+    /// let (gap, tune) = (NewName::new("GAP")?, NewName::new("TUNES")?);
+    /// let _ = disk.save(&file(gap, b"")?)?;
+    /// let _ = disk.save(&file(NewName::new("WALL")?, b"")?)?;
+    /// let _ = disk.erase(&gap.name())?;
+    /// let _ = disk.save(&file(tune, &[7; 1_000])?)?; // in the gap, and behind the wall
+    /// assert!(disk.is_scattered(&tune.name())?);
+    ///
+    /// assert_eq!(disk.gather(&tune.name())?.numbers().len(), 3); // two of data, and then the directory's
+    /// assert!(!disk.is_scattered(&tune.name())?);
+    /// assert_eq!(disk.read(&tune.name())?, [7; 1_000]);
+    /// assert!(disk.gather(&tune.name())?.numbers().is_empty()); // it lies so already
+    /// # Ok::<(), varnucht::Refused>(())
+    /// ```
+    pub fn gather(&mut self, name: &Name) -> Result<Sectors<'_>, Refused> {
+        self.change(&Change::Gather(*name))
     }
 }
 

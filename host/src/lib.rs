@@ -1,4 +1,4 @@
-//! Disk images of the SAM Coupé: check, list, read, save, erase, rename, hide, show, protect and release.
+//! Disk images of the SAM Coupé: check, list, read, save, erase, rename, hide, show, protect, release and gather.
 //!
 //! The work is done by a library that is proved correct, for every image and every request. This crate puts types over it:
 //!
@@ -13,7 +13,7 @@
 //! Buffers are made as long as they must be, so refusal 20 is ruled out too. What is left is what only the disk itself can
 //! tell: is there a file of that name (15), is the new name free (16), is the file protected (17), is there a slot (18), are
 //! there sectors (19), does the file have a body (13) and a start address (14), do its directories fit together (26 to 28),
-//! is a directory empty (29).
+//! is a directory empty (29), is there a run of free sectors for a scattered file (32).
 //!
 //! The types are a convenience. They refuse by the library's own numbers, and tests show that each draws the line where the
 //! library does; what a type lets through still goes to the library, and what it answers is what counts.
@@ -130,6 +130,12 @@
 //! # Ok::<(), varnucht::Refused>(())
 //! ```
 //!
+//! # Scattered files
+//!
+//! A save takes the lowest free sectors, one by one, so that a file can lie scattered, and a drive clicks through it.
+//! [`Disk::is_scattered`] tells that of a file, and [`Disk::gather`] moves it to the lowest run of free sectors that is as long
+//! as it is.
+//!
 //! # Before a compilation goes out
 //!
 //! A file may have more sectors than its length needs, and old texts hide in them. Every call accepts such a disk but
@@ -176,11 +182,12 @@
 //! "Document 01" and "the paper" are the rules that the library is proved against. A refusal prints their words. The
 //! directory's end is its first slot whose first name byte is 0: that slot and all later ones are free, and what stands there
 //! is no file and is not looked at; a save clears the old name that would come back when it takes that slot. Below the
-//! types stand [`calls`], the eighteen calls on byte slices, and [`raw`], the C layer itself.
+//! types stand [`calls`], the nineteen calls on byte slices, and [`raw`], the C layer itself.
 #![warn(missing_docs)]
 
 mod answer;
 pub mod calls;
+mod chain;
 mod change;
 mod directory;
 mod disk;

@@ -134,6 +134,16 @@ impl SectorNumber {
         Some(SectorNumber((2 * (track % 128) + track / 128) * 10 + bit % 10))
     }
 
+    /// The bit of a map that stands for the sector; none on tracks 0 to 3.
+    pub(crate) fn bit(self) -> Option<u16> {
+        let (track, sector) = (u16::from(self.track().0), u16::from(self.sector().0) - 1);
+        match track {
+            0..4 => None,
+            4..128 => Some((track - 4) * 10 + sector),
+            _ => Some(760 + (track - 128) * 10 + sector),
+        }
+    }
+
     /// The number itself.
     pub fn number(self) -> u16 {
         self.0

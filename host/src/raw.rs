@@ -110,4 +110,12 @@ unsafe extern "C" {
         list: *mut u8,
         list_len: usize,
     ) -> u64;
+    pub fn varnucht_gather(
+        image: *mut u8,
+        image_len: usize,
+        name: *const u8,
+        name_len: usize,
+        list: *mut u8,
+        list_len: usize,
+    ) -> u64;
 }

@@ -66,12 +66,15 @@ pub enum Refusal {
     DirectoryNotEmpty,
     /// 31: a report that would pass 65,535 disks.
     ReportFull,
+    /// 32: the file must move, and no run of consecutive free map bits is as long as it is.
+    /// [`Disk::gather`](crate::Disk::gather) alone gives it.
+    NoRun,
     /// A number that this table does not have. No call of today's library gives one.
     Unlisted(u8),
 }
 
 /// The table of document 01 with the rows that document 02 adds, by rising number.
-const TABLE: [(u8, Refusal, &str); 29] = [
+const TABLE: [(u8, Refusal, &str); 30] = [
     (1, Refusal::ImageLength, "the image is not 819,200 bytes"),
     (2, Refusal::UnknownKind, "the kind is not known"),
     (3, Refusal::NoFirstNameByte, "the first name byte is 0 (given no more)"),
@@ -100,7 +103,7 @@ const TABLE: [(u8, Refusal, &str); 29] = [
     (
         13,
         Refusal::WrongKind,
-        "the kind asked for (save) or found (read, start address, tree) is not one that this call takes",
+        "the kind asked for (save) or found (read, start address, tree, gather) is not one that this call takes",
     ),
     (
         14,
@@ -154,6 +157,11 @@ const TABLE: [(u8, Refusal, &str); 29] = [
         "a directory whose code, not 0, is another live slot's byte 254 (erase)",
     ),
     (31, Refusal::ReportFull, "a disk or join that would pass 65,535 disks"),
+    (
+        32,
+        Refusal::NoRun,
+        "the file must move and no run of consecutive free map bits has its length (gather)",
+    ),
 ];
 
 impl Refusal {

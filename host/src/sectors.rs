@@ -68,14 +68,17 @@ impl<'d> Sectors<'d> {
     ///
     /// `written` says whether all changes of the disk before this one were written, and from now on whether this one is too.
     pub(crate) fn new(image: &'d Image, written: &'d mut bool, list: &[u8], many: u32) -> Sectors<'d> {
-        let skipped = !std::mem::replace(written, false);
         let many = usize::try_from(many).unwrap_or(usize::MAX);
         let pairs = list.as_chunks().0.iter().take(many);
+        let numbers: Vec<SectorNumber> = pairs
+            .filter_map(|pair| SectorNumber::new(u16::from_le_bytes(*pair)))
+            .collect();
+        let skipped = !*written;
+        // A change that alters no sector leaves nothing to write.
+        *written &= numbers.is_empty();
         Sectors {
             image,
-            numbers: pairs
-                .filter_map(|pair| SectorNumber::new(u16::from_le_bytes(*pair)))
-                .collect(),
+            numbers,
             written,
             skipped,
         }

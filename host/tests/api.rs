@@ -3,6 +3,8 @@
 mod bigger;
 #[path = "api/changing.rs"]
 mod changing;
+#[path = "api/gathering.rs"]
+mod gathering;
 #[path = "api/pieces.rs"]
 mod pieces;
 #[path = "api/reading.rs"]

@@ -5,6 +5,8 @@ mod bigger;
 mod commands;
 #[path = "tool/flushes.rs"]
 mod flushes;
+#[path = "tool/gathering.rs"]
+mod gathering;
 #[path = "tool/input.rs"]
 mod input;
 #[path = "tool/lock.rs"]

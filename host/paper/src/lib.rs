@@ -16,6 +16,7 @@
 //! - `tree`: subdirectories
 //! - `save`: the change that takes slots and sectors
 //! - `changes`: the changes of one directory byte or name
+//! - `gather`: a scattered file moved to consecutive sectors
 //! - `report`: a shelf of disks in numbers
 //! - `refusal`: the numbers of refusal
 
@@ -23,6 +24,7 @@ mod calls;
 mod changes;
 mod check;
 mod extent;
+mod gather;
 mod geometry;
 mod map;
 mod name;
@@ -37,6 +39,7 @@ mod tree;
 
 pub use calls::{Listed, check, check_release, list, read, sector, start};
 pub use changes::{erase, hide, protect, release, rename, show};
+pub use gather::gather;
 pub use pieces::{Reader, next, open};
 pub use refusal::Refused;
 pub use report::{REPORT_BYTES, report_add, report_join};

@@ -40,6 +40,7 @@ pub enum Reason {
     InsideItself = 28,
     NotEmpty = 29,
     ReportFull = 31,
+    NoRun = 32,
 }
 
 impl Reason {

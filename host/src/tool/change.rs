@@ -2,11 +2,11 @@
 use super::failure::{Failure, Outcome, Reason};
 use super::output::{self, counted};
 use super::progress::Progress;
-use super::source;
+use super::source::{self, Held};
 use super::system::Hold;
 use super::values::AskedName;
 use super::words::Given;
-use varnucht::{Change, Name, Refusal, Refused, SectorNumber};
+use varnucht::{Change, Disk, Name, Refusal, Refused, SectorNumber};
 
 /// Makes the change that `change` gives, or prints what it would write. The disk is opened before the change is asked for,
 /// so that refusals come in the order of document 01: the disk's first.
@@ -22,17 +22,32 @@ pub fn perform<'a>(given: &Given, done: &str, what: &str, change: impl FnOnce() 
     source::not_standard(given)?;
     let (mut held, mut disk) = source::changing(given)?;
     let change = change().map_err(refused)?;
-    let mut sectors = disk.change(&change).map_err(|no| refused(explained(no)))?;
+    let many = make(given, &mut held, &mut disk, what, &change)?;
+    output::confirm(&written(done, what, many));
+    Ok(())
+}
+
+/// Makes a change of the disk in the file that is held, and writes its sectors there. Gives how many they were.
+pub fn make(given: &Given, held: &mut Held, disk: &mut Disk, what: &str, change: &Change) -> Result<usize, Failure> {
+    let refused = |refused| Failure::refused(given.word(0), what, explained(refused));
+    let mut sectors = disk.change(change).map_err(refused)?;
     let (hold, mut progress) = (Hold::new(), Progress::new());
-    let written = sectors.write_to(&mut held, |written, of| progress.step(written, of));
+    let written = sectors.write_to(held, |written, of| progress.step(written, of));
     drop((progress, hold));
-    let many = counted(sectors.numbers().len(), "sector");
+    let many = sectors.numbers().len();
     let failed = |error| Failure::io(given.word(0), error);
     held.still_whole().map_err(failed)?;
     written.map_err(|error| Failure::write(given.word(0), error))?;
     held.holds(disk.image()).map_err(failed)?;
-    output::confirm(&format!("{done} {what}: {many} written"));
-    Ok(())
+    Ok(many)
+}
+
+/// What is said of a change that was made. A file that is gathered and lies in a row already has nothing to be written.
+pub fn written(done: &str, what: &str, many: usize) -> String {
+    match many {
+        0 => format!("{what} is not scattered: nothing is written"),
+        _ => format!("{done} {what}: {} written", counted(many, "sector")),
+    }
 }
 
 /// A refusal; of a directory that is not empty it says too how to see what is in it.
@@ -43,7 +58,7 @@ fn explained(refused: Refused) -> Reason {
 }
 
 /// The sectors that would be written, in their order.
-fn planned(numbers: &[SectorNumber]) -> String {
+pub fn planned(numbers: &[SectorNumber]) -> String {
     let row = |number: &SectorNumber| format!("{number:>6}  {:>5}  {:>6}\n", number.track(), number.sector());
     let rows: String = numbers.iter().map(row).collect();
     let many = counted(numbers.len(), "sector");

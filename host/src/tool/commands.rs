@@ -1,7 +1,7 @@
 //! The table of commands.
 use super::failure::Outcome;
 use super::words::Given;
-use super::{blank, change, check, dump, list, map, read, report, save, tree};
+use super::{blank, change, check, dump, gather, list, map, read, report, save, tree};
 
 /// A command of the tool.
 pub struct Command {
@@ -65,6 +65,7 @@ const RELEASE: Choice = flag(
     "refuse waste sectors too: more sectors behind a file
 than its length needs (kinds 16 to 20)",
 );
+const ALL: Choice = flag(&["--all"], "gather each file in turn, the lowest slot first");
 const COLOR: Choice = valued(
     &["--color"],
     "WHEN",
@@ -161,6 +162,15 @@ const START: &str = "The usual start, page 1 and offset 32768, is address 32768.
 const SLOT: &str = "It takes the lowest free slot. Where that is the directory's end and an old
 name stands in the next slot, that name is cleared with it.";
 
+/// What is said of scattered files, and of gathering them all.
+const GATHER: &str = "Moves the file to the lowest run of free sectors that is as long as the file,
+in the order of the disk's own map: by tracks, the first side before the
+second. A file that lies in a row already, wherever that is, stays as it is.
+Where there is no such run the file cannot move (32). Its name, its body and
+its start address stay.";
+const GATHER_ALL: &str = "With --all the files that cannot move are named, and the status is 1. A file
+that moves leaves free sectors, so that another run may move more of them.";
+
 /// What is said of numbers.
 const NUMBERS: &str = "A number may be written as 0x and hexadecimal digits.";
 
@@ -232,7 +242,9 @@ the files all the same, and which directory each is in.",
         more: &[
             "A column is a track and a row a sector, 1 to 10; the first side is above the
 second. Each file has a sign, and the signs are named below. There are 80:
-with more files they come again, in other colours.",
+with more files they come again, in other colours. Files whose sectors do not
+follow each other in the order of their bytes are named once more, as
+scattered: `gather` puts a file's sectors in a row.",
             PIPE,
         ],
         run: map::run,
@@ -266,6 +278,14 @@ with more files they come again, in other colours.",
     on_name("show", "show a hidden file", change::show),
     on_name("protect", "protect a file from erasing and renaming", change::protect),
     on_name("release", "take a file's protection away", change::release),
+    Command {
+        name: "gather",
+        places: &["IMAGE", "[NAME]"],
+        options: &[&ALL, &DRY_RUN, &NO_WAIT],
+        brief: "move a scattered file to sectors in a row",
+        more: &[GATHER, GATHER_ALL, SAFE, NAMES],
+        run: gather::run,
+    },
     Command {
         name: "sector",
         places: &["IMAGE", "TRACK", "SECTOR"],

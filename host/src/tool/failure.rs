@@ -2,7 +2,7 @@
 use super::output::shown_file;
 use std::ffi::OsStr;
 use std::io::{self, ErrorKind};
-use varnucht::{Refused, Unsound, WriteError};
+use varnucht::{Refusal, Refused, Unsound, WriteError};
 
 /// What a command gives back.
 pub type Outcome = Result<(), Failure>;
@@ -78,6 +78,11 @@ impl Failure {
             }
             error => Failure::Write(shown_file(path), error),
         }
+    }
+
+    /// Whether the library refused it for this reason.
+    pub fn is(&self, refusal: Refusal) -> bool {
+        matches!(self, Failure::Refused(_, reason) if reason.refused.refusal == refusal)
     }
 
     /// The exit status.

@@ -1,16 +1,16 @@
 //! `map`: a picture of the 1,600 sectors.
 use super::colour::{self, Paint, Painted};
 use super::failure::Outcome;
-use super::output;
+use super::output::{self, counted};
 use super::source;
 use super::words::Given;
-use varnucht::{Entry, Listing, SECTORS, SectorNumber};
+use varnucht::{Disk, Entry, Listing, SECTORS, SectorNumber};
 
 /// Prints the picture.
 pub fn run(given: &Given) -> Outcome {
     let colour = colour::wanted(given)?;
     let disk = source::disk(given)?;
-    output::print(picture(disk.listing(), colour))
+    output::print(picture(&disk, colour))
 }
 
 /// A sector's sign and its colour.
@@ -48,8 +48,8 @@ fn owners(listing: &Listing) -> Vec<Sign> {
 }
 
 /// The whole picture: a side above the other, and what the signs mean.
-fn picture(listing: &Listing, colour: bool) -> String {
-    let owners = owners(listing);
+fn picture(disk: &Disk, colour: bool) -> String {
+    let owners = owners(disk.listing());
     let mut text = Painted::new(colour);
     for (side, first_track) in [(0, 0), (1, 128)] {
         let last = first_track + 79;
@@ -69,7 +69,7 @@ fn picture(listing: &Listing, colour: bool) -> String {
             text.add(Paint::Plain, "\n");
         }
     }
-    legend(&mut text, listing);
+    legend(&mut text, disk);
     text.finish()
 }
 
@@ -79,20 +79,33 @@ fn scale(first_track: usize) -> String {
     format!("{}\n", marks.trim_end())
 }
 
-/// What the signs mean: the slot and the name of each file, in columns.
-fn legend(text: &mut Painted, listing: &Listing) {
+/// What the signs mean, and once more those of the scattered files.
+fn legend(text: &mut Painted, disk: &Disk) {
+    let listing = disk.listing();
     text.add(DIRECTORY.1, "#");
     text.add(Paint::Plain, &format!(" directory ({})  ", listing.directory().sectors()));
     text.add(FREE.1, ".");
     text.add(Paint::Plain, &format!(" free ({})\n", listing.free()));
-    let digits = files(listing).last().map_or(0, |last| last.slot().to_string().len()).max(2);
-    let all: Vec<String> = files(listing).map(|entry| meaning(entry, digits)).collect();
+    let all: Vec<(usize, &Entry)> = files(listing).enumerate().collect();
+    columns(text, &all);
+    let scattered = |(_, entry): &(usize, &Entry)| disk.is_scattered(&entry.name()) == Ok(true);
+    let scattered: Vec<(usize, &Entry)> = all.into_iter().filter(scattered).collect();
+    if !scattered.is_empty() {
+        text.add(Paint::Plain, &format!("{} scattered:\n", counted(scattered.len(), "file")));
+        columns(text, &scattered);
+    }
+}
+
+/// The slot and the name of each of these files, by their places among all files, in columns.
+fn columns(text: &mut Painted, files: &[(usize, &Entry)]) {
+    let digits = files.last().map_or(0, |(_, last)| last.slot().to_string().len()).max(2);
+    let all: Vec<String> = files.iter().map(|(_, entry)| meaning(entry, digits)).collect();
     let width = all.iter().map(String::len).max().unwrap_or(0);
     // A cell is the sign, a space, the words and two spaces; a line has 80.
     let across = (82 / (width + 4)).max(1);
-    for (place, words) in all.iter().enumerate() {
-        let (sign, paint) = sign(place);
-        let ends = (place + 1) % across == 0 || place + 1 == all.len();
+    for (cell, (words, (place, _))) in all.iter().zip(files).enumerate() {
+        let (sign, paint) = sign(*place);
+        let ends = (cell + 1) % across == 0 || cell + 1 == all.len();
         text.add(paint, &sign.to_string());
         let after = if ends {
             format!(" {words}\n")

@@ -10,6 +10,7 @@ mod commands;
 mod dump;
 mod failure;
 mod forms;
+mod gather;
 mod help;
 mod list;
 mod make;

@@ -91,6 +91,7 @@ fn accepted(call: Call, disk: &Disk, i: usize) -> Asked {
             }
         }
         Call::Rename => asked.with(NAME, file.name).with(NEW, b"unlike all").with(OUT, [0x5c; 2]),
+        Call::Gather => asked.with(NAME, file.name).with(OUT, vec![0x5c; 2 * (file.chain.len() + 1)]),
         Call::ReportAdd => asked.with(OUT, report(9)),
         Call::ReportJoin => asked.with(TWO, report(8)).with(OUT, report(7)),
         _ => asked.with(NAME, file.name).with(OUT, [0x5c; 2]),

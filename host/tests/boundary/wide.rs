@@ -7,6 +7,7 @@ use crate::support::disks::{self, Disk};
 use crate::support::facts::Facts;
 use crate::support::fields;
 use crate::support::folders;
+use crate::support::gathers::{self, Goes};
 use crate::support::geometry;
 use crate::support::guarded::{Empty, Flush, Guarded, PAGE, Pages};
 use crate::support::random::Random;
@@ -77,12 +78,14 @@ impl Usual {
 }
 
 /// A drawn disk with a free slot, room for three sectors, no waste sectors, a directory that something lies beneath, and a file
-/// of some length that starts inside the range and is not protected.
+/// of some length that starts inside the range, is not protected, is scattered and can be gathered.
 pub fn disk() -> (Disk, usize) {
     let fits = |disk: &Disk, i: usize| {
         let slot = disk.slot(disk.files[i].slot);
         let changes = slot[0] & fields::PROTECTED == 0 && disk.files.len() < disk.slots() && disk.free() > 3;
-        changes && disk.files[i].body.len() > 9 && fields::start(slot).is_some()
+        let facts = Facts::of(&disk.image);
+        let moves = matches!(gathers::goes(&disk.image, &facts, &facts.live[i]), Goes::To(_));
+        changes && moves && disk.files[i].body.len() > 9 && fields::start(slot).is_some()
     };
     let drawn = (16_000_000..).map(|seed| disks::draw(&mut Random::new(seed)));
     drawn

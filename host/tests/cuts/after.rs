@@ -1,11 +1,12 @@
-//! What an accepted change leaves, written once more from document 01, "What each change does", and from document 02, M-103 and
-//! M-106; and what is seen of it.
+//! What an accepted change leaves, written once more from document 01, "What each change does", and from document 02, M-103,
+//! M-106 and M-112; and what is seen of it.
 
 use crate::change::Change;
 use crate::support::asking::Asked;
 use crate::support::calls::{BODY, Call, EXEC, INFO, NAME, NEW, OUT, refusal, value};
 use crate::support::compare::{self, Left};
 use crate::support::fields;
+use crate::support::gathers::{self, Goes};
 use crate::support::geometry::{
     BITS, PAYLOAD, SECTOR, SLOT, address, bit_place, is_data, number, sectors_for, slot_place, slots,
 };
@@ -14,10 +15,10 @@ use crate::support::names;
 
 /// The new disk and the sectors named are what the paper says, byte for byte.
 pub fn examine(change: &Change) {
-    let (new, named) = if change.asked.call == Call::Save {
-        saved(change)
-    } else {
-        edited(change)
+    let (new, named) = match change.asked.call {
+        Call::Save => saved(change),
+        Call::Gather => gathered(change),
+        _ => edited(change),
     };
     assert_eq!(change.named, named, "{:?} names other sectors", change.asked.call);
     assert!(change.new == new, "{:?} leaves another disk", change.asked.call);
@@ -47,6 +48,20 @@ fn seen(change: &Change) {
             let by_old_name = if change.turns_letters() { old } else { 15 };
             assert_eq!(ask(Call::Start, &slices[NAME], 0, &change.new).answer, by_old_name);
         }
+        Call::Gather => {
+            for live in &change.facts.live {
+                for call in [Call::Start, Call::Read, Call::Open] {
+                    let [old, new] = [change.old, &change.new].map(|disk| ask(call, &live.name, live.length, disk));
+                    // Where its bytes begin is another matter for the file that moved.
+                    let same = call == Call::Open || old.answer == new.answer;
+                    assert!(same && value(old.answer) == value(new.answer) && old.out == new.out);
+                    assert_eq!(refusal(old.answer), refusal(new.answer));
+                }
+            }
+            let again = Asked::new(Call::Gather).with(NAME, slices[NAME].clone());
+            let left = compare::ask(&again.on(&change.new), &mut Margins::default());
+            assert_eq!(left.answer, 0, "gathered again, the file is left, with no room in the list");
+        }
         _ => {}
     }
 }
@@ -74,6 +89,30 @@ fn edited(change: &Change) -> (Vec<u8>, Vec<usize>) {
         call => unreachable!("{call:?}"),
     }
     (new, vec![number(place)])
+}
+
+/// The payload of each sector, in the order of the chain, on the lowest run of free bits, chained rising; of the slot its first
+/// address and its map; and the slot's sector last. A file in a row is left.
+fn gathered(change: &Change) -> (Vec<u8>, Vec<usize>) {
+    let live = change.facts.find(&change.asked.slices[NAME]).expect("it is found by name");
+    let mut new = change.old.to_vec();
+    let start = match gathers::goes(change.old, &change.facts, live) {
+        Goes::Nowhere => return (new, Vec::new()),
+        Goes::To(start) => start,
+        Goes::Stuck => panic!("it has nowhere to go"),
+    };
+    let old = gathers::chain(change.old, live);
+    let run: Vec<usize> = (start..start + old.len()).collect();
+    for (i, (&from, &to)) in old.iter().zip(&run).enumerate() {
+        let sector = &mut new[bit_place(to)..][..SECTOR];
+        sector[..PAYLOAD].copy_from_slice(&change.old[bit_place(from)..][..PAYLOAD]);
+        sector[PAYLOAD..].copy_from_slice(&run.get(i + 1).map_or([0, 0], |&next| address(next)));
+    }
+    let slot = &mut new[slot_place(live.slot)..][..SLOT];
+    slot[fields::FIRST..fields::MAP].copy_from_slice(&address(start));
+    fields::set_map(slot, &run);
+    let data = run.iter().map(|&bit| number(bit_place(bit)));
+    (new, data.chain([number(slot_place(live.slot))]).collect())
 }
 
 /// The lowest free slot, and the lowest free sectors, rising, as chain. A slot is free where it is erased, and from the first on

@@ -6,7 +6,8 @@ use crate::support::compare;
 use crate::support::facts::{self, Facts, Live};
 use crate::support::fields;
 use crate::support::folders;
-use crate::support::geometry::{IMAGE, MOST_SLOTS, SECTOR, SECTORS, SLOT, bit_place, is_directory, slot_place, slots};
+use crate::support::gathers::{self, Goes};
+use crate::support::geometry::{BITS, IMAGE, MOST_SLOTS, SECTOR, SECTORS, SLOT, bit_place, is_directory, slot_place, slots};
 use crate::support::margins::Margins;
 use crate::support::names;
 use crate::support::random::Random;
@@ -32,6 +33,7 @@ impl Change<'_> {
         let fit = |live: &&Live| match call {
             Call::Erase => !live.protected && !folders::is_held(&facts, live),
             Call::Rename => !live.protected,
+            Call::Gather => !live.is_directory() && gathers::goes(old, &facts, live) != Goes::Stuck,
             _ => true,
         };
         let names: Vec<_> = facts.live.iter().filter(fit).map(|live| live.name).collect();
@@ -39,6 +41,11 @@ impl Change<'_> {
             return None;
         }
         let mut asked = Asked::new(call).with(NAME, random.pick(&names)).with(OUT, random.bytes(5));
+        if call == Call::Gather {
+            // With room for every file.
+            let room = 2 * BITS + random.below(4);
+            asked = asked.with(OUT, random.bytes(room));
+        }
         if call == Call::Rename {
             asked = asked.with(NEW, wishes::fresh(&facts, random));
         }
@@ -64,6 +71,20 @@ impl Change<'_> {
         Change::make(asked, facts, old)
     }
 
+    /// A gather of the file in this slot; none where it is refused.
+    pub fn gather<'a>(old: &'a [u8], slot: usize) -> Option<Change<'a>> {
+        let facts = Facts::of(old);
+        let live = facts.live.iter().find(|live| live.slot == slot).expect("it is live");
+        let list = vec![0x5c; 2 * (live.sectors.len() + 1)];
+        let asked = Asked::new(Call::Gather).with(NAME, live.name).with(OUT, list);
+        Change::make(asked, facts, old)
+    }
+
+    /// Whether it is a gather of a file that must move.
+    pub fn moves(&self) -> bool {
+        self.asked.call == Call::Gather && !self.named.is_empty()
+    }
+
     fn make<'a>(asked: Asked, facts: Facts, old: &'a [u8]) -> Option<Change<'a>> {
         let left = compare::ask(&asked.on(old), &mut Margins::default());
         let named = left.out.chunks_exact(2).take(calls::value(left.answer));
@@ -78,7 +99,8 @@ impl Change<'_> {
     }
 
     /// No number twice; sectors not named are unchanged; the directory sector comes last, and before it stand data sectors; of a
-    /// save that clears the slot behind the directory's end, its sector stands between them.
+    /// save that clears the slot behind the directory's end, its sector stands between them. A gather that leaves its file names
+    /// none.
     pub fn names_its_sectors(&self) {
         let mut named = [false; SECTORS];
         for &number in &self.named {
@@ -96,10 +118,10 @@ impl Change<'_> {
             );
         }
         let directory = |number: usize| is_directory(number, self.facts.extra);
-        let many = if self.asked.call == Call::Save {
-            self.facts.directory_sectors().len()
-        } else {
-            1
+        let many = match self.asked.call {
+            Call::Save => self.facts.directory_sectors().len(),
+            Call::Gather if !self.moves() => 0,
+            _ => 1,
         };
         let (data, last) = self.named.split_at(self.named.len() - many);
         assert!(
@@ -107,7 +129,8 @@ impl Change<'_> {
             "{:?}",
             self.named
         );
-        assert!((self.asked.call == Call::Save) != data.is_empty(), "{:?}", self.named);
+        let takes = self.asked.call == Call::Save || self.moves();
+        assert!(takes != data.is_empty(), "{:?}", self.named);
     }
 
     /// The directory ends where it ended: unread slots stay unread, but for the one that a whole save takes.

@@ -5,6 +5,7 @@
 //!
 //! - `change`: the drawn change, the sectors it names, and what it leaves.
 //! - `after`: what a change must leave, once more from document 01.
+//! - `gathering`: gathers cut after every sector.
 //! - `answers`: the questions, and the answers on the old disk and on a cut one.
 //!
 //! `VARNUCHT_SEED` and `VARNUCHT_ROUNDS` draw other tests, or a single one again.
@@ -15,6 +16,7 @@ mod support;
 mod after;
 mod answers;
 mod change;
+mod gathering;
 
 use answers::Answers;
 use change::Change;
@@ -27,7 +29,7 @@ use support::shapes::{Ground, Order, Shape};
 /// How many changes of each sort were cut, at how many places, and how many answers were compared.
 #[derive(Default)]
 struct Counts {
-    changes: [usize; 7],
+    changes: [usize; CHANGES.len()],
     /// Saves that clear the slot behind the directory's end: in their slot's sector, and in another.
     clearing: [usize; 2],
     /// Those on disks with more than four directory tracks, and the saves into slot 1 among all.
@@ -37,6 +39,8 @@ struct Counts {
     turned: usize,
     /// Erases of directories.
     directories: usize,
+    /// Gathers of files that must move.
+    moved: usize,
     cuts: usize,
     answers: usize,
 }
@@ -49,7 +53,10 @@ fn every_change_cut_anywhere() {
         let _round = Round(seed);
         let random = &mut Random::new(seed);
         let disk = disks::draw(random);
-        for call in CHANGES.into_iter().chain([Call::Save, Call::Save]) {
+        for call in CHANGES
+            .into_iter()
+            .chain([Call::Save, Call::Save, Call::Gather, Call::Gather])
+        {
             if let Some(change) = Change::draw(call, &disk.image, random) {
                 cut(&change, &mut counts, random);
             }
@@ -57,13 +64,14 @@ fn every_change_cut_anywhere() {
     }
     println!(
         "{:?}: {:?} changes, {} with bigger directories, {} saves into slot 1, {} renames of case alone, {} erases of \
-         directories, {:?} saves that clear a slot in the same sector and in another, {} cuts, {} answers",
+         directories, {} gathers that move, {:?} saves that clear a slot in the same sector and in another, {} cuts, {} answers",
         CHANGES,
         counts.changes,
         counts.bigger,
         counts.first_slot,
         counts.turned,
         counts.directories,
+        counts.moved,
         counts.clearing,
         counts.cuts,
         counts.answers
@@ -81,6 +89,7 @@ fn every_change_cut_anywhere() {
         "too few saves cleared a slot"
     );
     assert!(!rounds.enough() || counts.directories >= 5, "too few directories were erased");
+    assert!(!rounds.enough() || counts.moved >= 20, "too few files were moved");
 }
 
 /// A save into the directory's end at the edges of sectors and tracks, cut after every sector. The slot behind holds a name,
@@ -197,13 +206,14 @@ fn cut(change: &Change, counts: &mut Counts, random: &mut Random) {
     counts.changes[sort] += 1;
     counts.turned += usize::from(change.turns_letters());
     counts.directories += usize::from(change.erases_a_directory());
+    counts.moved += usize::from(change.moves());
     counts.bigger += usize::from(change.facts.extra > 0);
     counts.first_slot += usize::from(change.asked.call == Call::Save && change.facts.taken == Some(1));
 }
 
 /// None, the first, all but the last two, all but the last, all, and some between.
 fn places(named: usize, random: &mut Random) -> Vec<usize> {
-    let mut places = vec![0, 1, named.saturating_sub(2), named - 1, named];
+    let mut places = vec![0, 1.min(named), named.saturating_sub(2), named.saturating_sub(1), named];
     places.extend((0..2).map(|_| random.between(0, named)));
     places.sort_unstable();
     places.dedup();

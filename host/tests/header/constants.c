@@ -38,6 +38,7 @@ static void check_reasons(void) {
     expect(VARNUCHT_DIRECTORY_IN_ITSELF == 28, "the number of a refusal", 28);
     expect(VARNUCHT_DIRECTORY_NOT_EMPTY == 29, "the number of a refusal", 29);
     expect(VARNUCHT_REPORT_FULL == 31, "the number of a refusal", 31);
+    expect(VARNUCHT_NO_RUN == 32, "the number of a refusal", 32);
 }
 
 static void check_sizes(void) {
@@ -53,6 +54,7 @@ static void check_sizes(void) {
     expect(VARNUCHT_TREE_BYTES == 2 * 778, "bytes of a tree", 0);
     expect(VARNUCHT_BODY_BYTES == 510 * 1560 - 9, "bytes of a body", 0);
     expect(VARNUCHT_SAVE_LIST_BYTES == 2 * (1560 + 2), "bytes of a save's list", 0);
+    expect(VARNUCHT_GATHER_LIST_BYTES == 2 * (1560 / 2 + 1), "bytes of a gather's list", 0);
     expect(VARNUCHT_CHANGE_LIST_BYTES == 2, "bytes of another list", 0);
     expect(VARNUCHT_REPORT_BYTES == 4 * 124, "bytes of a report", 0);
 }

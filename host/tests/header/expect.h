@@ -20,5 +20,6 @@ void check_pieces(void);
 void check_reports(void);
 void check_bigger(void);
 void check_trees(void);
+void check_gathering(void);
 
 #endif

@@ -46,6 +46,7 @@ int main(int argc, char **argv) {
     run("reports", check_reports);
     run("bigger directories", check_bigger);
     run("trees", check_trees);
+    run("gathering", check_gathering);
     printf("held %lu, failed %lu\n", held, failed);
     return failed != 0;
 }

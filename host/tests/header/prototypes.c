@@ -28,7 +28,7 @@ static rename_call *const volatile renaming = varnucht_rename;
 static list_call *const volatile adding = varnucht_report_add;
 static join_call *const volatile joining = varnucht_report_join;
 static change_call *const volatile changes[] = {varnucht_erase, varnucht_hide, varnucht_show, varnucht_protect,
-                                                varnucht_release};
+                                                varnucht_release, varnucht_gather};
 
 /* With nothing lent every call is there and answers 1, slot 0, and nothing else; but of the next piece that none comes, and of
  * a report that it is too short. */

@@ -2,7 +2,8 @@
  * counted. The disks are those that make a call work longest: the greatest file, eighty files, 778 in the biggest directory,
  * and there 255 subdirectories, each in the one before, with files in the last; and for both checks the greatest file with its
  * last link but one leading back to its first sector, which is refused 10 where that comes again. For the save also a disk
- * whose directory ends at slot 2, with an old name behind it in another sector. */
+ * whose directory ends at slot 2, with an old name behind it in another sector; for the gather the greatest file that can move,
+ * which has half of the data sectors, falling. */
 #define _XOPEN_SOURCE 700
 #include <stdio.h>
 #include <string.h>
@@ -17,6 +18,7 @@ static ucontext_t here, there;
 
 static uint8_t blank[VARNUCHT_IMAGE_BYTES], full[VARNUCHT_IMAGE_BYTES], crowded[VARNUCHT_IMAGE_BYTES];
 static uint8_t biggest[VARNUCHT_IMAGE_BYTES], deep[VARNUCHT_IMAGE_BYTES], ring[VARNUCHT_IMAGE_BYTES], ended[VARNUCHT_IMAGE_BYTES];
+static uint8_t falling[VARNUCHT_IMAGE_BYTES];
 static uint8_t image[VARNUCHT_IMAGE_BYTES];
 static uint8_t body[VARNUCHT_BODY_BYTES], list[VARNUCHT_SAVE_LIST_BYTES];
 static uint8_t report[VARNUCHT_REPORT_BYTES], shelf[VARNUCHT_REPORT_BYTES];
@@ -51,6 +53,7 @@ static void protect(void) { refusal = varnucht_refusal(varnucht_protect(image, s
 static void report_add(void) { refusal = varnucht_refusal(varnucht_report_add(image, sizeof image, report, sizeof report)); }
 static void report_join(void) { refusal = varnucht_refusal(varnucht_report_join(report, sizeof report, shelf, sizeof shelf)); }
 static void release(void) { refusal = varnucht_refusal(varnucht_release(image, sizeof image, name, 2, list, 2)); }
+static void gather(void) { refusal = varnucht_refusal(varnucht_gather(image, sizeof image, name, 2, list, sizeof list)); }
 
 /* The bytes from the deepest that was written to the stack's end. */
 static size_t used_by(void (*run)(void)) {
@@ -102,6 +105,31 @@ static void deepen(uint8_t *disk) {
     }
 }
 
+/* The address of map bit b, and the sector that it stands for. */
+static void address(unsigned b, uint8_t *to) {
+    to[0] = (uint8_t)(b < 760 ? 4 + b / 10 : 128 + (b - 760) / 10);
+    to[1] = (uint8_t)(b % 10 + 1);
+}
+
+static uint8_t *sector_of(uint8_t *disk, unsigned b) {
+    unsigned along = b < 760 ? 2 * (4 + b / 10) : 2 * ((b - 760) / 10) + 1;
+    return disk + (along * 10 + b % 10) * 512;
+}
+
+/* A file on map bits 0 to 779, chained from the last to the first. */
+static void let_fall(uint8_t *disk) {
+    save(disk, name, 2, 510 * 780 - 9);
+    memcpy(sector_of(disk, 779), sector_of(disk, 0), 9);
+    address(779, disk + 13);
+    for (unsigned b = 0; b < 780; b++) {
+        uint8_t *link = sector_of(disk, b) + 510;
+        link[0] = link[1] = 0;
+        if (b > 0) {
+            address(b - 1, link);
+        }
+    }
+}
+
 static void make_disks(void) {
     save(full, name, 2, sizeof body);
     memcpy(ring, full, sizeof ring);
@@ -114,6 +142,7 @@ static void make_disks(void) {
     biggest[255] = 35;
     crowd(biggest, VARNUCHT_SLOTS);
     deepen(deep);
+    let_fall(falling);
 }
 
 int main(void) {
@@ -135,11 +164,13 @@ int main(void) {
         say("show", show, disks[i]);
         say("protect", protect, disks[i]);
         say("release", release, disks[i]);
+        say("gather", gather, disks[i]);
         say("report_add", report_add, disks[i]);
         say("report_join", report_join, disks[i]);
     }
     say("check", check, ring);
     say("check_release", check_release, ring);
+    say("gather", gather, falling);
     say("save", saving, blank);
     say("save", saving_on, ended);
     say("save", saving_last, crowded);

@@ -72,6 +72,11 @@ pub fn draw(call: Call, facts: &Facts, random: &mut Random) -> Asked {
             };
             asked.with(NAME, name).with(NEW, new).with(OUT, list(1, random))
         }
+        Call::Gather => {
+            let name = asked_name(facts, random);
+            let need = 1 + facts.find(&name).map_or(0, |live| live.sectors.len());
+            asked.with(NAME, name).with(OUT, list(need, random))
+        }
         _ => asked.with(NAME, asked_name(facts, random)).with(OUT, list(1, random)),
     }
 }

@@ -10,6 +10,7 @@
 //! - `compare`: the same request to both, with every buffer compared at return.
 //! - `margins`, `guarded`: two ways to lend the buffers to the C layer.
 //! - `folders`: codes of directories, and what lies beneath them.
+//! - `gathers`: where a scattered file goes.
 //! - `facts`, `asking`, `wishes`, `readers`: drawn requests that fit a disk.
 //! - `reports`: drawn reports, and what is counted of a disk.
 //! - `tally`: how often each call gave each refusal.
@@ -25,6 +26,7 @@ pub mod disks;
 pub mod facts;
 pub mod fields;
 pub mod folders;
+pub mod gathers;
 pub mod geometry;
 pub mod guarded;
 pub mod margins;

@@ -1,7 +1,7 @@
 /// The words of document 01's table by number, copied from it; and those of the rows that document 02 moves or adds. Numbers
 /// between them belong to requests that have not landed.
 #[rustfmt::skip]
-pub const TABLE: [(u8, &str); 29] = [
+pub const TABLE: [(u8, &str); 30] = [
     (1, "the image is not 819,200 bytes"),
     (2, "the kind is not known"),
     (3, "the first name byte is 0 (given no more)"),
@@ -14,7 +14,7 @@ pub const TABLE: [(u8, &str); 29] = [
     (10, "the chain is broken"),
     (11, "carried kind, and the header's first byte (whole), remainder (mod 16,384) or pages differ from the slot's kind, remainder, pages"),
     (12, "the name is not usable"),
-    (13, "the kind asked for (save) or found (read, start address, tree) is not one that this call takes"),
+    (13, "the kind asked for (save) or found (read, start address, tree, gather) is not one that this call takes"),
     (14, "start page above 31, or offset outside 32,768 to 49,151 (save, start address)"),
     (15, "no live slot has the name, capitals or not"),
     (16, "a live slot has the new name, capitals or not"),
@@ -31,6 +31,7 @@ pub const TABLE: [(u8, &str); 29] = [
     (28, "a directory lies inside itself at some depth (tree)"),
     (29, "a directory whose code, not 0, is another live slot's byte 254 (erase)"),
     (31, "a disk or join that would pass 65,535 disks"),
+    (32, "the file must move and no run of consecutive free map bits has its length (gather)"),
 ];
 
 /// The words of a number, if it has any.

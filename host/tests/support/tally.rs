@@ -3,11 +3,10 @@
 use super::calls::{CALLS, Call, refusal};
 use std::fmt::Write;
 
-#[derive(Default)]
 pub struct Tally([[usize; 1 + MOST]; CALLS.len()]);
 
 /// The greatest number of refusal.
-const MOST: usize = 31;
+const MOST: usize = 32;
 
 /// The numbers that a call can give, by document 01's table and document 02; 0 for an accepted request. 3 is given no more.
 pub fn possible(call: Call) -> Vec<u8> {
@@ -26,9 +25,16 @@ pub fn possible(call: Call) -> Vec<u8> {
         Call::Erase => &[12, 15, 17, 29, 20],
         Call::Rename => &[12, 15, 16, 17, 20],
         Call::Hide | Call::Show | Call::Protect | Call::Release => &[12, 15, 20],
+        Call::Gather => &[12, 13, 15, 32, 20],
     };
     let disk = (0..=11).filter(|&number| number != 3).chain([24, 25]);
     disk.chain(own.iter().copied()).collect()
+}
+
+impl Default for Tally {
+    fn default() -> Tally {
+        Tally([[0; 1 + MOST]; CALLS.len()])
+    }
 }
 
 impl Tally {

@@ -209,7 +209,7 @@ slot  marks  name     kind              sectors  length  start
     assert_eq!(on("read", &image, ["NUMBERS"]).done(), "");
     let generic = on("read", &image, ["GENERIC"]);
     assert_eq!((generic.out.len(), &generic.out[..700]), (1_011, &body(700)[..]));
-    let words = "the kind asked for (save) or found (read, start address, tree) is not one that this call takes\n";
+    let words = "the kind asked for (save) or found (read, start address, tree, gather) is not one that this call takes\n";
     on("read", &image, ["SNAP"]).fails(1, &format!("SNAP: refusal 13 at slot 5: {words}"));
     on("save", &image, ["NEW", "/dev/null", "--kind", "4"]).fails(1, &format!("NEW: refusal 13: {words}"));
     // A length that its sectors do not hold.

@@ -88,7 +88,8 @@ fn lists_of_other_changes() {
     let mut disk = disk(31, 30, 100);
     let (slot, name) = (disk.files[17].slot, disk.files[17].name);
     disk.slot_mut(slot)[0] &= !fields::PROTECTED;
-    for call in CHANGES.into_iter().skip(1) {
+    // A save and a gather name data sectors too; `gather` has the lists of the latter.
+    for call in CHANGES.into_iter().filter(|call| !matches!(call, Call::Save | Call::Gather)) {
         for length in [0, 1, 2, 3, 4, 5, 3_000] {
             let mut asked = Asked::new(call).with(NAME, name).with(OUT, vec![0x5c; length]);
             if call == Call::Rename {

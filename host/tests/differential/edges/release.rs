@@ -192,6 +192,9 @@ fn other_calls_accept_them() {
                 .with(NAME, file.name)
                 .with(calls::NEW, *b"other")
                 .with(OUT, [0; 2]),
+            Call::Gather => Asked::new(call)
+                .with(NAME, file.name)
+                .with(OUT, vec![0x5c; 2 * (file.chain.len() + 1)]),
             _ => Asked::new(call).with(NAME, file.name).with(OUT, [0x5c; 9]),
         };
         expect(&asked, &disk.image, if call == Call::CheckRelease { 22 } else { 0 });

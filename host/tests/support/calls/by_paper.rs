@@ -84,6 +84,7 @@ fn change(request: &Request, image: &mut [u8], list: &mut [u8]) -> Result<usize,
         Call::Show => paper::show(image, name, list),
         Call::Protect => paper::protect(image, name, list),
         Call::Release => paper::release(image, name, list),
+        Call::Gather => paper::gather(image, name, list),
         call => unreachable!("{call:?} changes nothing"),
     }
 }

@@ -59,6 +59,7 @@ pub unsafe fn ask_c(call: Call, numbers: [u32; 3], parts: &[Part; 8]) -> u64 {
             Call::Show => raw::varnucht_show(i, il, n, nl, o, ol),
             Call::Protect => raw::varnucht_protect(i, il, n, nl, o, ol),
             Call::Release => raw::varnucht_release(i, il, n, nl, o, ol),
+            Call::Gather => raw::varnucht_gather(i, il, n, nl, o, ol),
             Call::ReportAdd => raw::varnucht_report_add(i, il, o, ol),
             Call::ReportJoin => raw::varnucht_report_join(o, ol, two.front, two.length),
         }

@@ -30,11 +30,12 @@ pub enum Call {
     Show,
     Protect,
     Release,
+    Gather,
     ReportAdd,
     ReportJoin,
 }
 
-pub const CALLS: [Call; 18] = [
+pub const CALLS: [Call; 19] = [
     Call::Check,
     Call::CheckRelease,
     Call::List,
@@ -51,11 +52,12 @@ pub const CALLS: [Call; 18] = [
     Call::Show,
     Call::Protect,
     Call::Release,
+    Call::Gather,
     Call::ReportAdd,
     Call::ReportJoin,
 ];
 
-pub const CHANGES: [Call; 7] = [
+pub const CHANGES: [Call; 8] = [
     Call::Save,
     Call::Erase,
     Call::Rename,
@@ -63,6 +65,7 @@ pub const CHANGES: [Call; 7] = [
     Call::Show,
     Call::Protect,
     Call::Release,
+    Call::Gather,
 ];
 
 /// The slices that calls lend, as places in the arrays below.

@@ -1,0 +1,97 @@
+//! `gather`: a scattered file moved to sectors in a row, or every one in turn.
+use super::change::{self, planned, written};
+use super::failure::{Failure, Outcome};
+use super::output::{self, counted};
+use super::source;
+use super::values::AskedName;
+use super::words::Given;
+use varnucht::{Change, Disk, Name, Refusal};
+
+/// Gathers the file of a name, or with `--all` each file.
+pub fn run(given: &Given) -> Outcome {
+    match (given.words().len(), given.has("--all")) {
+        (2, false) => {
+            let name = AskedName::at(given, 1)?;
+            change::perform(given, "gathered", &name.to_string(), || name.name("it").map(Change::Gather))
+        }
+        (1, true) => all(given),
+        _ => Err(given.usage("`gather` takes NAME or `--all`, and not both")),
+    }
+}
+
+/// Gathers each file in turn, the lowest slot first. One that cannot move is named, and the others go on.
+fn all(given: &Given) -> Outcome {
+    let mut count = Count::default();
+    if given.has("--dry-run") {
+        let mut disk = source::disk(given)?;
+        for name in names(&disk) {
+            let numbers = disk.change(&Change::Gather(name)).map(|sectors| sectors.into_numbers());
+            let refused = |refused| Failure::refused(given.word(0), &name.to_string(), refused);
+            if let Some(numbers) = count.moved(numbers.map_err(refused), |numbers| numbers.len())? {
+                output::print(format!("{name}\n{}", planned(&numbers)))?;
+            }
+        }
+        return count.told("would be gathered");
+    }
+    source::not_standard(given)?;
+    let (mut held, mut disk) = source::changing(given)?;
+    for name in names(&disk) {
+        let what = name.to_string();
+        let many = change::make(given, &mut held, &mut disk, &what, &Change::Gather(name));
+        if let Some(many) = count.moved(many, |many| *many)? {
+            output::confirm(&written("gathered", &what, many));
+        }
+    }
+    count.told("gathered")
+}
+
+/// The names of the files, by rising slot. A subdirectory has no sectors to gather.
+fn names(disk: &Disk) -> Vec<Name> {
+    let files = disk.listing().entries().iter().filter(|entry| !entry.kind().is_directory());
+    files.map(|entry| entry.name()).collect()
+}
+
+/// How many files moved, lay in a row already, and could not move.
+#[derive(Default)]
+struct Count {
+    moved: usize,
+    left: usize,
+    stuck: usize,
+}
+
+impl Count {
+    /// Counts a file. What was done is given back where it moved; where there is no room for it, that is said. Anything else
+    /// ends the command.
+    fn moved<T>(&mut self, done: Result<T, Failure>, many: impl Fn(&T) -> usize) -> Result<Option<T>, Failure> {
+        match done {
+            Ok(done) if many(&done) > 0 => {
+                self.moved += 1;
+                Ok(Some(done))
+            }
+            Ok(_) => {
+                self.left += 1;
+                Ok(None)
+            }
+            Err(failure) if failure.is(Refusal::NoRun) => {
+                self.stuck += 1;
+                failure.words().iter().for_each(|words| output::say(words));
+                Ok(None)
+            }
+            Err(failure) => Err(failure),
+        }
+    }
+
+    /// Tells how many there were of each. With one that could not move the status is that of a refusal.
+    fn told(self, gathered: &str) -> Outcome {
+        let stuck = match self.stuck {
+            0 => String::new(),
+            stuck => format!(", {stuck} could not move"),
+        };
+        output::confirm(&format!(
+            "{} {gathered}, {} left in place{stuck}",
+            counted(self.moved, "file"),
+            self.left
+        ));
+        if self.stuck == 0 { Ok(()) } else { Err(Failure::Said(1)) }
+    }
+}
