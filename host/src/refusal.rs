@@ -54,7 +54,7 @@ pub enum Refusal {
     WasteSectors,
     /// 23: the names are not a whole number of tens. [`calls::erase_many`](crate::calls::erase_many) alone gives it; the types of
     /// [`Disk::erase_many`](crate::Disk::erase_many) rule it out.
-    NamesNotWhole,
+    NamesNotTens,
     /// 24: slot 1 says a number of directory tracks that no disk has.
     DirectoryTracks,
     /// 25: a kind of the Spectrum, 1 to 4, and its sectors are too few for the length in its header.
@@ -131,7 +131,7 @@ const TABLE: [(u8, Refusal, &str); 31] = [
     ),
     (
         23,
-        Refusal::NamesNotWhole,
+        Refusal::NamesNotTens,
         "the names are not a whole number of tens (erase many)",
     ),
     (

@@ -17,7 +17,7 @@ pub fn erase_many(image: &mut [u8], names: &[u8], answers: &mut [u8], list: &mut
     let image = whole_mut(image)?;
     let extent = survey(image)?.extent;
     let (names, []) = names.as_chunks() else {
-        return Err(Reason::NamesNotWhole.alone());
+        return Err(Reason::NamesNotTens.alone());
     };
     let mut files = Files::of(image, extent, names.len());
     let given: Vec<u8> = names.iter().map(|name| files.erase(name)).collect();

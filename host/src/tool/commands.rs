@@ -172,11 +172,11 @@ const GATHER_ALL: &str = "With --all the files that cannot move are named, and t
 that moves leaves free sectors, so that another run may move more of them.";
 
 /// What is said of several names that are erased at once.
-const HANDFUL: &str = "Several files are erased in the order of their names: one that is named again is
-not there, and a directory goes where the names before it emptied it. Of each
-that is refused a line is printed, the rest is done, and the status is 1. Cut
-short, the files whose sector was written are gone, and the others are still
-there: what is said below of the last sector holds of each.";
+const HANDFUL: &str = "Several files are erased in the order of their names: one that is named twice
+is not there the second time, and a directory goes if the names before it have
+emptied it. Of each that is refused a line is printed, the rest is done, and
+the status is 1. Each of their sectors is a change of its own: cut short, the
+files whose sector was written are gone, and the others are still there.";
 
 /// What is said of numbers.
 const NUMBERS: &str = "A number may be written as 0x and hexadecimal digits.";

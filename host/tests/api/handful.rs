@@ -53,7 +53,12 @@ fn each_name_has_its_answer() {
         assert_eq!(one, answer, "{name}");
     }
     assert!(disk == single && disk.listing() == single.listing());
-    let left: Vec<String> = disk.listing().entries().iter().map(|entry| entry.name().to_string()).collect();
+    let left: Vec<String> = disk
+        .listing()
+        .entries()
+        .iter()
+        .map(|entry| entry.name().to_string())
+        .collect();
     assert_eq!(left, ["F2", "F3", "F7", "F8"]);
 }
 
@@ -76,7 +81,7 @@ fn none_and_all() {
         assert_eq!(numbers.len(), slots / 2);
         assert!(numbers.is_sorted_by(|one, next| one < next));
         assert_eq!(disk.listing().entries().len(), 0);
-        assert_eq!(disk.listing().free(), disk.directory().data_sectors());
+        assert_eq!(usize::from(disk.listing().free()), disk.directory().data_sectors());
     }
 }
 
@@ -112,7 +117,8 @@ fn cut_anywhere() {
             Err(failed) => {
                 assert!(matches!(failed, WriteError::Partly { written, of: 4, .. } if written == left));
                 assert!(failed.at_last(), "each sector is a change of its own");
-                let words = format!("{left} of 4 sectors were written, and then: no more. The files erased in those are gone, ");
+                let words =
+                    format!("{left} of 4 sectors were written, and then: no more. The files erased in those are gone, ");
                 assert!(failed.to_string().starts_with(&words), "{failed}");
             }
         }
@@ -146,7 +152,11 @@ fn later_changes_wait_for_it() {
     drop(disk.erase_many(&names(&["F2", "F3"])).expect("the disk is good"));
     let skipped = disk.hide(&name("F4")).unwrap().write_to(&mut store, |_, _| {}).unwrap_err();
     assert!(matches!(skipped, WriteError::Skipped));
-    let skipped = disk.erase_many(&names(&["F4"])).unwrap().sectors.write_to(&mut store, |_, _| {});
+    let skipped = disk
+        .erase_many(&names(&["F4"]))
+        .unwrap()
+        .sectors
+        .write_to(&mut store, |_, _| {});
     assert!(matches!(skipped, Err(WriteError::Skipped)));
 }
 
@@ -154,7 +164,11 @@ fn later_changes_wait_for_it() {
 #[test]
 fn the_order_of_names() {
     let old = files(Directory::default(), 6);
-    let mut orders = vec![names(&["F1", "F4", "F6"]), names(&["F6", "F1", "F4"]), names(&["F4", "F6", "F1"])];
+    let mut orders = vec![
+        names(&["F1", "F4", "F6"]),
+        names(&["F6", "F1", "F4"]),
+        names(&["F4", "F6", "F1"]),
+    ];
     orders.push(names(&["F6", "F4", "F1", "f1", "F6"]));
     for order in orders {
         let mut disk = old.clone();

@@ -90,7 +90,10 @@ impl Handful<'_> {
         let outcome = Outcome::of(&facts, names);
         let sectors = outcome.sectors();
         let left = ask(&handfuls::exact(names, sectors.len()), old);
-        let listed = left.out.chunks(2).map(|pair| usize::from(pair[0]) + 256 * usize::from(pair[1]));
+        let listed = left
+            .out
+            .chunks(2)
+            .map(|pair| usize::from(pair[0]) + 256 * usize::from(pair[1]));
         assert!(listed.eq(sectors.iter().copied()), "other sectors are named");
         assert!(left.answers == outcome.answers, "other answers");
         Handful {

@@ -105,9 +105,17 @@ fn examine(old: &[u8], facts: &Facts, names: &[Name], counts: &mut Counts, rando
     asked.slices[ANSWERS].extend(vec![0x5c; more]);
     asked.slices[OUT].extend(vec![0xc5; random.pick(&[0, 0, 1, 2, 9])]);
     let left = compare::ask(&asked.on(old), &mut Margins::default());
-    assert_eq!(left.answer, (sectors.len() as u64) << 24, "{}", compare::read_out(left.answer));
+    assert_eq!(
+        left.answer,
+        (sectors.len() as u64) << 24,
+        "{}",
+        compare::read_out(left.answer)
+    );
     let (answers, rest) = left.answers.split_at(names.len());
-    assert!(answers == outcome.answers && rest.iter().all(|&byte| byte == 0x5c), "the answers");
+    assert!(
+        answers == outcome.answers && rest.iter().all(|&byte| byte == 0x5c),
+        "the answers"
+    );
     listed(&left, &sectors);
     let new = left.image.as_deref().expect("it is accepted");
     assert!(new == outcome.disk(old, &sectors), "another disk");

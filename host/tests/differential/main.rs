@@ -6,6 +6,7 @@
 //! - `edges`: each argument of each call and each field of a slot at, below and above its boundaries, one after the other.
 //! - `sectors`: every drive, track and sector of the raw sector call.
 //! - `pieces`: readers, however the asking is cut, and readers of any three numbers.
+//! - `handfuls`: names erased at once, and one after the other.
 //! - `reports`: shelves in numbers, and reports of any bytes.
 //! - `ticks`: marks in either order, marks of two phones merged, and renames taken back.
 //!
@@ -18,6 +19,7 @@ mod support;
 mod drawn;
 mod draws;
 mod edges;
+mod handfuls;
 mod pieces;
 mod reports;
 mod sectors;

@@ -80,7 +80,7 @@ static void check_each(void) {
     }
     for (size_t over = 1; over < VARNUCHT_NAME_BYTES; over++) {
         uint64_t answer = varnucht_erase_many(image, sizeof image, names, VARNUCHT_NAME_BYTES + over, NULL, 0, NULL, 0);
-        expect(answer == VARNUCHT_NAMES_NOT_WHOLE, "bytes left over", over);
+        expect(answer == VARNUCHT_NAMES_NOT_TENS, "bytes left over", over);
     }
     answers[many] = 0x5c;
     uint64_t answer = erase_many(many, many + 1, sizeof list);
@@ -95,9 +95,26 @@ static void check_each(void) {
     expect(varnucht_check(image, sizeof image) == 0, "the disk is accepted", 0);
 }
 
+/* NULL as an empty slice in every place. */
+static void check_nothing(void) {
+    make_disk(0, 2);
+    put_name(0, 'F', 1);
+    uint64_t answer = varnucht_erase_many(image, sizeof image, NULL, 0, NULL, 0, NULL, 0);
+    expect(answer == 0, "no names", 0);
+    expect(varnucht_erase_many(NULL, 0, names, 10, answers, 1, list, 2) == VARNUCHT_NOT_AN_IMAGE, "no image", 0);
+    answer = varnucht_erase_many(image, sizeof image, names, 10, NULL, 0, list, 2);
+    expect(answer == VARNUCHT_BUFFER_TOO_SHORT, "no answers", 0);
+    answer = varnucht_erase_many(image, sizeof image, names, 10, answers, 1, NULL, 0);
+    expect(answer == VARNUCHT_BUFFER_TOO_SHORT, "no list", 0);
+    expect(memcmp(image, before, sizeof image) == 0, "nothing is erased", 0);
+    put_name(0, 'X', 1);
+    answer = varnucht_erase_many(image, sizeof image, names, 10, answers, 1, NULL, 0);
+    expect(answer == 0 && answers[0] == VARNUCHT_NAME_NOT_FOUND, "nothing to list", 0);
+}
+
 void check_handfuls(void) {
-    expect(VARNUCHT_ERASE_LIST_BYTES == 2 * (39 * 10 - 1), "every sector of the biggest directory", 0);
     check_all(0, 80);
     check_all(35, VARNUCHT_SLOTS);
     check_each();
+    check_nothing();
 }

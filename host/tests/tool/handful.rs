@@ -14,7 +14,12 @@ fn eight() -> Disk {
 
 /// The names of the files that a disk has.
 fn listed(disk: &Disk) -> String {
-    let names: Vec<String> = disk.listing().entries().iter().map(|entry| entry.name().to_string()).collect();
+    let names: Vec<String> = disk
+        .listing()
+        .entries()
+        .iter()
+        .map(|entry| entry.name().to_string())
+        .collect();
     names.join(" ")
 }
 
@@ -22,7 +27,10 @@ fn listed(disk: &Disk) -> String {
 fn several_files_are_erased() {
     let folder = Folder::new();
     let image = folder.image(&eight());
-    assert_eq!(on("erase", &image, ["F8", "f1", "F2"]).done(), "erased 3 of 3: 2 sectors written\n");
+    assert_eq!(
+        on("erase", &image, ["F8", "f1", "F2"]).done(),
+        "erased 3 of 3: 2 sectors written\n"
+    );
     assert_eq!(listed(&held(&image)), "F3 F4 F5 F6 F7");
     // One name is as it always was, its slot in the message too.
     assert_eq!(on("erase", &image, ["F3"]).done(), "erased F3: 1 sector written\n");
@@ -53,7 +61,10 @@ fn each_refused_name_has_a_line() {
     let said: Vec<&str> = run.err.lines().collect();
     assert_eq!(said.len(), lines.len(), "{}", run.err);
     for (said, line) in said.iter().zip(lines) {
-        assert!(said.starts_with("varnucht: ") && said.ends_with(&format!("disk.mgt: {line}")), "{said}");
+        assert!(
+            said.starts_with("varnucht: ") && said.ends_with(&format!("disk.mgt: {line}")),
+            "{said}"
+        );
     }
     assert_eq!(listed(&held(&image)), "F2 F3 F5 F6 F7 F8");
     age(&image);
@@ -79,7 +90,10 @@ fn directories() {
                  empty, and `tree` shows what is in it\n";
     assert!(run.err.ends_with(words), "{}", run.err);
     let path = folder.file("disk.mgt", image.as_bytes());
-    assert_eq!(on("erase", &path, ["F5", "F2", "F1"]).done(), "erased 3 of 3: 2 sectors written\n");
+    assert_eq!(
+        on("erase", &path, ["F5", "F2", "F1"]).done(),
+        "erased 3 of 3: 2 sectors written\n"
+    );
     assert_eq!(listed(&held(&path)), "F3 F4 F6 F7 F8");
 }
 
@@ -94,7 +108,10 @@ fn nothing_is_written_with_dry_run() {
     assert_eq!(on("erase", &image, ["F5", "F2", "F1", "--dry-run"]).done(), planned);
     let run = on("erase", &image, ["--dry-run", "F5", "none", "F1"]);
     assert_eq!((run.status, run.text()), (1, planned));
-    assert!(run.err.ends_with("disk.mgt: none: refusal 15: no live slot has the name, capitals or not\n"));
+    assert!(
+        run.err
+            .ends_with("disk.mgt: none: refusal 15: no live slot has the name, capitals or not\n")
+    );
     let input = fs::read(&image).unwrap();
     assert_eq!(fed(["erase", "-", "F5", "F2", "F1", "--dry-run"], &input).done(), planned);
     assert_eq!(state(&image), before);

@@ -67,7 +67,10 @@ fn erases(disk: &Disk, names: &[u8], answers: &[u8], slots: &[usize]) -> Left {
         let asked = asked(names, answers.len() + more, 2 * sectors.len() + more);
         let left = expect(&asked, &disk.image, 0);
         assert_eq!(calls::value(left.answer), sectors.len());
-        let listed = left.out.chunks(2).map(|pair| usize::from(pair[0]) + 256 * usize::from(pair[1]));
+        let listed = left
+            .out
+            .chunks(2)
+            .map(|pair| usize::from(pair[0]) + 256 * usize::from(pair[1]));
         assert!(listed.take(sectors.len()).eq(sectors.iter().copied()));
         assert!(left.out[2 * sectors.len()..].iter().all(|&byte| byte == 0x5c));
         assert_eq!(left.answers[..answers.len()], *answers);
@@ -99,7 +102,11 @@ fn one_name_and_a_single_erase() {
     make_directory(&mut disk, 3, 7, 0);
     disk.slot_mut(4)[fields::PARENT] = 7;
     for (name, number) in [(name(1), 0), (name(2), 17), (name(3), 29), (name(5), 15), ([0; 10], 12)] {
-        let single = expect(&Asked::new(Call::Erase).with(NAME, name).with(OUT, [0x5c; 2]), &disk.image, number);
+        let single = expect(
+            &Asked::new(Call::Erase).with(NAME, name).with(OUT, [0x5c; 2]),
+            &disk.image,
+            number,
+        );
         let many = expect(&asked(&name, 1, 2), &disk.image, 0);
         assert_eq!((many.answers, many.out), (vec![number], single.out));
         assert!(many.image.unwrap_or_default() == single.image.unwrap_or(disk.image.clone()));
@@ -137,7 +144,12 @@ fn all_there_can_be() {
         let (even, twice): (Vec<usize>, Vec<usize>) = ((2..=slots).step_by(2).collect(), (1..slots).step_by(2).collect());
         erases(&disk, &names_of(even.clone()), &vec![0; slots / 2], &even);
         let answers: Vec<u8> = twice.iter().flat_map(|_| [0, 15]).collect();
-        erases(&disk, &names_of(twice.iter().flat_map(|&slot| [slot, slot])), &answers, &twice);
+        erases(
+            &disk,
+            &names_of(twice.iter().flat_map(|&slot| [slot, slot])),
+            &answers,
+            &twice,
+        );
         // One protected file among them.
         disk.slot_mut(slots)[0] |= fields::PROTECTED;
         let mut answers = vec![0; slots];
@@ -160,7 +172,11 @@ fn what_refuses_the_whole_call() {
         expect(&asked(&names[..length], many, 6), &disk.image, if whole { 0 } else { 23 });
         expect(&asked(&vec![0; length], many, 6), &disk.image, if whole { 0 } else { 23 });
         if many > 0 {
-            expect(&asked(&names[..length], many - 1, 6), &disk.image, if whole { 20 } else { 23 });
+            expect(
+                &asked(&names[..length], many - 1, 6),
+                &disk.image,
+                if whole { 20 } else { 23 },
+            );
         }
     }
     // Slots 1 and 2 share a sector, so three sectors are named.

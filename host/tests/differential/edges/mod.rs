@@ -6,6 +6,7 @@ mod bigger;
 mod bodies;
 mod buffers;
 mod ends;
+mod handful;
 mod letters;
 mod names;
 mod order;
