@@ -45,7 +45,10 @@ fn drawn_handfuls_cut_anywhere() {
     for seed in rounds.seeds() {
         let _round = Round(seed);
         let random = &mut Random::new(seed);
-        let disk = disks::draw(random);
+        let mut disk = disks::draw(random);
+        if random.coin() {
+            disk.release_all();
+        }
         for _ in 0..2 {
             let names = handfuls::names(&Facts::of(&disk.image), random);
             Handful::of(&disk.image, &names).cut(&mut counts, random);
@@ -73,7 +76,7 @@ fn full_directories_cut_anywhere() {
             tidy: false,
         };
         let mut disk = disks::of_shape(&shape, random);
-        (1..=disk.slots()).for_each(|slot| disk.slot_mut(slot)[0] &= !fields::PROTECTED);
+        disk.release_all();
         let mut names = disk.names();
         random.shuffle(&mut names);
         let handful = Handful::of(&disk.image, &names);

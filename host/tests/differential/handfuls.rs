@@ -36,7 +36,10 @@ fn drawn_handfuls() {
     for seed in rounds.seeds() {
         let _round = Round(seed);
         let random = &mut Random::new(seed);
-        let disk = disks::draw(random);
+        let mut disk = disks::draw(random);
+        if random.coin() {
+            disk.release_all();
+        }
         let facts = Facts::of(&disk.image);
         for _ in 0..5 {
             let names = handfuls::names(&facts, random);
@@ -65,8 +68,8 @@ fn full_directories() {
         examine(&disk.image, &facts, &names, &mut counts, random);
         names.extend(disk.names());
         examine(&disk.image, &facts, &names, &mut counts, random);
+        disk.release_all();
         for slot in 1..=disk.slots() {
-            disk.slot_mut(slot)[0] &= !fields::PROTECTED;
             // None is in itself or in a ring: each directory is in one that stands before it, or in the root.
             disk.slot_mut(slot)[fields::CODE] = (slot % 256) as u8;
             disk.slot_mut(slot)[fields::PARENT] = (slot % 256 / 2) as u8;
