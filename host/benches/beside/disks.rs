@@ -1,4 +1,4 @@
-//! The disks of the benchmark, made by `paper::save` and `paper::erase`; in one the sectors of the file are then shuffled, in
+//! The disks of the benchmark, made by `paper::save` and `paper::erase`; in two the sectors of the file are then shuffled, in
 //! one the last file is made one of the Spectrum, and in two some files are made directories.
 
 use crate::geometry::{address, bit_place, slot_place};
@@ -124,13 +124,39 @@ pub fn spectrum() -> Disk {
     disk
 }
 
-/// The disk of one file with its sectors in a drawn order: some half of the links lead to the next sector, which a guess
-/// at the next place finds, and the rest anywhere.
+/// The disk of one file with its sectors in a drawn order.
 pub fn scattered() -> Disk {
-    let Disk { image: whole, last, .. } = one();
+    shuffled("1 x 795,591, scattered", one(), SECTORS)
+}
+
+/// A file of half of the data sectors, the most that a gather moves, with these in a drawn order.
+pub fn half_scattered() -> Disk {
+    let half = made("1 x 397,791", 0, 1, 510 * (SECTORS / 2) - 9, unlike);
+    shuffled("1 x 397,791, scattered", half, SECTORS / 2)
+}
+
+/// Every other of eighty files erased, and a file of three sectors in the first two holes, which have two each.
+pub fn holes() -> Disk {
+    let mut image = eighty().image.to_vec();
+    for file in (0..80).step_by(2) {
+        paper::erase(&mut image, &unlike(file), &mut [0; 2]).expect("it is there");
+    }
+    let last = unlike(80);
+    paper::save(&mut image, &wish(&last, &body(1_400)), &mut [0; LIST_BYTES]).expect("the file has room");
+    Disk {
+        title: "40 x 900, holes, 1,400",
+        image: image.into(),
+        last: last.to_vec(),
+    }
+}
+
+/// The disk of one file, which has the first so many sectors, with these in a drawn order: some half of the links lead to the
+/// next sector, which a guess at the next place finds, and the rest anywhere.
+fn shuffled(title: &'static str, disk: Disk, sectors: usize) -> Disk {
+    let Disk { image: whole, last, .. } = disk;
     let mut random = Random::new(1);
     let mut runs: Vec<Vec<usize>> = vec![];
-    for bit in 0..SECTORS {
+    for bit in 0..sectors {
         match runs.last_mut() {
             Some(run) if random.coin() => run.push(bit),
             _ => runs.push(vec![bit]),
@@ -149,7 +175,7 @@ pub fn scattered() -> Disk {
         image[to + 510..to + 512].copy_from_slice(&link);
     }
     Disk {
-        title: "1 x 795,591, scattered",
+        title,
         image: image.into(),
         last,
     }

@@ -21,6 +21,8 @@ pub enum Work {
     Save(Vec<u8>),
     /// Erases the disk's last file.
     Erase,
+    /// Gathers the disk's last file, which moves or not.
+    Gather(bool),
     /// Adds the disk to a report that has no disk yet.
     Report,
 }
@@ -64,6 +66,9 @@ pub fn all() -> Vec<Row> {
     rows.extend([&three, &three_and_old, &last].map(|disk| row(disk, Work::Save(disks::body(900)), 0)));
     rows.extend(disks.map(|disk| row(disk, Work::Erase, if disk.title == blank.title { 15 } else { 0 })));
     rows.push(row(&biggest, Work::Erase, 0));
+    rows.extend([&disks::half_scattered(), &disks::holes()].map(|disk| row(disk, Work::Gather(true), 0)));
+    rows.extend([&eighty, &one].map(|disk| row(disk, Work::Gather(false), 0)));
+    rows.push(row(&scattered, Work::Gather(false), 32));
     rows.extend([&blank, &eighty, &eighty_alike, &seventy_eight, &one, &scattered].map(|disk| row(disk, Work::Report, 0)));
     rows
 }
@@ -128,13 +133,14 @@ impl Row {
             Work::Tree => "tree".into(),
             Work::Save(body) => format!("save {}", body.len()),
             Work::Erase => "erase".into(),
+            Work::Gather(_) => "gather".into(),
             Work::Report => "report add".into(),
         }
     }
 
     /// Whether the image changes. Then it is put back after every call.
     pub fn changes(&self) -> bool {
-        self.refusal == 0 && matches!(self.work, Work::Save(_) | Work::Erase)
+        self.refusal == 0 && matches!(self.work, Work::Save(_) | Work::Erase | Work::Gather(true))
     }
 
     /// How long the lent output buffer is. The list of a change is two bytes for each sector named.
@@ -144,7 +150,7 @@ impl Row {
             Work::List => 778 * 258,
             Work::Read | Work::Pieces(..) => LONGEST,
             Work::Tree => 2 * 778,
-            Work::Save(_) | Work::Erase => LIST_BYTES,
+            Work::Save(_) | Work::Erase | Work::Gather(_) => LIST_BYTES,
             Work::Report => REPORT_BYTES,
         }
     }
@@ -161,6 +167,7 @@ impl Row {
             Work::Tree => (side.tree)(image, &[], buffer),
             Work::Save(body) => (side.save)(image, &disks::wish(Row::NEW, body), buffer),
             Work::Erase => (side.erase)(image, &self.disk.last, buffer),
+            Work::Gather(_) => (side.gather)(image, &self.disk.last, buffer),
             Work::Report => {
                 // The numbers that count disks begin at 0 again, so that the report is never full.
                 buffer[..4 * 33].fill(0);

@@ -16,6 +16,7 @@ pub struct Side {
     pub tree: fn(&[u8], &[u8], &mut [u8]) -> u64,
     pub save: fn(&mut [u8], &Wish, &mut [u8]) -> u64,
     pub erase: fn(&mut [u8], &[u8], &mut [u8]) -> u64,
+    pub gather: fn(&mut [u8], &[u8], &mut [u8]) -> u64,
     pub report_add: fn(&[u8], &mut [u8]) -> u64,
     pub report_join: fn(&mut [u8], &[u8]) -> u64,
 }
@@ -32,6 +33,7 @@ pub fn ours() -> Side {
         tree: |image, name, slots| calls::tree(image, name, slots).number(),
         save: our_save,
         erase: |image, name, list| calls::erase(image, name, list).number(),
+        gather: |image, name, list| calls::gather(image, name, list).number(),
         report_add: |image, report| calls::report_add(image, report).number(),
         report_join: |report, other| calls::report_join(report, other).number(),
     })
@@ -55,6 +57,7 @@ pub fn theirs() -> Side {
         tree: |image, name, slots| word(paper::tree(image, name, slots), |many| (many, 0)),
         save: |image, wish, list| word(paper::save(image, wish, list), |count| (count, 0)),
         erase: |image, name, list| word(paper::erase(image, name, list), |count| (count, 0)),
+        gather: |image, name, list| word(paper::gather(image, name, list), |count| (count, 0)),
         report_add: |image, report| word(paper::report_add(image, report), |disks| (disks, 0)),
         report_join: |report, other| word(paper::report_join(report, other), |disks| (disks, 0)),
     })

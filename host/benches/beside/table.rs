@@ -10,13 +10,13 @@ pub fn print_head(timer: Duration) {
     println!("both checks, list, read, open, pieces, report and refused calls: many calls between two looks at the clock.");
     println!("pieces: a whole body by next, so many bytes to a call, laid end to end; it was opened before, untimed.");
     println!(
-        "save and erase that are accepted: every call timed alone, less {} ns, the cost of an empty timed",
+        "save, erase and gather that change a disk: every call timed alone, less {} ns, the cost of an empty timed",
         timer.as_nanos()
     );
     println!("region; the changed sectors are put back after each call, untimed.");
     println!("No buffer is cleared between calls, and both sides use the same image and buffer: the caches are warm.");
     println!(
-        "read, open and erase take the last file. Files have kind 19, but the last of a disk 'kind 4'. Their names have ten"
+        "read, open, erase and gather take the last file. Files have kind 19, but the last of a disk 'kind 4'. Their names have ten"
     );
     println!("bytes that differ in the first two; with 'names alike' in the last two alone, with 'names drawn' anywhere.");
     println!("'less one', 'erased': the last file was erased before, so the save takes its slot and sectors.");
@@ -26,7 +26,9 @@ pub fn print_head(timer: Duration) {
     println!(
         "tree takes the root. '678 in 100': so many files in so many directories; 'nested': each in the one before, the files"
     );
-    println!("in the last.");
+    println!(
+        "in the last. gather: files of 795,591 and 900 bytes lie in a row; 'scattered', 'holes': the last file does not."
+    );
     println!();
     println!(
         "{:<13} {:<22} {:<10} {:>10} {:>10} {:>10} {:>10} {:>7} {:>7} {:>6}",

@@ -58,7 +58,7 @@ fn rename(image: &mut [u8], name: &[u8], list: &mut [u8]) -> Result<usize, Refus
 
 #[test]
 fn calls_hold_on_damaged_disks() {
-    let calls: [Call; 7] = [
+    let calls: [Call; 8] = [
         save,
         rename,
         paper::erase,
@@ -66,6 +66,7 @@ fn calls_hold_on_damaged_disks() {
         paper::show,
         paper::protect,
         paper::release,
+        paper::gather,
     ];
     let mut disk = blank();
     for (name, length) in [(&b"A"[..], 900), (b"B", 1_500), (b"C", 0)] {
@@ -83,7 +84,7 @@ fn calls_hold_on_damaged_disks() {
         let checked = paper::check(&image);
         let name = [&b"A"[..], b"B", b"NEW", b"", b"\xff"][numbers.below(5)];
         let mut list = [7; 7];
-        let answer = calls[numbers.below(7)](&mut image, name, &mut list);
+        let answer = calls[numbers.below(8)](&mut image, name, &mut list);
         let number = answer.map_or_else(|refused| refused.number, |_| 0);
         *seen.entry(number).or_default() += 1;
         match (checked, answer) {

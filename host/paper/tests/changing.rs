@@ -1,4 +1,4 @@
-//! The seven changes: what they write, what they name, what they refuse.
+//! The changes but gathering: what they write, what they name, what they refuse.
 
 mod common;
 use common::*;
