@@ -13,10 +13,10 @@
  * A slice is a pointer and then its length in bytes. It may have any length and any content: every call on every input ends
  * and answers. NULL with length 0 is an empty slice.
  *
- * A slice with a `const` pointer is only read. A slice without one (`out`, `slots`, `answers`, `list`, the `image` of a change)
- * may be changed, and must not overlap any other slice of the same call. Slices that are only read may overlap each other. The
- * likely mistake is a name that points into the image that the call changes, or into the buffer that it fills: copy the name
- * out first.
+ * A slice with a `const` pointer is only read. A slice without one (`out`, `slots`, `answers`, `list`, the `image` of a
+ * change) may be changed, and must not overlap any other slice of the same call. Slices that are only read may overlap each
+ * other. The likely mistake is a name that points into the image that the call changes, or into the buffer that it fills:
+ * copy the name out first.
  *
  * You own every buffer before, during and after a call. The library allocates nothing, keeps no pointer and has no state:
  * what a call does depends on its arguments alone. So calls on different buffers may run at once on different threads, and
@@ -394,12 +394,12 @@ static inline unsigned varnucht_report_class_first(unsigned c) { return c == 0 ?
  * You may rely on that only if no sector reaches the storage before one that stands earlier in the list, and none reaches it
  * in part. Where a write fails, the image in memory is ahead of the file: read it again from there before the next change.
  *
- * varnucht_erase_many alone does several changes at once, and each sector of its list is a change of its own: stopped after
- * some of them, the file holds a disk that varnucht_check accepts, on which the files erased in the sectors written are gone,
- * and every other is still there.
+ * varnucht_erase_many alone makes several changes at once, and each sector of its list is a change of its own: stopped
+ * after some of them, the file holds a disk that varnucht_check accepts, on which the files erased in the sectors written
+ * are gone, and every other is still there.
  *
- * `list`: VARNUCHT_SAVE_LIST_BYTES for a save, VARNUCHT_GATHER_LIST_BYTES for a gather, VARNUCHT_ERASE_LIST_BYTES for an erase
- * of many and VARNUCHT_CHANGE_LIST_BYTES for any other change always suffice. */
+ * `list`: VARNUCHT_SAVE_LIST_BYTES for a save, VARNUCHT_GATHER_LIST_BYTES for a gather, VARNUCHT_ERASE_LIST_BYTES for an
+ * erase of many and VARNUCHT_CHANGE_LIST_BYTES for any other change always suffice. */
 
 /* The sector number at place i of a list, i below the value answered. */
 static inline unsigned varnucht_listed(const uint8_t *list, size_t i) { return list[2 * i] + 256u * list[2 * i + 1]; }
@@ -430,19 +430,20 @@ uint64_t varnucht_save(uint8_t *image, size_t image_len, uint32_t kind, const ui
 uint64_t varnucht_erase(uint8_t *image, size_t image_len, const uint8_t *name, size_t name_len, uint8_t *list,
                         size_t list_len);
 
-/* Erases a handful of files at once: those of the names, one after the other, as varnucht_erase does, and the disk is checked
+/* Erases a handful of files at once: those of the names, one after the other, as varnucht_erase does. The disk is checked
  * once for all of them.
  *   names     any number of names, none too, of ten bytes each, laid end to end; fill a shorter one with spaces (32)
- *   answers   gets a byte for each name, in their order: 0 where its file is erased, else the number that varnucht_erase would
- *             have answered there, 12 (its first byte is 0), 15, 17 or 29. Such a number refuses nothing of the call. So a name
- *             that is given again is answered 15, and a subdirectory is erased where the names before it have emptied it
+ *   answers   gets a byte for each name, in their order: 0 where its file is erased, else the number that varnucht_erase
+ *             would have answered there, 12 (its first byte is 0), 15, 17 or 29. Such a number refuses nothing of the call.
+ *             So a name that is given again is answered 15, and a subdirectory is erased where the names before it have
+ *             emptied it
  *   list      gets the directory's sectors that changed, each once and rising
- * What is not filled of `answers` and `list` stays. Value: how many sectors, 0 to 389. `answers`: names_len / 10 bytes. `list`:
- * two bytes for each sector, and VARNUCHT_ERASE_LIST_BYTES always suffice.
+ * What is not filled of `answers` and `list` stays. Value: how many sectors, 0 to 389. `answers`: names_len / 10 bytes.
+ * `list`: two bytes for each sector, and VARNUCHT_ERASE_LIST_BYTES always suffice.
  *
  * EACH SECTOR OF THE LIST IS A CHANGE OF ITS OWN. Where the writing is stopped, the files erased in the sectors written are
- * gone, all others are still there, and varnucht_check accepts the disk. A file may be left there whose subdirectory is gone:
- * varnucht_tree refuses such a disk 27, and the same names given again erase the rest.
+ * gone, all others are still there, and varnucht_check accepts the disk. A file may be left there whose subdirectory is
+ * gone: varnucht_tree refuses such a disk 27, and the same names given again erase the rest.
  * Refusals: 1 to 11, 24, 25, 23, 20 (`answers` or `list` too short). Stack: 9,999 bytes. */
 uint64_t varnucht_erase_many(uint8_t *image, size_t image_len, const uint8_t *names, size_t names_len, uint8_t *answers,
                              size_t answers_len, uint8_t *list, size_t list_len);

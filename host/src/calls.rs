@@ -143,8 +143,8 @@ pub fn save(image: &mut [u8], wish: &Wish, list: &mut [u8]) -> Answer {
     })
 }
 
-/// Erases the files of these names, ten bytes to each, laid end to end, one after the other. `answers` gets a byte for each name:
-/// 0, or the number that refuses it, 12, 15, 17 or 29, which refuses nothing of the rest. Value: how many sectors are to be
+/// Erases the files of these names, ten bytes to each, laid end to end, one after the other. `answers` gets a byte for each: 0,
+/// or the number that refuses it, 12, 15, 17 or 29, which refuses nothing of the rest. Value: how many sectors are to be
 /// written; 778 bytes are always enough for their list.
 pub fn erase_many(image: &mut [u8], names: &[u8], answers: &mut [u8], list: &mut [u8]) -> Answer {
     // SAFETY: pointers and lengths are those of slices; `image`, `answers` and `list` are borrowed alone.

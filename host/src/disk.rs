@@ -230,9 +230,10 @@ impl Disk {
         self.change(&Change::Erase(*name))
     }
 
-    /// Erases the files of these names, one after the other, by one call: for each it answers whether it is done or why not, 15,
-    /// 17 or 29, as [`erase`](Disk::erase) does; what is refused refuses nothing of the rest. The same name again is not there
-    /// (15), and a directory that the names before it emptied is erased too. The disk is looked at twice, however many they are.
+    /// Erases the files of these names, one after the other, by one call: for each it answers whether it is done or why not,
+    /// 15, 17 or 29, as [`erase`](Disk::erase) does; what is refused refuses nothing of the rest. The same name again is not
+    /// there (15), and a directory that the names before it emptied is erased too. The disk is looked at twice, however many
+    /// they are.
     ///
     /// The directory's sectors that changed are named once each, rising, and each is a change of its own: cut short, the files
     /// erased in the sectors written are gone, and all others are still there. Where a directory stands in one of them, and
