@@ -1,5 +1,6 @@
-//! Kills the tool in the middle of saves, many times, at drawn moments. The image left is accepted each time, shows the old
-//! files or the new, and takes the change again. `VARNUCHT_KILLS` is how many saves to kill, `VARNUCHT_SEED` what is drawn.
+//! Kills the tool in the middle of saves and gathers, many times, at drawn moments. The image left is accepted each time, shows
+//! the old files or the new, and takes the change again. `VARNUCHT_KILLS` is how many saves to kill, `VARNUCHT_SEED` what is
+//! drawn.
 //!
 //! A sector is written in one call of 512 bytes, which a kill cannot tear: the disk left is held to whole sectors.
 #![cfg(unix)]
@@ -33,19 +34,24 @@ fn a_killed_tool_leaves_the_old_files_or_the_new() {
     let mut scene = Scene::new(number("VARNUCHT_SEED", 1) as u64);
     let mut pace = scene.measure();
     println!("at first: {}, saves of 20 to {} sectors", pace.words(), pace.most_sectors());
-    let (mut saves, mut others) = (Tally::default(), Tally::default());
+    let (mut saves, mut gathers, mut others) = (Tally::default(), Tally::default(), Tally::default());
     while saves.kills() < kills {
         assert!(
             saves.rounds < 3 * kills + 20,
             "too few runs were still there to kill: {saves}"
         );
         scene.save_round(&mut pace, &mut saves);
+        if saves.rounds % 2 == 1 {
+            scene.gather_round(&mut pace, &mut gathers);
+        }
         if saves.rounds % 4 == 0 {
             scene.change_round(&pace, &mut others);
         }
     }
     println!("at last: {}, saves of 20 to {} sectors", pace.words(), pace.most_sectors());
     println!("saves: {saves}");
+    println!("gathers: {gathers}");
     println!("erase, rename, hide, show: {others}");
+    assert!(gathers.kills() >= kills / 5, "too few gathers were killed: {gathers}");
     assert!(saves.middle >= kills / 5, "too few kills fell between two writes: {saves}");
 }

@@ -168,8 +168,9 @@ in the order of the disk's own map: by tracks, the first side before the
 second. A file that lies in a row already, wherever that is, stays as it is.
 Where there is no such run the file cannot move (32). Its name, its body and
 its start address stay.";
-const GATHER_ALL: &str = "With --all the files that cannot move are named, and the status is 1. A file
-that moves leaves free sectors, so that another run may move more of them.";
+const GATHER_ALL: &str = "With --all each file is a change of its own, made and written before the next.
+The files that cannot move are named, and the status is 1. A file that moves
+leaves free sectors, so that another run may move more of them.";
 
 /// What is said of several names that are erased at once.
 const HANDFUL: &str = "Several files are erased in the order of their names: one that is named twice

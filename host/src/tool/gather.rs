@@ -21,20 +21,12 @@ pub fn run(given: &Given) -> Outcome {
 
 /// Gathers each file in turn, the lowest slot first. One that cannot move is named, and the others go on.
 fn all(given: &Given) -> Outcome {
-    let mut count = Count::default();
     if given.has("--dry-run") {
-        let mut disk = source::disk(given)?;
-        for name in names(&disk) {
-            let numbers = disk.change(&Change::Gather(name)).map(|sectors| sectors.into_numbers());
-            let refused = |refused| Failure::refused(given.word(0), &name.to_string(), refused);
-            if let Some(numbers) = count.moved(numbers.map_err(refused), |numbers| numbers.len())? {
-                output::print(format!("{name}\n{}", planned(&numbers)))?;
-            }
-        }
-        return count.told("would be gathered");
+        return dry_run(given);
     }
     source::not_standard(given)?;
     let (mut held, mut disk) = source::changing(given)?;
+    let mut count = Count::default();
     for name in names(&disk) {
         let what = name.to_string();
         let many = change::make(given, &mut held, &mut disk, &what, &Change::Gather(name));
@@ -42,7 +34,24 @@ fn all(given: &Given) -> Outcome {
             output::confirm(&written("gathered", &what, many));
         }
     }
-    count.told("gathered")
+    output::confirm(&count.words("gathered"));
+    count.outcome()
+}
+
+/// The same in memory alone: prints what would be written for each.
+fn dry_run(given: &Given) -> Outcome {
+    let mut disk = source::disk(given)?;
+    let mut count = Count::default();
+    for name in names(&disk) {
+        let refused = |refused| Failure::refused(given.word(0), &name.to_string(), refused);
+        let sectors = disk.change(&Change::Gather(name)).map_err(refused);
+        let numbers = sectors.map(|sectors| sectors.into_numbers());
+        if let Some(numbers) = count.moved(numbers, Vec::len)? {
+            output::print(format!("{name}\n{}", planned(&numbers)))?;
+        }
+    }
+    output::print(count.words("would be gathered") + "\n")?;
+    count.outcome()
 }
 
 /// The names of the files, by rising slot. A subdirectory has no sectors to gather.
@@ -81,17 +90,18 @@ impl Count {
         }
     }
 
-    /// Tells how many there were of each. With one that could not move the status is that of a refusal.
-    fn told(self, gathered: &str) -> Outcome {
+    /// How many there were of each.
+    fn words(&self, gathered: &str) -> String {
         let stuck = match self.stuck {
             0 => String::new(),
             stuck => format!(", {stuck} could not move"),
         };
-        output::confirm(&format!(
-            "{} {gathered}, {} left in place{stuck}",
-            counted(self.moved, "file"),
-            self.left
-        ));
+        let moved = counted(self.moved, "file");
+        format!("{moved} {gathered}, {} left in place{stuck}", self.left)
+    }
+
+    /// With a file that could not move the status is that of a refusal.
+    fn outcome(self) -> Outcome {
         if self.stuck == 0 { Ok(()) } else { Err(Failure::Said(1)) }
     }
 }

@@ -49,7 +49,9 @@ fn seen(change: &Change) {
             assert_eq!(ask(Call::Start, &slices[NAME], 0, &change.new).answer, by_old_name);
         }
         Call::Gather => {
-            for live in &change.facts.live {
+            // The file's own answers, and those of some others.
+            let own = change.facts.find(&slices[NAME]);
+            for live in own.into_iter().chain(change.facts.live.iter().take(8)) {
                 for call in [Call::Start, Call::Read, Call::Open] {
                     let [old, new] = [change.old, &change.new].map(|disk| ask(call, &live.name, live.length, disk));
                     // Where its bytes begin is another matter for the file that moved.

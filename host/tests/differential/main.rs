@@ -5,6 +5,7 @@
 //! - `drawn`: the answers on a drawn disk are what was drawn, whatever `paper` says.
 //! - `edges`: each argument of each call and each field of a slot at, below and above its boundaries, one after the other.
 //! - `sectors`: every drive, track and sector of the raw sector call.
+//! - `gathers`: every file of drawn disks gathered, alone and one after the other.
 //! - `pieces`: readers, however the asking is cut, and readers of any three numbers.
 //! - `handfuls`: names erased at once, and one after the other.
 //! - `reports`: shelves in numbers, and reports of any bytes.
@@ -19,6 +20,7 @@ mod support;
 mod drawn;
 mod draws;
 mod edges;
+mod gathers;
 mod handfuls;
 mod pieces;
 mod reports;

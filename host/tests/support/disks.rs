@@ -35,13 +35,22 @@ pub fn draw(random: &mut Random) -> Disk {
 }
 
 pub fn of_shape(shape: &Shape, random: &mut Random) -> Disk {
+    made(shape, None, random)
+}
+
+/// The same, where the files take these map bits, one after the other, whatever order the shape has.
+pub fn on_bits(shape: &Shape, bits: Vec<usize>, random: &mut Random) -> Disk {
+    made(shape, Some(bits), random)
+}
+
+fn made(shape: &Shape, bits: Option<Vec<usize>>, random: &mut Random) -> Disk {
     let mut disk = Disk {
         image: shape.ground.image(random),
         extra: shape.extra,
         files: Vec::new(),
         end: shape.end,
     };
-    let mut free = shape.free(random);
+    let mut free = bits.unwrap_or_else(|| shape.free(random));
     for &(slot, count) in &shape.files {
         let chain = free.drain(..count).collect();
         let file = disk.write(slot, chain, shape, random);

@@ -1,8 +1,25 @@
 //! What a gather does to a file, by document 02, M-112, from the bytes of an accepted disk.
 
+use super::disks::{self, Disk};
 use super::facts::{Facts, Live};
 use super::fields;
 use super::geometry::{self, BITS, PAYLOAD, SECTOR, SECTORS, SLOT, bit_of, bit_place, number, slot_place};
+use super::random::Random;
+use super::shapes::{Ground, Order, Shape};
+
+/// A disk with a file for each of these chains, in slots 1 on, and behind them a directory and the directory's end.
+pub fn disk(extra: usize, chains: &[Vec<usize>], random: &mut Random) -> Disk {
+    let counts = chains.iter().map(Vec::len).chain([0]);
+    let shape = Shape {
+        extra,
+        files: (1..).zip(counts).collect(),
+        end: Some(chains.len() + 2),
+        order: Order::Rising,
+        ground: Ground::Filled(0xe5),
+        tidy: false,
+    };
+    disks::on_bits(&shape, chains.concat(), random)
+}
 
 /// Where a file goes.
 #[derive(Clone, Copy, Debug, PartialEq, Eq)]

@@ -74,7 +74,7 @@ fn the_other_changes() {
         "renamed ONE to NEW: 1 sector written\n"
     );
     assert_eq!(on("erase", &image, ["NEW"]).done(), "erased NEW: 1 sector written\n");
-    for command in ["erase", "hide", "show", "protect", "release"] {
+    for command in ["erase", "hide", "show", "protect", "release", "gather"] {
         on(command, &image, ["NEW"]).fails(1, "NEW: refusal 15: no live slot has the name, capitals or not\n");
     }
     assert_eq!(held(&image).listing().entries().len(), 1);

@@ -18,10 +18,11 @@ fn images_of_every_length() {
         }
         on("read", &image, ["ONE"]).fails(1, "refusal 1: ");
         on("sector", &image, ["0", "1"]).fails(1, "refusal 1: ");
-        for command in ["erase", "hide", "show", "protect", "release"] {
+        for command in ["erase", "hide", "show", "protect", "release", "gather"] {
             on(command, &image, ["ONE"]).fails(1, "refusal 1: ");
             on(command, &image, ["ONE", "--dry-run"]).fails(1, "refusal 1: ");
         }
+        on("gather", &image, ["--all"]).fails(1, "refusal 1: ");
         on("save", &image, ["ONE", "/dev/null"]).fails(1, "refusal 1: ");
         on("rename", &image, ["ONE", "TWO"]).fails(1, "refusal 1: ");
         assert_eq!(fs::metadata(&image).unwrap().len(), length, "its length stays");

@@ -106,7 +106,7 @@ fn refusal_12_says_why() {
     let image = folder.image(&disk(&[("ONE", 10)]));
     let said = |who: &str, why: &str| format!(": refusal 12: the name is not usable: {who} {why}\n");
     for (name, why) in UNUSABLE {
-        for command in ["read", "erase", "hide", "show", "protect", "release"] {
+        for command in ["read", "erase", "hide", "show", "protect", "release", "gather"] {
             on(command, &image, [name]).fails(1, &said("it", why));
         }
         on("hide", &image, [name, "--dry-run"]).fails(1, &said("it", why));

@@ -120,6 +120,10 @@ fn names_in_capitals_or_not() {
     for command in ["hide", "show", "protect", "release"] {
         assert!(on(command, &image, ["tunes"]).done().contains(" tunes: 1 sector written\n"));
     }
+    assert_eq!(
+        on("gather", &image, ["tunes"]).done(),
+        "tunes is not scattered: nothing is written\n"
+    );
     assert_eq!(names(), ["TUNES", "Songs 2", "x"]);
     assert_eq!(
         on("rename", &image, ["tunes", "Tunes"]).done(),

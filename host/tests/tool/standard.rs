@@ -23,7 +23,7 @@ fn scene() -> Folder {
 }
 
 const READING: [&str; 5] = ["check I", "list I", "map I", "read I TWO", "sector I 4 1"];
-const TRIED: [&str; 7] = [
+const TRIED: [&str; 9] = [
     "save I NEW body --dry-run",
     "erase I ONE --dry-run",
     "rename I ONE NEW --dry-run",
@@ -31,6 +31,8 @@ const TRIED: [&str; 7] = [
     "show I ONE --dry-run",
     "protect I ONE --dry-run",
     "release I ONE --dry-run",
+    "gather I ONE --dry-run",
+    "gather I --all --dry-run",
 ];
 
 fn with_image(line: &str, image: &str) -> String {

@@ -19,6 +19,7 @@ fn changes(body: &Path) -> Vec<Vec<String>> {
         "show ONE",
         "protect ONE",
         "release ONE",
+        "gather TWO",
     ];
     [save]
         .into_iter()
@@ -85,6 +86,7 @@ fn a_refused_change_writes_nothing() {
         &["erase", "NONE"],
         &["rename", "ONE", "TWO"],
         &["hide", "NONE"],
+        &["gather", "NONE"],
     ] {
         on(words[0], &image, &words[1..]).fails(1, "refusal 1");
         assert!(state(&image) == before, "{words:?}");

@@ -129,6 +129,23 @@ pub fn change(old: &[u8], name: &[u8], change: &Change) -> (Vec<u8>, Vec<usize>)
     (image, numbers(&list, many))
 }
 
+/// The disk after a gather, and the sectors named; none where the file is left or cannot move.
+pub fn gather(old: &[u8], name: &[u8]) -> Option<(Vec<u8>, Vec<usize>)> {
+    let (mut image, mut list) = (old.to_vec(), vec![0; 1562]);
+    let answer = unsafe {
+        raw::varnucht_gather(
+            image.as_mut_ptr(),
+            image.len(),
+            name.as_ptr(),
+            name.len(),
+            list.as_mut_ptr(),
+            list.len(),
+        )
+    };
+    let (refusal, _, many, _) = parts(answer);
+    (refusal == 0 && many > 0).then(|| (image, numbers(&list, many)))
+}
+
 /// The old disk with the first `k` of the sectors named taken from the new one.
 pub fn cut(old: &[u8], new: &[u8], sectors: &[usize], k: usize) -> Vec<u8> {
     let mut image = old.to_vec();

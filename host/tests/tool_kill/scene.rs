@@ -223,6 +223,24 @@ impl Scene {
         self.bodies.insert(wish.name, wish.body);
     }
 
+    /// A gather of the first scattered file that can move, killed; where there is none, none.
+    pub fn gather_round(&mut self, pace: &mut Pace, tally: &mut Tally) {
+        let gathered = |name: &Vec<u8>| disk::gather(&self.image, name).map(|after| (name.clone(), after));
+        let Some((name, (new, sectors))) = self.bodies.keys().find_map(gathered) else {
+            return;
+        };
+        let given = String::from_utf8(name).expect("a plain name");
+        let image = self.path("image");
+        let words = ["gather", &image, &given];
+        let moment = pace.moment(&mut self.draw, sectors.len());
+        let end = victim::kill_at(&words, moment, Path::new(&image), sectors[0]);
+        // It reads as it was saved too, wherever its sectors are.
+        let k = self.judge(&new, &sectors, b"");
+        tally.count(&end, k, sectors.len());
+        pace.learn(&end, k, sectors.len());
+        self.again(&words, new, k == sectors.len(), false);
+    }
+
     /// An erase, a rename or a mark, killed.
     pub fn change_round(&mut self, pace: &Pace, tally: &mut Tally) {
         self.named += 1;

@@ -6,6 +6,7 @@ mod bigger;
 mod bodies;
 mod buffers;
 mod ends;
+mod gather;
 mod handful;
 mod letters;
 mod names;
