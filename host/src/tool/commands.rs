@@ -176,8 +176,8 @@ leaves free sectors, so that another run may move more of them.";
 const HANDFUL: &str = "Several files are erased in the order of their names: one that is named twice
 is not there the second time, and a directory goes if the names before it have
 emptied it. Of each that is refused a line is printed, the rest is done, and
-the status is 1. Each of their sectors is a change of its own: cut short, the
-files whose sector was written are gone, and the others are still there.";
+the status is 1. Each of their sectors is then a change of its own: cut short,
+IMAGE has lost the files whose sector was written, and holds all others.";
 
 /// What is said of numbers.
 const NUMBERS: &str = "A number may be written as 0x and hexadecimal digits.";
@@ -278,7 +278,7 @@ scattered: `gather` puts a file's sectors in a row.",
         places: &["IMAGE", "NAME..."],
         options: &[&DRY_RUN, &NO_WAIT],
         brief: "erase a file, or several",
-        more: &[HANDFUL, SAFE, NAMES],
+        more: &[SAFE, HANDFUL, NAMES],
         run: erase::run,
     },
     Command {
