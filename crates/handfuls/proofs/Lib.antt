@@ -1,1 +1,3 @@
 pub mod Wiped
+pub mod Listed
+pub mod Meaning
