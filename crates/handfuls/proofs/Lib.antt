@@ -1,3 +1,4 @@
 pub mod Wiped
 pub mod Listed
 pub mod Meaning
+pub mod Settled
