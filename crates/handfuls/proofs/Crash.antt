@@ -1,0 +1,147 @@
+-- Demand 3: one theorem over every part of every change that can be asked for, with its whole list, and every cut.
+use Prim.Native.Nat.{ℕ, zero, suc, _+_, _≤_, _<_}
+use mathlib.Core.Path.{_≡_, refl, sym, ap, _∙_, subst}
+use mathlib.Core.Bool.{Bool, true, false, cond, _&&_, _||_, true≢false}
+use mathlib.Core.List.{List, [], _∷_}
+use mathlib.Core.Option.{Option, none, some, Option·some-ne-none}
+use native.Mathlib.Omega.{arith}
+use borrow.Author.Tests.{ltb-false, eqb-true, eq-eqb}
+use lib.Dec.{eqb, ltb}
+use lib.ListN.{length, getD, take}
+use Rattle.buffers.specs.Bytes.{part, put, any}
+use Rattle.buffers.proofs.Lists.{part-put}
+use Rattle.buffers.proofs.Counts.{any-some}
+use Rattle.maps.specs.Bits.{has}
+use Rattle.slots.specs.Slot.{nameOf, mapOf}
+use Rattle.names.specs.Name.{sameName}
+use Rattle.names.proofs.Names.{same-refl}
+use Rattle.chains.specs.File.{File, sectorAt}
+use Rattle.directory.specs.Places.{slots, slotBytes, dirSector}
+use Rattle.directory.specs.Directory.{labelOf}
+use Rattle.disk.specs.Look.{Look, look}
+use Rattle.disk.specs.Check.{checkDisk}
+use Rattle.files.specs.Calls.{listing, reading, starting}
+use Rattle.steps.specs.Sectors.{sector, listed, cut}
+use Rattle.steps.proofs.Sectors.{length-cut, cut-old, cut-new, cut-none, cut-all}
+use Rattle.plans.specs.Safe.{Safe}
+use Rattle.plans.proofs.Frame.{holds, holds-sector}
+use Rattle.handfuls.specs.Handful.{gone, sectorsWith}
+use Rattle.handfuls.specs.Parts.{findsIn, sectorPart}
+use Rattle.handfuls.specs.Left.{CutLeaves}
+use Rattle.handfuls.proofs.Listed.{dir-small, listed-at, listed-next, listed-slot}
+use Rattle.handfuls.proofs.Meaning.{Fewer}
+use Rattle.handfuls.proofs.Left.{fewer-long, cut-leaves, names-changed}
+
+-- ---- a change of one sector
+
+-- disks that differ in one sector, both accepted, with one label, and every file that is not found on both
+record OneSector (finds : File → Bool) (old new : List ℕ) (s : ℕ) : Type 0 where
+  small : s < 1600
+  long : length new ≡ length old
+  other : (t : ℕ) → listed t (s ∷ []) ≡ false → sector new t ≡ sector old t
+  was : checkDisk old ≡ none
+  now : checkDisk new ≡ none
+  label : labelOf new ≡ labelOf old
+  stay : (i : ℕ) (f : File) → look old .files i ≡ some f → finds f ≡ false → look new .files i ≡ some f
+
+module _ (finds : File → Bool) (old new : List ℕ) (s : ℕ) (w : OneSector finds old new s) where
+  at : ℕ → List ℕ
+  at k = cut old new (s ∷ []) k
+
+  whole : cut old new (s ∷ []) 1 ≡ new
+  whole = cut-all old new (s ∷ []) (w .long) (w .other)
+
+  -- what holds of the old disk and of the new one holds of both cuts
+  both : (P : List ℕ → Type 0) → P old → P new → (k : ℕ) → k ≤ 1 → P (cut old new (s ∷ []) k)
+  both P a b zero h = subst P (sym (cut-none old new (s ∷ []))) a
+  both P a b (suc zero) h = subst P (sym whole) b
+  both P a b (suc (suc k)) h = absurd (omega arith)
+
+  first : {A : Type 0} (p : List ℕ → A) (k : ℕ) → k < 1 → p (cut old new (s ∷ []) k) ≡ p old
+  first p zero h = ap p (cut-none old new (s ∷ []))
+  first p (suc k) h = absurd (omega arith)
+
+  one-safe : Safe finds old new (s ∷ [])
+  one-safe = record {
+    once = (refl, tt);
+    small = λ t e. rw (eqb-true t s (or-no (eqb t s) e)) (w .small);
+    unnamed = w .other;
+    long = w .long;
+    accepts = both (λ x. checkDisk x ≡ none) (w .was) (w .now);
+    listings = λ k h buf. first (λ x. listing x buf) k h;
+    readings = λ k h n buf. first (λ x. reading x n buf) k h;
+    starts = λ k h n. first (λ x. starting x n) k h;
+    label = both (λ x. labelOf x ≡ labelOf old) refl (w .label);
+    whole = whole;
+    slotsKept = λ k h i f e q.
+        both (λ x. slotBytes x i ≡ slotBytes old i) refl (holds new i f (w .stay i f e q) .bytes ∙ sym (holds old i f e .bytes)) k h;
+    sectorsKept = λ k h i f e q b m.
+        let n : has (mapOf (f .bytes)) b ≡ true = ap (λ (x : List ℕ). has (mapOf x) b) (sym (holds old i f e .bytes)) ∙ m in
+        both (λ x. sectorAt x b ≡ sectorAt old b) refl (holds-sector new i f (w .stay i f e q) b n ∙ sym (holds-sector old i f e b n)) k h;
+  }
+    where
+      or-no : (t : Bool) → (t || false) ≡ true → t ≡ true
+      or-no true e = refl
+      or-no false e = e
+
+-- ---- each sector of a handful
+
+module _ (d : List ℕ) (ok : checkDisk d ≡ none) (new : List ℕ) (z : Fewer d new) (k : ℕ) (h : k < length (sectorsWith (gone d new))) where
+  abbrev ss : List ℕ
+  ss = sectorsWith (gone d new)
+
+  abbrev s : ℕ
+  s = getD ss k 0
+
+  here : CutLeaves d new ss k
+  here = cut-leaves d ok new z k
+
+  next : CutLeaves d new ss (suc k)
+  next = cut-leaves d ok new z (suc k)
+
+  -- a slot of the sector that is gone is found
+  hit : (i : ℕ) (f : File) → look d .files i ≡ some f → gone d new i ≡ true → dirSector i ≡ s → findsIn d new s f ≡ true
+  unfolding findsIn
+  hit i f e g q =
+      let w = holds d i f e in
+      any-some slots (λ i. (gone d new i && eqb (dirSector i) s) && sameName (nameOf (f .bytes)) (nameOf (slotBytes d i))) i (w .here)
+      (rw (g, eq-eqb (dirSector i) s q, w .bytes) (same-refl (nameOf (f .bytes))))
+
+  stays : (i : ℕ) (f : File) → look (cut d new ss k) .files i ≡ some f → findsIn d new s f ≡ false → look (cut d new ss (suc k)) .files i ≡ some f
+  stays i f e n = next .files i ∙ by (gone d new i) refl (listed (dirSector i) (take k ss)) refl (sym (here .files i) ∙ e)
+    where
+      last : gone d new i ≡ true → look d .files i ≡ some f → (t : Bool) → eqb (dirSector i) s ≡ t → cond t none (look d .files i) ≡ some f
+      last g w true q = absurd (true≢false (sym (hit i f w g (eqb-true (dirSector i) s q)) ∙ n))
+      last g w false q = w
+
+      by : (t : Bool) → gone d new i ≡ t → (u : Bool) → listed (dirSector i) (take k ss) ≡ u → cond (t && u) none (look d .files i) ≡ some f
+          → cond (t && listed (dirSector i) (take (suc k) ss)) none (look d .files i) ≡ some f
+      by false g u q w = w
+      by true g true q w = absurd (Option·some-ne-none f (sym w))
+      by true g false q w = rw (listed-next (dirSector i) k ss h, q) (last g w (eqb (dirSector i) s) refl)
+
+  sector-changes : OneSector (findsIn d new s) (cut d new ss k) (cut d new ss (suc k)) s
+  sector-changes = record {
+    small = let a = listed-slot (gone d new) s (listed-at ss k h) in omega (arith, a .here, dir-small (a .slot) (omega (arith, a .high)));
+    long = length-cut d new ss (suc k) ∙ sym (length-cut d new ss k);
+    other = λ t e. by t (listed t (take k ss)) refl e;
+    was = here .accepted;
+    now = next .accepted;
+    label = next .label ∙ sym (here .label);
+    stay = stays;
+  }
+    where
+      by : (t : ℕ) (u : Bool) → listed t (take k ss) ≡ u → (eqb t s || false) ≡ false → sector (cut d new ss (suc k)) t ≡ sector (cut d new ss k) t
+      by t true q e =
+          let l : listed t (take (suc k) ss) ≡ true = listed-next t k ss h ∙ ap (λ (b : Bool). b || eqb t s) q in
+          cut-new d new ss (suc k) (fewer-long d ok new z) t l ∙ sym (cut-new d new ss k (fewer-long d ok new z) t q)
+      by t false q e =
+          let l : listed t (take (suc k) ss) ≡ false = listed-next t k ss h ∙ ap (λ (b : Bool). b || eqb t s) q ∙ or-no (eqb t s) e in
+          cut-old d new ss (suc k) t l ∙ sym (cut-old d new ss k t q)
+        where
+          or-no : (b : Bool) → (b || false) ≡ false → b ≡ false
+          or-no true e = e
+          or-no false e = refl
+
+  pub sector-safe : Safe (findsIn d new (getD (sectorsWith (gone d new)) k 0)) (cut d new (sectorsWith (gone d new)) k) (cut d new (sectorsWith (gone d new)) (suc k)) (getD (sectorsWith (gone d new)) k 0 ∷ [])
+  sector-safe = one-safe (findsIn d new s) (cut d new ss k) (cut d new ss (suc k)) s sector-changes
