@@ -3,6 +3,7 @@
 use Prim.Native.Nat.{ℕ, suc, _<_}
 use mathlib.Core.Bool.{Bool, _&&_}
 use mathlib.Core.List.{List, [], _∷_}
+use mathlib.Core.Path.{_≡_}
 use lib.Dec.{eqb}
 use lib.ListN.{length, getD}
 use Rattle.buffers.specs.Bytes.{any}
@@ -70,6 +71,13 @@ parts (handful ns abuf) ss = length ss
 abbrev pub partAt : Ask → List ℕ → List ℕ → List ℕ → ℕ → Part
 partAt (single c) old new ss k = wholePart c old new ss
 partAt (handful ns abuf) old new ss k = sectorPart old new ss k
+
+-- they are the change: the first begins with the old disk, each with what the one before it left, and the last leaves the new one
+pub record PartsJoin (a : Ask) (old new ss : List ℕ) : Type 0 where
+  pub first : 0 < parts a ss → partAt a old new ss 0 .old ≡ old
+  pub next : (k : ℕ) → suc k < parts a ss → partAt a old new ss (suc k) .old ≡ partAt a old new ss k .new
+  pub last : (k : ℕ) → suc k ≡ parts a ss → partAt a old new ss k .new ≡ new
+  pub none : parts a ss ≡ 0 → new ≡ old
 
 -- demand 3 of each of them
 abbrev pub EachSafe : Ask → List ℕ → List ℕ → List ℕ → Type 0
