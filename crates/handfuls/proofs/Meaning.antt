@@ -12,17 +12,17 @@ use lib.Dec.{eqb, ltb}
 use lib.ListN.{length, set}
 use Rattle.buffers.specs.Bytes.{put}
 use Rattle.buffers.proofs.Lists.{put-one}
+use Rattle.names.specs.Name.{askable}
 use Rattle.chains.specs.File.{File}
 use Rattle.directory.specs.Places.{slots, slotAt}
 use Rattle.directory.specs.Directory.{held}
 use Rattle.disk.specs.Look.{Look, look}
-use Rattle.disk.specs.Sound.{Sound}
 use Rattle.disk.specs.Check.{checkDisk}
 use Rattle.disk.proofs.Sound.{sound-only}
-use Rattle.plans.specs.Change.{erase}
-use Rattle.plans.specs.Plan.{upd, Result, stopped, made, run}
+use Rattle.plans.specs.Plan.{upd, Result, stopped, made}
+use Rattle.plans.specs.Accepted.{Named}
 use Rattle.plans.proofs.Frame.{disk-sound, upd-same, upd-other}
-use Rattle.plans.proofs.Effect.{Touched, erasing, erased}
+use Rattle.plans.proofs.Effect.{erased}
 use Rattle.handfuls.specs.Handful.{nameAt, alone, orSame, after, gone}
 use Rattle.handfuls.specs.Ticked.{wiped}
 use Rattle.handfuls.proofs.Wiped.{Lives, without, wipe-look, Emptied, all-emptied, wiped-none}
@@ -134,6 +134,28 @@ gone-lives d x i e = let w = gone-was d x i e in (w .file, w .before)
 abbrev pub Fewer : List ℕ → List ℕ → Type 0
 Fewer d x = x ≡ wiped d (gone d x) slots
 
+-- an accepted erase: the slot that has the name is emptied
+pub record Empties (x n new : List ℕ) : Type 0 where
+  pub slot : ℕ
+  pub file : File
+  pub askable-name : askable n ≡ true
+  pub found : Named x n slot file
+  pub disk : new ≡ put x (slotAt slot) (0 ∷ [])
+  pub sees : look new ≡ upd (look x) slot none
+
+pub empties : (x : List ℕ) → checkDisk x ≡ none → (n new ss : List ℕ) → alone x n ≡ made new ss → Empties x n new
+empties x ok n new ss e =
+    let t = erased x ok 1 new ss n e in
+    let disk : new ≡ put x (slotAt (t .slot)) (0 ∷ []) = t .disk ∙ ap (λ (a : ℕ). put x a (0 ∷ [])) (add-zero (slotAt (t .slot))) in
+    record {
+      slot = t .slot;
+      file = t .file;
+      askable-name = t .askable-name;
+      found = t .found;
+      disk = disk;
+      sees = ap look disk ∙ wipe-look x (disk-sound x ok) (t .slot) (t .file) (t .found .here);
+    }
+
 module _ (d : List ℕ) (ok : checkDisk d ≡ none) where
   pub fewer-left : (x : List ℕ) → Fewer d x → Emptied d (gone d x) slots x
   fewer-left x q = subst (Emptied d (gone d x) slots) (sym q) (all-emptied d (disk-sound d ok) (gone d x) (gone-lives d x) slots)
@@ -152,24 +174,24 @@ module _ (d : List ℕ) (ok : checkDisk d ≡ none) where
       by false p w = w
 
   -- one more
-  one-more : (x : List ℕ) → Fewer d x → (n new ss : List ℕ) → alone x n ≡ made new ss → Fewer d new
-  one-more x q n new ss r = step (erased x (fewer-accepted x q) 1 new ss n r)
-    where
-      grow : (s : ℕ) (f : File) → look x .files s ≡ some f → look new ≡ upd (look x) s none → (i : ℕ) (b : Bool) → eqb i s ≡ b → gone d new i ≡ (gone d x i || b)
-      grow s f h after i true w =
-          ap (gone d new) (eqb-true i s w)
-          ∙ gone-now d new s f (was-there x q s f h) (ap (λ (l : Look). l .files s) after ∙ upd-same (look x) s none) ∙ sym (or-true (gone d x i))
-      grow s f h after i false w =
-          gone-same d x new i (ap (λ (l : Look). l .files i) after ∙ upd-other (look x) s none i (eqb-false i s w)) ∙ sym (or-false (gone d x i))
+  module _ (x : List ℕ) (q : Fewer d x) (n new : List ℕ) (t : Empties x n new) where
+    pub grown : (i : ℕ) → gone d new i ≡ (gone d x i || eqb i (t .slot))
+    grown i = by (eqb i (t .slot)) refl
+      where
+        by : (b : Bool) → eqb i (t .slot) ≡ b → gone d new i ≡ (gone d x i || b)
+        by true w =
+            ap (gone d new) (eqb-true i (t .slot) w)
+            ∙ gone-now d new (t .slot) (t .file) (was-there x q (t .slot) (t .file) (t .found .here))
+            (ap (λ (l : Look). l .files (t .slot)) (t .sees) ∙ upd-same (look x) (t .slot) none)
+            ∙ sym (or-true (gone d x i))
+        by false w =
+            gone-same d x new i (ap (λ (l : Look). l .files i) (t .sees) ∙ upd-other (look x) (t .slot) none i (eqb-false i (t .slot) w))
+            ∙ sym (or-false (gone d x i))
 
-      step : {Also : ℕ → File → Type 0} → Touched x n 0 erasing Also new ss → Fewer d new
-      step t =
-          let s : ℕ = t .slot in
-          let disk : new ≡ put x (slotAt s) (0 ∷ []) = t .disk ∙ ap (λ (a : ℕ). put x a (0 ∷ [])) (add-zero (slotAt s)) in
-          let after : look new ≡ upd (look x) s none = ap look disk ∙ wipe-look x (fewer-left x q .ok) s (t .file) (t .found .here) in
-          disk ∙ ap (λ (y : List ℕ). put y (slotAt s) (0 ∷ [])) q
-          ∙ sym (wiped-more d (gone d x) (gone d new) s (λ i. grow s (t .file) (t .found .here) after i (eqb i s) refl)
-          (gone-kept d x s (t .file) (t .found .here)) slots (t .found .below))
+    one-more : Fewer d new
+    one-more =
+        t .disk ∙ ap (λ (y : List ℕ). put y (slotAt (t .slot)) (0 ∷ [])) q
+        ∙ sym (wiped-more d (gone d x) (gone d new) (t .slot) grown (gone-kept d x (t .slot) (t .file) (t .found .here)) slots (t .found .below))
 
   -- the disk after the first k names
   pub after-fewer : (ns : List ℕ) (k : ℕ) → Fewer d (after d ns k)
@@ -179,4 +201,7 @@ module _ (d : List ℕ) (ok : checkDisk d ≡ none) where
     where
       by : (r : Result) → alone (after d ns k) (nameAt ns k) ≡ r → Fewer d (after d ns k) → Fewer d (orSame (after d ns k) r)
       by (stopped x) p q = q
-      by (made new ss) p q = one-more (after d ns k) q (nameAt ns k) new ss p
+      by (made new ss) p q = one-more (after d ns k) q (nameAt ns k) new (empties (after d ns k) (fewer-accepted (after d ns k) q) (nameAt ns k) new ss p)
+
+  pub after-accepted : (ns : List ℕ) (k : ℕ) → checkDisk (after d ns k) ≡ none
+  after-accepted ns k = fewer-accepted (after d ns k) (after-fewer ns k)

@@ -55,7 +55,7 @@ module _ (x n : List ℕ) (ok : checkDisk x ≡ none) where
   run-12 a = rw (ok, a)
 
   module _ (a : askable n ≡ true) where
-    run-15 : find v n ≡ none → alone x n ≡ stopped (refuse 15 0)
+    pub run-15 : find (slotsOf (look x)) n ≡ none → alone x n ≡ stopped (refuse 15 0)
     unfolding run planOf
     run-15 e = rw (ok, a, e)
 
