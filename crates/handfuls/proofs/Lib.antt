@@ -6,3 +6,4 @@ pub mod Left
 pub mod Crash
 pub mod Refused
 pub mod Demand3
+pub mod Names

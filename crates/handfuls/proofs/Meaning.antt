@@ -86,7 +86,7 @@ module _ (d : List ℕ) (e f : ℕ → Bool) (s : ℕ) (more : (i : ℕ) → f i
 
 -- ---- what is gone
 
-gone-never : (d : List ℕ) (i : ℕ) → gone d d i ≡ false
+pub gone-never : (d : List ℕ) (i : ℕ) → gone d d i ≡ false
 unfolding gone
 gone-never d i = by (look d .files i)
   where
