@@ -1,36 +1,38 @@
--- Demand 3: one theorem over every part of every change that can be asked for, with its whole list, and every cut.
+-- Demand 3 of each sector of a handful, and what it finds by name.
 use Prim.Native.Nat.{ℕ, zero, suc, _+_, _≤_, _<_}
 use mathlib.Core.Path.{_≡_, refl, sym, ap, _∙_, subst}
 use mathlib.Core.Bool.{Bool, true, false, cond, _&&_, _||_, true≢false}
 use mathlib.Core.List.{List, [], _∷_}
-use mathlib.Core.Option.{Option, none, some, Option·some-ne-none}
+use mathlib.Core.Logic.{_↔_}
+use mathlib.Core.Option.{none, some, Option·some-ne-none}
 use native.Mathlib.Omega.{arith}
-use borrow.Author.Tests.{ltb-false, eqb-true, eq-eqb}
-use lib.Dec.{eqb, ltb}
+use borrow.Author.Tests.{eqb-true, eqb-false, eq-eqb}
+use lib.Dec.{eqb}
 use lib.ListN.{length, getD, take}
-use Rattle.buffers.specs.Bytes.{part, put, any}
-use Rattle.buffers.proofs.Lists.{part-put}
-use Rattle.buffers.proofs.Counts.{any-some}
+use Rattle.buffers.specs.Bytes.{any}
+use Rattle.buffers.proofs.Counts.{any-some, some-any}
+use Rattle.buffers.proofs.Tests.{and-both, or-right}
 use Rattle.maps.specs.Bits.{has}
 use Rattle.slots.specs.Slot.{nameOf, mapOf}
-use Rattle.names.specs.Name.{sameName}
-use Rattle.names.proofs.Names.{same-refl}
+use Rattle.names.specs.Name.{Same, sameName}
+use Rattle.names.proofs.Names.{same-refl, same-sym, same-to}
 use Rattle.chains.specs.File.{File, sectorAt}
 use Rattle.directory.specs.Places.{slots, slotBytes, dirSector}
 use Rattle.directory.specs.Directory.{labelOf}
-use Rattle.disk.specs.Look.{Look, look}
+use Rattle.disk.specs.Look.{look}
 use Rattle.disk.specs.Check.{checkDisk}
 use Rattle.files.specs.Calls.{listing, reading, starting}
 use Rattle.steps.specs.Sectors.{sector, listed, cut}
 use Rattle.steps.proofs.Sectors.{length-cut, cut-old, cut-new, cut-none, cut-all}
 use Rattle.plans.specs.Safe.{Safe}
-use Rattle.plans.proofs.Frame.{holds, holds-sector}
+use Rattle.plans.proofs.Frame.{disk-sound, holds, holds-sector}
+use Rattle.plans.proofs.Kept.{sound-apart}
 use Rattle.handfuls.specs.Handful.{gone, sectorsWith}
-use Rattle.handfuls.specs.Parts.{findsIn, sectorPart}
+use Rattle.handfuls.specs.Parts.{findsIn}
 use Rattle.handfuls.specs.Left.{CutLeaves}
 use Rattle.handfuls.proofs.Listed.{dir-small, listed-at, listed-next, listed-slot}
-use Rattle.handfuls.proofs.Meaning.{Fewer}
-use Rattle.handfuls.proofs.Left.{fewer-long, cut-leaves, names-changed}
+use Rattle.handfuls.proofs.Meaning.{gone-was, Fewer}
+use Rattle.handfuls.proofs.Left.{fewer-long, cut-leaves}
 
 -- ---- a change of one sector
 
@@ -84,6 +86,35 @@ module _ (finds : File → Bool) (old new : List ℕ) (s : ℕ) (w : OneSector f
       or-no true e = refl
       or-no false e = e
 
+-- ---- what a sector finds
+
+-- a file that is gone and lies in the sector is found
+hit : (d new : List ℕ) (s i : ℕ) (f : File) → look d .files i ≡ some f → gone d new i ≡ true → dirSector i ≡ s → findsIn d new s f ≡ true
+unfolding findsIn
+hit d new s i f e g q =
+    let w = holds d i f e in
+    any-some slots (λ i. (gone d new i && eqb (dirSector i) s) && sameName (nameOf (f .bytes)) (nameOf (slotBytes d i))) i (w .here)
+    (rw (g, eq-eqb (dirSector i) s q, w .bytes) (same-refl (nameOf (f .bytes))))
+
+-- and no other live file: on an accepted disk no two have one name
+found-gone : (d : List ℕ) → checkDisk d ≡ none → (new : List ℕ) (s i : ℕ) (f : File) → look d .files i ≡ some f → findsIn d new s f ≡ true
+    → (gone d new i ≡ true) × (dirSector i ≡ s)
+unfolding findsIn
+found-gone d ok new s i f e q =
+    let a = some-any slots (λ i. (gone d new i && eqb (dirSector i) s) && sameName (nameOf (f .bytes)) (nameOf (slotBytes d i))) q in
+    let j : ℕ = a .0 in
+    let b = and-both (gone d new j && eqb (dirSector j) s) (sameName (nameOf (f .bytes)) (nameOf (slotBytes d j))) (a .2) in
+    let c = and-both (gone d new j) (eqb (dirSector j) s) (b .0) in
+    let w = gone-was d new j (c .0) in
+    at j (w .file) (w .before) (c .0) (eqb-true (dirSector j) s (c .1)) (b .1) (eqb j i) refl
+  where
+    at : (j : ℕ) (g : File) → look d .files j ≡ some g → gone d new j ≡ true → dirSector j ≡ s → Same (nameOf (f .bytes)) (nameOf (slotBytes d j)) → (t : Bool) → eqb j i ≡ t
+        → (gone d new i ≡ true) × (dirSector i ≡ s)
+    at j g h p r n true t = let z : j ≡ i = eqb-true j i t in (ap (gone d new) (sym z) ∙ p, ap dirSector (sym z) ∙ r)
+    at j g h p r n false t =
+        let a = sound-apart (look d) (disk-sound d ok) i j f g (holds d i f e .here) (holds d j g h .here) (eqb-false j i t) e h in
+        absurd (a .names (same-sym (nameOf (f .bytes)) (nameOf (g .bytes)) (same-to (nameOf (f .bytes)) (ap nameOf (holds d j g h .bytes)) n)))
+
 -- ---- each sector of a handful
 
 module _ (d : List ℕ) (ok : checkDisk d ≡ none) (new : List ℕ) (z : Fewer d new) (k : ℕ) (h : k < length (sectorsWith (gone d new))) where
@@ -99,19 +130,11 @@ module _ (d : List ℕ) (ok : checkDisk d ≡ none) (new : List ℕ) (z : Fewer 
   next : CutLeaves d new ss (suc k)
   next = cut-leaves d ok new z (suc k)
 
-  -- a slot of the sector that is gone is found
-  hit : (i : ℕ) (f : File) → look d .files i ≡ some f → gone d new i ≡ true → dirSector i ≡ s → findsIn d new s f ≡ true
-  unfolding findsIn
-  hit i f e g q =
-      let w = holds d i f e in
-      any-some slots (λ i. (gone d new i && eqb (dirSector i) s) && sameName (nameOf (f .bytes)) (nameOf (slotBytes d i))) i (w .here)
-      (rw (g, eq-eqb (dirSector i) s q, w .bytes) (same-refl (nameOf (f .bytes))))
-
   stays : (i : ℕ) (f : File) → look (cut d new ss k) .files i ≡ some f → findsIn d new s f ≡ false → look (cut d new ss (suc k)) .files i ≡ some f
   stays i f e n = next .files i ∙ by (gone d new i) refl (listed (dirSector i) (take k ss)) refl (sym (here .files i) ∙ e)
     where
       last : gone d new i ≡ true → look d .files i ≡ some f → (t : Bool) → eqb (dirSector i) s ≡ t → cond t none (look d .files i) ≡ some f
-      last g w true q = absurd (true≢false (sym (hit i f w g (eqb-true (dirSector i) s q)) ∙ n))
+      last g w true q = absurd (true≢false (sym (hit d new s i f w g (eqb-true (dirSector i) s q)) ∙ n))
       last g w false q = w
 
       by : (t : Bool) → gone d new i ≡ t → (u : Bool) → listed (dirSector i) (take k ss) ≡ u → cond (t && u) none (look d .files i) ≡ some f
@@ -145,3 +168,26 @@ module _ (d : List ℕ) (ok : checkDisk d ≡ none) (new : List ℕ) (z : Fewer 
 
   pub sector-safe : Safe (findsIn d new (getD (sectorsWith (gone d new)) k 0)) (cut d new (sectorsWith (gone d new)) k) (cut d new (sectorsWith (gone d new)) (suc k)) (getD (sectorsWith (gone d new)) k 0 ∷ [])
   sector-safe = one-safe (findsIn d new s) (cut d new ss k) (cut d new ss (suc k)) s sector-changes
+
+  -- the live files that it finds are those that it erases
+  pub sector-finds : (i : ℕ) (f : File) → look (cut d new (sectorsWith (gone d new)) k) .files i ≡ some f
+      → (findsIn d new (getD (sectorsWith (gone d new)) k 0) f ≡ true) ↔ (look (cut d new (sectorsWith (gone d new)) (suc k)) .files i ≡ none)
+  sector-finds i f e = (
+    λ q.
+        let w = found-gone d ok new s i f there q in
+        let l : listed (dirSector i) (take (suc k) ss) ≡ true =
+        listed-next (dirSector i) k ss h ∙ or-right (listed (dirSector i) (take k ss)) (eqb (dirSector i) s) (eq-eqb (dirSector i) s (w .1)) in
+        next .files i ∙ rw (w .0, l),
+    λ q. erased (findsIn d new s f) refl q,
+  )
+    where
+      was : (t : Bool) → cond t none (look d .files i) ≡ some f → look d .files i ≡ some f
+      was true w = absurd (Option·some-ne-none f (sym w))
+      was false w = w
+
+      there : look d .files i ≡ some f
+      there = was (gone d new i && listed (dirSector i) (take k ss)) (sym (here .files i) ∙ e)
+
+      erased : (t : Bool) → findsIn d new s f ≡ t → look (cut d new ss (suc k)) .files i ≡ none → t ≡ true
+      erased true p q = refl
+      erased false p q = absurd (Option·some-ne-none f (sym (stays i f e p) ∙ q))
