@@ -11,7 +11,7 @@ use lib.Dec.{eqb}
 use lib.ListN.{length, getD, take}
 use Rattle.buffers.specs.Bytes.{any}
 use Rattle.buffers.proofs.Counts.{any-some, some-any}
-use Rattle.buffers.proofs.Tests.{and-both, or-right}
+use Rattle.buffers.proofs.Tests.{and-both, both-and, or-right}
 use Rattle.maps.specs.Bits.{has}
 use Rattle.slots.specs.Slot.{nameOf, mapOf}
 use Rattle.names.specs.Name.{Same, sameName}
@@ -93,15 +93,16 @@ hit : (d new : List ℕ) (s i : ℕ) (f : File) → look d .files i ≡ some f �
 unfolding findsIn
 hit d new s i f e g q =
     let w = holds d i f e in
-    any-some slots (λ i. (gone d new i && eqb (dirSector i) s) && sameName (nameOf (f .bytes)) (nameOf (slotBytes d i))) i (w .here)
-    (rw (g, eq-eqb (dirSector i) s q, w .bytes) (same-refl (nameOf (f .bytes))))
+    any-some slots _ i (w .here)
+    (both-and (gone d new i && eqb (dirSector i) s) _ (both-and (gone d new i) (eqb (dirSector i) s) g (eq-eqb (dirSector i) s q))
+    (same-to (nameOf (f .bytes)) (ap nameOf (sym (w .bytes))) (same-refl (nameOf (f .bytes)))))
 
 -- and no other live file: on an accepted disk no two have one name
 found-gone : (d : List ℕ) → checkDisk d ≡ none → (new : List ℕ) (s i : ℕ) (f : File) → look d .files i ≡ some f → findsIn d new s f ≡ true
     → (gone d new i ≡ true) × (dirSector i ≡ s)
 unfolding findsIn
 found-gone d ok new s i f e q =
-    let a = some-any slots (λ i. (gone d new i && eqb (dirSector i) s) && sameName (nameOf (f .bytes)) (nameOf (slotBytes d i))) q in
+    let a = some-any slots _ q in
     let j : ℕ = a .0 in
     let b = and-both (gone d new j && eqb (dirSector j) s) (sameName (nameOf (f .bytes)) (nameOf (slotBytes d j))) (a .2) in
     let c = and-both (gone d new j) (eqb (dirSector j) s) (b .0) in
