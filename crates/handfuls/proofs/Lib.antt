@@ -7,3 +7,4 @@ pub mod Crash
 pub mod Refused
 pub mod Demand3
 pub mod Names
+pub mod Likewise

@@ -223,6 +223,15 @@ sectors-cong e f h = from pairs 0 (omega arith)
         ap₂ (λ (b : Bool) (x : List ℕ). cond b (dirSector (2 * j) ∷ x) x) (ap₂ _||_ (h (2 * j) (omega arith)) (h (2 * j + 1) (omega arith)))
         (from n (suc j) (omega arith))
 
+-- none is meant
+pub sectors-none : (e : ℕ → Bool) → ((i : ℕ) → e i ≡ false) → sectorsWith e ≡ []
+unfolding sectorsFrom
+sectors-none e h = from pairs 0
+  where
+    from : (n j : ℕ) → sectorsFrom n j e ≡ []
+    from zero j = refl
+    from (suc n) j = rw (h (2 * j), h (2 * j + 1)) (from n (suc j))
+
 -- "The sector number is .. 0 to 1,599."
 pub dir-small : (i : ℕ) → i < slots → dirSector i < 1600
 dir-small i h = omega (arith, slot-sector i, slot-within i h)
