@@ -30,7 +30,7 @@ use Rattle.plans.proofs.Kept.{sound-apart}
 use Rattle.handfuls.specs.Handful.{gone, sectorsWith}
 use Rattle.handfuls.specs.Parts.{findsIn}
 use Rattle.handfuls.specs.Left.{CutLeaves}
-use Rattle.handfuls.proofs.Listed.{dir-small, listed-at, listed-next, listed-slot}
+use Rattle.handfuls.proofs.Listed.{listed-at, listed-next, sectors-small}
 use Rattle.handfuls.proofs.Meaning.{gone-was, Fewer}
 use Rattle.handfuls.proofs.Left.{fewer-long, cut-leaves}
 
@@ -146,7 +146,7 @@ module _ (d : List ℕ) (ok : checkDisk d ≡ none) (new : List ℕ) (z : Fewer 
 
   sector-changes : OneSector (findsIn d new s) (cut d new ss k) (cut d new ss (suc k)) s
   sector-changes = record {
-    small = let a = listed-slot (gone d new) s (listed-at ss k h) in omega (arith, a .here, dir-small (a .slot) (omega (arith, a .high)));
+    small = sectors-small (gone d new) s (listed-at ss k h);
     long = length-cut d new ss (suc k) ∙ sym (length-cut d new ss k);
     other = λ t e. by t (listed t (take k ss)) refl e;
     was = here .accepted;

@@ -1,6 +1,6 @@
 -- What holds of every change, of a handful: the release check, other spellings, disks with one look; and a handful of no names.
 use Prim.Native.Nat.{ℕ, zero, suc, _/_, _%_, _≤_, _<_}
-use mathlib.Core.Path.{_≡_, refl, sym, ap, ap₂, _∙_, fun-ext}
+use mathlib.Core.Path.{_≡_, refl, sym, ap, ap₂, _∙_, subst₂, fun-ext}
 use mathlib.Core.Bool.{Bool, true, false, not, cond, _&&_}
 use mathlib.Core.List.{List, []}
 use mathlib.Core.Option.{none, some, Option·some-ne-none}
@@ -24,15 +24,17 @@ use Rattle.disk.proofs.Release.{release-exactly}
 use Rattle.steps.specs.Sectors.{listed, cut}
 use Rattle.plans.specs.Plan.{Result, stopped, made, checked}
 use Rattle.plans.proofs.Spelling.{spelt-erase}
+use Rattle.plans.proofs.Released.{cut-released}
 use Rattle.handfuls.specs.Handful.{nameAt, howMany, alone, answer, orSame, after, answerAt, answersTo, erasedAll, gone, sectorsWith, sectorsOfAll, notTens, manyReply, runMany, erased, erasedBy, eraseMany}
 use Rattle.handfuls.specs.Ticked.{ticked, tickedAnswer}
+use Rattle.handfuls.specs.Parts.{Ask, single, handful, ran}
 use Rattle.handfuls.specs.Left.{CutLeaves}
 use Rattle.handfuls.proofs.Wiped.{without}
 use Rattle.handfuls.proofs.Listed.{sectors-none}
 use Rattle.handfuls.proofs.Meaning.{gone-never, fewer-left, after-fewer}
 use Rattle.handfuls.proofs.Settled.{gone-same, answers-same, sectors-same}
 use Rattle.handfuls.proofs.Left.{handful-cut}
-use Rattle.handfuls.proofs.Refused.{many-gives}
+use Rattle.handfuls.proofs.Refused.{run-grants, many-gives}
 
 -- ---- the release check
 
@@ -52,6 +54,14 @@ handful-released d e ns k = release-exactly x .1 (w .accepted, λ i f h q. a .1 
     was : (t : Bool) (i : ℕ) (f : File) → cond t none (look d .files i) ≡ some f → look d .files i ≡ some f
     was true i f q = absurd (Option·some-ne-none f (sym q))
     was false i f q = q
+
+-- whatever is asked: where the release check accepted the disk, it accepts every cut
+pub ask-released : (a : Ask) (d : List ℕ) → checkRelease d ≡ none → (room : ℕ) (new ss : List ℕ) → ran a d room ≡ made new ss
+    → (k : ℕ) → k ≤ length ss → checkRelease (cut d new ss k) ≡ none
+ask-released (single c) d ok room new ss e k h = cut-released d ok room new ss c e k h
+ask-released (handful ns abuf) d ok room new ss e k h =
+    let g = run-grants d ns (length abuf) room new ss e in
+    subst₂ (λ (x s : List ℕ). checkRelease (cut d x s k) ≡ none) (g .1) (g .2) (handful-released d ok ns k)
 
 -- ---- no names
 

@@ -235,3 +235,6 @@ sectors-none e h = from pairs 0
 -- "The sector number is .. 0 to 1,599."
 pub dir-small : (i : ℕ) → i < slots → dirSector i < 1600
 dir-small i h = omega (arith, slot-sector i, slot-within i h)
+
+pub sectors-small : (e : ℕ → Bool) (s : ℕ) → listed s (sectorsWith e) ≡ true → s < 1600
+sectors-small e s h = let a = listed-slot e s h in omega (arith, a .here, dir-small (a .slot) (omega (arith, a .high)))
