@@ -187,7 +187,7 @@ put-agree x y a v s l e =
         (below-or-not p (length x))
 
 -- it hangs on the slots of that sector alone
-wiped-sector : (d : List ℕ) (e g : ℕ → Bool) (s : ℕ) → ((i : ℕ) → dirSector i ≡ s → e i ≡ g i) → (m : ℕ) → sector (wiped d e m) s ≡ sector (wiped d g m) s
+pub wiped-sector : (d : List ℕ) (e g : ℕ → Bool) (s : ℕ) → ((i : ℕ) → dirSector i ≡ s → e i ≡ g i) → (m : ℕ) → sector (wiped d e m) s ≡ sector (wiped d g m) s
 unfolding wiped
 wiped-sector d e g s h zero = refl
 wiped-sector d e g s h (suc m) = by (eqb (dirSector m) s) refl (wiped-sector d e g s h m)

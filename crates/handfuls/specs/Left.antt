@@ -6,12 +6,14 @@ use mathlib.Core.List.{List}
 use mathlib.Core.Logic.{_↔_}
 use mathlib.Core.Option.{none}
 use lib.ListN.{length, getD, take}
+use Rattle.chains.specs.File.{File}
 use Rattle.directory.specs.Places.{dirSector}
 use Rattle.directory.specs.Directory.{labelOf, slotsIn, seen}
 use Rattle.disk.specs.Look.{look}
 use Rattle.disk.specs.Check.{checkDisk}
 use Rattle.steps.specs.Sectors.{sector, listed, cut}
-use Rattle.handfuls.specs.Handful.{howMany, gone, sectorsOfAll}
+use Rattle.plans.specs.Accepted.{Named}
+use Rattle.handfuls.specs.Handful.{nameAt, howMany, after, answerAt, gone, sectorsOfAll}
 
 -- the disk is accepted, the names are "a whole number of tens", and answers and list have room
 pub record Grants (d ns : List ℕ) (answers room : ℕ) : Type 0 where
@@ -19,6 +21,12 @@ pub record Grants (d ns : List ℕ) (answers room : ℕ) : Type 0 where
   pub tens : (k : ℕ) × (length ns ≡ 10 * k)
   pub answered : howMany ns ≤ answers
   pub list : length (sectorsOfAll d ns) ≤ room
+
+-- the file in slot i is erased by name k: the disk as the erases before it left it has that name there, and the answer is 0
+pub record ErasedBy (d ns : List ℕ) (k i : ℕ) : Type 0 where
+  pub file : File
+  pub found : Named (after d ns k) (nameAt ns k) i file
+  pub done : answerAt d ns k ≡ 0
 
 -- "The sector list names each changed directory sector once, rising."
 pub record NamesChanged (old new ss : List ℕ) : Type 0 where
