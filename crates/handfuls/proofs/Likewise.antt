@@ -32,7 +32,7 @@ use Rattle.handfuls.specs.Left.{CutLeaves}
 use Rattle.handfuls.proofs.Wiped.{without}
 use Rattle.handfuls.proofs.Listed.{sectors-none}
 use Rattle.handfuls.proofs.Meaning.{gone-never, fewer-left, after-fewer}
-use Rattle.handfuls.proofs.Settled.{gone-same, answers-same, sectors-same}
+use Rattle.handfuls.proofs.Settled.{ticked-gone, answers-same, sectors-same}
 use Rattle.handfuls.proofs.Left.{handful-cut}
 use Rattle.handfuls.proofs.Refused.{run-grants, many-gives}
 
@@ -140,7 +140,7 @@ module _ (d e : List ℕ) (q : look d ≡ look e) where
     pub look-left : look (erasedAll d ns) ≡ look (erasedAll e ns)
     look-left =
         fewer-left d ok (erasedAll d ns) (after-fewer d ok ns (howMany ns)) .sees
-        ∙ ap₂ (λ (l : Look) (g : ℕ → Bool). without l g slots) q (fun-ext (λ i. sym (gone-same d ok ns (howMany ns) i) ∙ ap (λ (v : Directory). has (ticked v ns (howMany ns)) i) same-directory ∙ gone-same e oke ns (howMany ns) i))
+        ∙ ap₂ (λ (l : Look) (g : ℕ → Bool). without l g slots) q (fun-ext (λ i. sym (ticked-gone d ok ns (howMany ns) i) ∙ ap (λ (v : Directory). has (ticked v ns (howMany ns)) i) same-directory ∙ ticked-gone e oke ns (howMany ns) i))
         ∙ sym (fewer-left e oke (erasedAll e ns) (after-fewer e oke ns (howMany ns)) .sees)
 
   -- the same refusal, or none of both

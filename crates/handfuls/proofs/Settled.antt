@@ -233,9 +233,9 @@ module _ (d : List ℕ) (ok : checkDisk d ≡ none) where
   answer-same ns k = sym (next (ticked (directory d) ns k) (after d ns k) (nameAt ns k) (linked-all ns k) .answers)
 
   -- the map is what is gone
-  pub gone-same : (ns : List ℕ) (k i : ℕ) → has (ticked (directory d) ns k) i ≡ gone d (after d ns k) i
+  pub ticked-gone : (ns : List ℕ) (k i : ℕ) → has (ticked (directory d) ns k) i ≡ gone d (after d ns k) i
   unfolding gone without
-  gone-same ns k i =
+  ticked-gone ns k i =
       sym (ap (λ (l : Look). held false (λ f. held true (λ g. false) (l .files i)) (look d .files i)) (w .sees) ∙ by (has m i) refl (look d .files i) refl)
     where
       m : List ℕ
@@ -256,9 +256,9 @@ module _ (d : List ℕ) (ok : checkDisk d ≡ none) where
   answers-same ns = tab-cong (howMany ns) (tickedAnswer (directory d) ns) (answerAt d ns) (λ k h. answer-same ns k)
 
   pub sectors-same : (ns : List ℕ) → sectorsWith (has (ticked (directory d) ns (howMany ns))) ≡ sectorsOfAll d ns
-  sectors-same ns = sectors-cong (has (ticked (directory d) ns (howMany ns))) (gone d (erasedAll d ns)) (λ i h. gone-same ns (howMany ns) i)
+  sectors-same ns = sectors-cong (has (ticked (directory d) ns (howMany ns))) (gone d (erasedAll d ns)) (λ i h. ticked-gone ns (howMany ns) i)
 
   pub disk-same : (ns : List ℕ) → wiped d (has (ticked (directory d) ns (howMany ns))) slots ≡ erasedAll d ns
   disk-same ns =
-      wiped-cong d (has (ticked (directory d) ns (howMany ns))) (gone d (erasedAll d ns)) (gone-same ns (howMany ns)) slots
+      wiped-cong d (has (ticked (directory d) ns (howMany ns))) (gone d (erasedAll d ns)) (ticked-gone ns (howMany ns)) slots
       ∙ sym (after-fewer d ok ns (howMany ns))
