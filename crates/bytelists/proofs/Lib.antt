@@ -3,3 +3,4 @@ pub mod Pairs
 pub mod Changing
 pub mod Safe
 pub mod Trees
+pub mod Handfuls

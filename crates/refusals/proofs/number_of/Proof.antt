@@ -98,6 +98,9 @@ enum-told-28 c = search needs
 enum-told-29 : tie.Need-enum-told-29
 enum-told-29 c = search needs
 
+enum-told-30 : tie.Need-enum-told-30
+enum-told-30 c = search needs
+
 returns : tie.Need-returns
 returns c = told (c .enum-told .given .1) refl (omega arith)
 
@@ -185,6 +188,9 @@ returns-28 c = told (c .enum-told28 .given .1) refl (omega arith)
 returns-29 : tie.Need-returns-29
 returns-29 c = told (c .enum-told29 .given .1) refl (omega arith)
 
+returns-30 : tie.Need-returns-30
+returns-30 c = told (c .enum-told30 .given .1) refl (omega arith)
+
 pub number-of-spec : {M : Type 1} → statement M
 number-of-spec =
     tie.close
@@ -218,6 +224,7 @@ number-of-spec =
     enum-told-27
     enum-told-28
     enum-told-29
+    enum-told-30
     returns
     returns-2
     returns-3
@@ -246,4 +253,5 @@ number-of-spec =
     returns-26
     returns-27
     returns-28
-    returns-29)
+    returns-29
+    returns-30)
