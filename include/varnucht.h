@@ -444,7 +444,7 @@ uint64_t varnucht_erase(uint8_t *image, size_t image_len, const uint8_t *name, s
  * EACH SECTOR OF THE LIST IS A CHANGE OF ITS OWN. Where the writing is stopped, the files erased in the sectors written are
  * gone, all others are still there, and varnucht_check accepts the disk. A file may be left there whose subdirectory is
  * gone: varnucht_tree refuses such a disk 27, and the same names given again erase the rest.
- * Refusals: 1 to 11, 24, 25, 23, 20 (`answers` or `list` too short). Stack: 9,999 bytes. */
+ * Refusals: 1 to 11, 24, 25, 23, 20 (`answers` or `list` too short). Stack: 6,392 bytes. */
 uint64_t varnucht_erase_many(uint8_t *image, size_t image_len, const uint8_t *names, size_t names_len, uint8_t *answers,
                              size_t answers_len, uint8_t *list, size_t list_len);
 
