@@ -21,9 +21,9 @@
  * You own every buffer before, during and after a call. The library allocates nothing, keeps no pointer and has no state:
  * what a call does depends on its arguments alone. So calls on different buffers may run at once on different threads, and
  * calls that only read may share an image. Nobody may read or write a buffer while a call that may change it is running.
- * Nothing outside is called but memcpy, memset and their like. A save, a gather and an erase of many need less than 8 KiB
- * of stack, every other call less than 2 KiB; but varnucht_tree less than 5 KiB where no more than ten subdirectories lie
- * inside each other, and 128 bytes more for each beyond them: less than 36 KiB on any disk.
+ * Nothing outside is called but memcpy, memset and their like. A save and an erase of many need less than 8 KiB of stack, a
+ * gather less than 3 KiB, every other call less than 2 KiB; but varnucht_tree less than 5 KiB where no more than ten
+ * subdirectories lie inside each other, and 128 bytes more for each beyond them: less than 36 KiB on any disk.
  *
  * Every call answers one number with four parts, which the functions below take apart:
  *
@@ -475,7 +475,7 @@ uint64_t varnucht_release(uint8_t *image, size_t image_len, const uint8_t *name,
  * long enough. A protected file may be gathered, and any kind with sectors; a subdirectory is refused 13.
  * Value: the file's sectors and one of the directory, named in this order, the first in that of the chain; 0 where the file
  * is left. `list`: two bytes for each; a file that moves has at most 780 sectors, so VARNUCHT_GATHER_LIST_BYTES always
- * suffice. Refusals: 1 to 11, 24, 25, 12, 13 (kind 21), 15, 32, 20. Stack: 9,999 bytes. */
+ * suffice. Refusals: 1 to 11, 24, 25, 12, 13 (kind 21), 15, 32, 20. Stack: 2,104 bytes. */
 uint64_t varnucht_gather(uint8_t *image, size_t image_len, const uint8_t *name, size_t name_len, uint8_t *list,
                          size_t list_len);
 
