@@ -143,6 +143,6 @@ pub fn erase_many(image: &mut [u8], names: &[u8], answers: &mut [u8], list: &mut
 {
     let mut numbers = no_sectors();
     let room = buffers::lesser(list.len() / 2, wipes::DIR_SECTORS);
-    let erased = batches::erase_many(image, names, answers, &mut numbers[..room]);
-    put_counted(erased, &numbers, list)
+    let emptied = batches::erase_many(image, names, answers, &mut numbers[..room]);
+    put_counted(emptied, &numbers, list)
 }

@@ -241,6 +241,6 @@ pub extern "C" fn varnucht_erase_many(
 ) -> u64
     ensures { λ r. ⌜ ReturnsMany (now (image .entry)) (now (names .entry)) (now (answers .entry)) (now (list .entry)) r (now (image .exit)) (now (answers .exit)) (now (list .exit)) ⌝ }
 {
-    let erased = bytelists::erase_many(image, names, answers, list);
-    packing::pack(erased)
+    let emptied = bytelists::erase_many(image, names, answers, list);
+    packing::pack(emptied)
 }
