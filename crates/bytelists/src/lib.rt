@@ -12,7 +12,7 @@ ghost use Rattle.changes.specs.Marks.{markOf};
 ghost use Rattle.saves.specs.Write.{wish};
 ghost use Rattle.bytelists.specs.Lists.{inBytes, Returns, Counted};
 ghost use Rattle.bytelists.specs.Trees.{treeingBytes};
-ghost use Rattle.handfuls.specs.Handful.{pairs, erased};
+ghost use Rattle.handfuls.specs.Handful.{erased};
 ghost use Rattle.bytelists.specs.Handfuls.{erasing};
 use changes::Marking;
 use refusals::Answer;
@@ -129,19 +129,12 @@ pub fn list_tree(image: &[u8], name: &[u8], list: &mut [u8]) -> Answer
     put_counted(listed, &numbers, list)
 }
 
-// Room for the numbers of every handful: those of all sectors of the directory.
-fn no_sectors() -> [u16; wipes::DIR_SECTORS]
-    ensures { λ r. ⌜ length r ≡ pairs ⌝ }
-{
-    [0u16; wipes::DIR_SECTORS]
-}
-
 // Erases a handful of files, their names of ten bytes each laid end to end: how many sectors, an answer to each name, and the
 // numbers of the sectors to the front of the list.
 pub fn erase_many(image: &mut [u8], names: &[u8], answers: &mut [u8], list: &mut [u8]) -> Answer
     ensures { λ r. ⌜ erased (outcomeOf r) (now (image .exit)) (now (answers .exit)) (now (list .exit)) ≡ erasing (now (image .entry)) (now (names .entry)) (now (answers .entry)) (now (list .entry)) ⌝ }
 {
-    let mut numbers = no_sectors();
+    let mut numbers = [0u16; wipes::DIR_SECTORS];
     let room = buffers::lesser(list.len() / 2, wipes::DIR_SECTORS);
     let emptied = batches::erase_many(image, names, answers, &mut numbers[..room]);
     put_counted(emptied, &numbers, list)
