@@ -21,9 +21,9 @@
  * You own every buffer before, during and after a call. The library allocates nothing, keeps no pointer and has no state:
  * what a call does depends on its arguments alone. So calls on different buffers may run at once on different threads, and
  * calls that only read may share an image. Nobody may read or write a buffer while a call that may change it is running.
- * Nothing outside is called but memcpy, memset and their like. A save and an erase of many need less than 8 KiB of stack, a
- * gather less than 3 KiB, every other call less than 2 KiB; but varnucht_tree less than 5 KiB where no more than ten
- * subdirectories lie inside each other, and 128 bytes more for each beyond them: less than 36 KiB on any disk.
+ * Nothing outside is called but memcpy, memset and their like. A save needs less than 8 KiB of stack, an erase of many less
+ * than 5 KiB, a gather less than 3 KiB, every other call less than 2 KiB; but varnucht_tree less than 7 KiB where no more than
+ * ten subdirectories lie inside each other, and 96 bytes more for each beyond them: less than 30 KiB on any disk.
  *
  * Every call answers one number with four parts, which the functions below take apart:
  *
@@ -308,7 +308,7 @@ uint64_t varnucht_start(const uint8_t *image, size_t image_len, const uint8_t *n
  * room for L / 2 numbers. A listing has all else that the slots say, and varnucht_entry_code and varnucht_entry_parent tell
  * which of them is in which.
  * Refusals: 1 to 11, 24, 25, 26, 27, 28, 12, 13 (not a subdirectory), 15, 20. On a disk with 255 subdirectories, each inside
- * the one before, which are as many as there can be, Stack: 35,536 bytes. */
+ * the one before, which are as many as there can be, Stack: 29,408 bytes. */
 uint64_t varnucht_tree(const uint8_t *image, size_t image_len, const uint8_t *name, size_t name_len, uint8_t *slots,
                        size_t slots_len);
 
@@ -444,7 +444,7 @@ uint64_t varnucht_erase(uint8_t *image, size_t image_len, const uint8_t *name, s
  * EACH SECTOR OF THE LIST IS A CHANGE OF ITS OWN. Where the writing is stopped, the files erased in the sectors written are
  * gone, all others are still there, and varnucht_check accepts the disk. A file may be left there whose subdirectory is
  * gone: varnucht_tree refuses such a disk 27, and the same names given again erase the rest.
- * Refusals: 1 to 11, 24, 25, 23, 20 (`answers` or `list` too short). Stack: 6,392 bytes. */
+ * Refusals: 1 to 11, 24, 25, 23, 20 (`answers` or `list` too short). Stack: 4,440 bytes. */
 uint64_t varnucht_erase_many(uint8_t *image, size_t image_len, const uint8_t *names, size_t names_len, uint8_t *answers,
                              size_t answers_len, uint8_t *list, size_t list_len);
 

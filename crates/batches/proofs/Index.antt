@@ -8,7 +8,7 @@ use mathlib.Core.Option.{none, some, Option·some-ne-none, Option·some-injectiv
 use native.Mathlib.Decide.{ℕ-discrete}
 use native.Mathlib.Omega.{arith}
 use borrow.Author.Tests.{eq-eqb, ne-eqb}
-use lib.ListN.{length, getD, set, length-set}
+use lib.ListN.{length, getD, set, replicate, length-set, length-replicate, getD-replicate}
 use lib.Seq.{getD-set-same, getD-set-other}
 use Rattle.buffers.proofs.Lists.{below-or-not}
 use Rattle.slots.specs.Slot.{nameOf}
@@ -140,3 +140,7 @@ set-long l k x m e = ap length e ∙ length-set l k x
 -- an entry of a bucket is a slot's number, or 778
 pub entry-small : (v : Directory) (i : ℕ) (index : List ℕ) → Entered v i index → (b x : ℕ) → b < buckets → x ≡ getD index b 0 → x < 65536
 entry-small v i index w b x l q = omega (arith, w .first b l .most)
+
+-- an index with every bucket empty
+pub index-empty : Emptied (replicate 1029 778)
+index-empty = record { long = length-replicate {A = ℕ} 1029 778; empty = λ b h. getD-replicate 1029 b 778 0 (omega arith) }

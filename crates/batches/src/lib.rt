@@ -228,13 +228,6 @@ fn write_all(
     sectors
 }
 
-// An index with every bucket empty.
-fn no_index() -> [u16; 1029]
-    ensures { λ r. ⌜ Emptied r ⌝ }
-{
-    [778u16; 1029]
-}
-
 // The same of an accepted disk and a whole number of names; 20 is tested before anything is written.
 fn erase_names(image: &mut [u8], names: &[u8], answers: &mut [u8], list: &mut [u16]) -> Answer
     requires { ⌜ Granted (now image) (now names) ⌝ }
@@ -244,7 +237,7 @@ fn erase_names(image: &mut [u8], names: &[u8], answers: &mut [u8], list: &mut [u
     if answers.len() < many {
         return refusals::no(Reason::BufferTooShort, 0);
     }
-    let mut index = no_index();
+    let mut index = [778u16; 1029];
     let end = index_names(image, &mut index);
     if is_short(image, names, many, &index, end, list.len()) {
         return refusals::no(Reason::BufferTooShort, 0);

@@ -14,7 +14,7 @@ use Rattle.buffers.specs.Bytes.{part, put}
 use Rattle.buffers.proofs.Lists.{below-or-not, length-put, put-none, part-put}
 use Rattle.refusals.specs.Order.{refuse, Reply, _else_, row}
 use Rattle.refusals.specs.Answers.{Outcome, done, refused}
-use Rattle.slots.specs.Slot.{carried, protected, sectorsFor}
+use Rattle.slots.specs.Slot.{carried, protected, isDirectory, countOf, sectorsFor}
 use Rattle.names.specs.Name.{askable, padded}
 use Rattle.chains.specs.File.{File}
 use Rattle.directory.specs.Places.{slots}
@@ -24,15 +24,21 @@ use Rattle.directory.specs.Find.{find}
 use Rattle.directory.proofs.Search.{find-some}
 use Rattle.disk.specs.Look.{Look, look, slotsOf, extra}
 use Rattle.disk.specs.Check.{checkDisk}
+use Rattle.disk.specs.Sound.{Sound}
 use Rattle.files.specs.Calls.{fileAt}
 use Rattle.trees.specs.Tree.{occupied}
 use Rattle.steps.specs.Steps.{enact, numbers}
-use Rattle.plans.specs.Change.{Wish, Change, save, erase, rename, mark, marked, between, usable}
+use Rattle.plans.specs.Change.{Wish, Change, save, erase, rename, mark, gather, marked, between, usable}
 use Rattle.plans.specs.Saving.{passing, freeBit, taken, lowestSlot, slotTaken}
-use Rattle.plans.specs.Plan.{touch, oldName, saveSteps, Plan, no, go, orNo, byName, takenAt, nameTaken, takenBy, renameTaken, isProtected, isOccupied, saveReply, planOf, plan, Result, stopped, made, settle, checked, run, Changed, changed, changedBy, change}
+use Rattle.plans.specs.Gathering.{scattered, upFrom, lowestRun}
+use Rattle.plans.specs.Plan.{touch, oldName, saveSteps, gatherSteps, Plan, no, go, orNo, byName, takenAt, nameTaken, takenBy, renameTaken, isProtected, isOccupied, saveReply, movePlan, planOf, plan, Result, stopped, made, settle, checked, run, Changed, changed, changedBy, change}
+use Rattle.plans.proofs.Frame.{disk-sound}
+use Rattle.plans.proofs.Named.{found-file}
 use Rattle.plans.proofs.Respelt.{taken-found}
+use Rattle.plans.proofs.Runs.{found-run, run-few}
+use Rattle.plans.proofs.Moved.{gather-long}
 use Rattle.plans.proofs.Ended.{dirs-some}
-use Rattle.plans.proofs.Refused.{save-long}
+use Rattle.plans.proofs.Saved.{save-long}
 use Rattle.plans.proofs.Sure.{save-tested}
 use Rattle.plans.proofs.Demand3.{run-room}
 use Rattle.saves.proofs.Planned.{free-le}
@@ -46,12 +52,15 @@ most (save w) = 1562
 most (erase n) = 1
 most (rename n new) = 1
 most (mark m n) = 1
+-- a file that moves has at most half the disk's sectors
+most (gather n) = 781
 
 pub most-few : (c : Change) → most c ≤ 1562
 most-few (save w) = omega arith
 most-few (erase n) = omega arith
 most-few (rename n new) = omega arith
 most-few (mark m n) = omega arith
+most-few (gather n) = omega arith
 
 -- a plan whose refusals are of the table at slots of the directory, and whose sectors are at most m
 abbrev Mild : ℕ → Plan → Type 0
@@ -63,12 +72,12 @@ mild-or m none p a b = b
 mild-or m (some r) p a b = a
 
 module _ (l : Look) (n : List ℕ) where
-  mild-named : (m : ℕ) (at : ℕ → File → Plan) → ((i : ℕ) → i < slots → Mild m (at i (fileAt l i))) → Mild m (byName l n at)
+  mild-named : (m : ℕ) (at : ℕ → File → Plan) → ((i : ℕ) → find (slotsOf l) n ≡ some i → i < slots → Mild m (at i (fileAt l i))) → Mild m (byName l n at)
   mild-named m at h = by (find (slotsOf l) n) refl
     where
       by : (o : Option ℕ) → find (slotsOf l) n ≡ o → Mild m (held (no (refuse 15 0)) (λ i. at i (fileAt l i)) o)
       by none e = (omega arith, omega arith)
-      by (some i) e = h i (find-some (slotsOf l) n i e .below)
+      by (some i) e = h i e (find-some (slotsOf l) n i e .below)
 
 -- 16, at a slot that a search can give
 small-at : (o : Option ℕ) → ((i : ℕ) → o ≡ some i → i < slots) → Small (takenAt o)
@@ -133,25 +142,46 @@ mild-save old l w = by (saveReply n v w) refl (small-save n v w)
         let t = save-tested n v w e .room in
         omega (arith, save-long (old i) l i w (taken n v w), dirs-some (old i) i, taken-few n v w, t, free-few n v)
 
-mild : (old : ℕ → Bool) (c : Change) (l : Look) → Mild (most c) (planOf old c l)
-unfolding planOf numbers
-mild old (save w) l = mild-save old l w
-mild old (erase n) l =
-    mild-or 1 (row 12 0 (not (askable n))) (byName l n (λ i f. orNo (isProtected i f else isOccupied (slotsOf l) i f) (go (touch l i f 0 (0 ∷ [])))))
-    (small-row 12 0 (not (askable n)) (omega arith) (omega arith))
-    (mild-named l n 1 (λ i f. orNo (isProtected i f else isOccupied (slotsOf l) i f) (go (touch l i f 0 (0 ∷ []))))
-    (λ i h. mild-or 1 (isProtected i (fileAt l i) else isOccupied (slotsOf l) i (fileAt l i)) (go (touch l i (fileAt l i) 0 (0 ∷ [])))
-    (small-else (isProtected i (fileAt l i)) (isOccupied (slotsOf l) i (fileAt l i)) (small-protected i (fileAt l i) h)
-    (small-row 29 (suc i) (occupied (slotsOf l) i (fileAt l i .bytes)) (omega arith) (omega arith))) (omega arith)))
-mild old (rename n new) l =
-    mild-or 1 (row 12 0 (not (askable n && usable new))) (byName l n (λ i f. orNo (renameTaken (slotsOf l) i f new else isProtected i f) (go (touch l i f 1 (padded new)))))
-    (small-row 12 0 (not (askable n && usable new)) (omega arith) (omega arith))
-    (mild-named l n 1 (λ i f. orNo (renameTaken (slotsOf l) i f new else isProtected i f) (go (touch l i f 1 (padded new))))
-    (λ i h. mild-or 1 (renameTaken (slotsOf l) i (fileAt l i) new else isProtected i (fileAt l i)) (go (touch l i (fileAt l i) 1 (padded new)))
-    (small-else (renameTaken (slotsOf l) i (fileAt l i) new) (isProtected i (fileAt l i)) (small-renamed (slotsOf l) i (fileAt l i) new) (small-protected i (fileAt l i) h)) (omega arith)))
-mild old (mark m n) l =
-    mild-or 1 (row 12 0 (not (askable n))) (byName l n (λ i f. go (touch l i f 0 (marked m (getD (f .bytes) 0 0) ∷ [])))) (small-row 12 0 (not (askable n)) (omega arith) (omega arith))
-    (mild-named l n 1 (λ i f. go (touch l i f 0 (marked m (getD (f .bytes) 0 0) ∷ []))) (λ i h. omega arith))
+module _ (d : List ℕ) (ok : Sound (look d)) where
+  abbrev l : Look
+  l = look d
+
+  -- a file that is left names none, one that moves its sectors and the slot's
+  mild-move : (i : ℕ) (f : File) → look d .files i ≡ some f → Mild 781 (movePlan (look d) i f)
+  unfolding movePlan numbers
+  mild-move i f e = by (scattered f) (lowestRun (extra l) (slotsOf l) (countOf (f .bytes))) refl
+    where
+      by : (t : Bool) (o : Option ℕ) → lowestRun (extra l) (slotsOf l) (countOf (f .bytes)) ≡ o
+          → Mild 781 (cond t (held (no (refuse 32 0)) (λ b. go (gatherSteps l i f (upFrom (countOf (f .bytes)) b))) o) (go []))
+      by false o q = omega arith
+      by true none q = (omega arith, omega arith)
+      by true (some b) q = omega (arith, gather-long l i f b, run-few d ok i f e b (found-run d (countOf (f .bytes)) b q .here))
+
+  mild : (c : Change) → Mild (most c) (plan c d)
+  unfolding planOf numbers
+  mild (save w) = mild-save (oldName d) l w
+  mild (erase n) =
+      mild-or 1 (row 12 0 (not (askable n))) (byName l n (λ i f. orNo (isProtected i f else isOccupied (slotsOf l) i f) (go (touch l i f 0 (0 ∷ [])))))
+      (small-row 12 0 (not (askable n)) (omega arith) (omega arith))
+      (mild-named l n 1 (λ i f. orNo (isProtected i f else isOccupied (slotsOf l) i f) (go (touch l i f 0 (0 ∷ []))))
+      (λ i q h. mild-or 1 (isProtected i (fileAt l i) else isOccupied (slotsOf l) i (fileAt l i)) (go (touch l i (fileAt l i) 0 (0 ∷ [])))
+      (small-else (isProtected i (fileAt l i)) (isOccupied (slotsOf l) i (fileAt l i)) (small-protected i (fileAt l i) h)
+      (small-row 29 (suc i) (occupied (slotsOf l) i (fileAt l i .bytes)) (omega arith) (omega arith))) (omega arith)))
+  mild (rename n new) =
+      mild-or 1 (row 12 0 (not (askable n && usable new))) (byName l n (λ i f. orNo (renameTaken (slotsOf l) i f new else isProtected i f) (go (touch l i f 1 (padded new)))))
+      (small-row 12 0 (not (askable n && usable new)) (omega arith) (omega arith))
+      (mild-named l n 1 (λ i f. orNo (renameTaken (slotsOf l) i f new else isProtected i f) (go (touch l i f 1 (padded new))))
+      (λ i q h. mild-or 1 (renameTaken (slotsOf l) i (fileAt l i) new else isProtected i (fileAt l i)) (go (touch l i (fileAt l i) 1 (padded new)))
+      (small-else (renameTaken (slotsOf l) i (fileAt l i) new) (isProtected i (fileAt l i)) (small-renamed (slotsOf l) i (fileAt l i) new) (small-protected i (fileAt l i) h)) (omega arith)))
+  mild (mark m n) =
+      mild-or 1 (row 12 0 (not (askable n))) (byName l n (λ i f. go (touch l i f 0 (marked m (getD (f .bytes) 0 0) ∷ [])))) (small-row 12 0 (not (askable n)) (omega arith) (omega arith))
+      (mild-named l n 1 (λ i f. go (touch l i f 0 (marked m (getD (f .bytes) 0 0) ∷ []))) (λ i q h. omega arith))
+  mild (gather n) =
+      mild-or 781 (row 12 0 (not (askable n))) (byName l n (λ i f. orNo (row 13 (suc i) (isDirectory (f .bytes))) (movePlan l i f)))
+      (small-row 12 0 (not (askable n)) (omega arith) (omega arith))
+      (mild-named l n 781 (λ i f. orNo (row 13 (suc i) (isDirectory (f .bytes))) (movePlan l i f))
+      (λ i q h. mild-or 781 (row 13 (suc i) (isDirectory (fileAt l i .bytes))) (movePlan l i (fileAt l i))
+      (small-row 13 (suc i) (isDirectory (fileAt l i .bytes)) (omega arith) (omega arith)) (mild-move i (fileAt l i) (found-file d n i q .here))))
 
 -- ---- the same of what comes of it
 
@@ -161,25 +191,32 @@ Settled m (made new ss) = length ss ≤ m
 
 pub mild-run : (c : Change) (d : List ℕ) (room : ℕ) → Settled (most c) (run c d room)
 unfolding run checkDisk
-mild-run c d room = by (checkDisk d) (plan c d) (check-small (look d)) (mild (oldName d) c (look d))
+mild-run c d room = by (checkDisk d) refl (check-small (look d))
   where
     room-or : (t : Bool) (new ss : List ℕ) → length ss ≤ most c → Settled (most c) (cond t (stopped (refuse 20 0)) (made new ss))
     room-or true new ss h = (omega arith, omega arith)
     room-or false new ss h = h
 
-    by : (q : Reply) (p : Plan) → Small q → Mild (most c) p → Settled (most c) (checked q (settle d room p))
-    by (some r) p a b = a
-    by none (no r) a b = b
-    by none (go p) a b = room-or (ltb room (length (numbers p))) (enact d p) (numbers p) b
+    at : (p : Plan) → Mild (most c) p → Settled (most c) (settle d room p)
+    at (no r) b = b
+    at (go p) b = room-or (ltb room (length (numbers p))) (enact d p) (numbers p) b
+
+    by : (q : Reply) → checkDisk d ≡ q → Small q → Settled (most c) (checked q (settle d room (plan c d)))
+    by (some r) e a = a
+    by none e a = at (plan c d) (mild d (disk-sound d e) c)
 
 -- more room than a change can need makes no difference
 run-same : (c : Change) (d : List ℕ) (a b : ℕ) → ((x : ℕ) → x ≤ most c → ltb a x ≡ ltb b x) → run c d a ≡ run c d b
 unfolding run
-run-same c d a b h = ap (checked (checkDisk d)) (by (plan c d) (mild (oldName d) c (look d)))
+run-same c d a b h = by (checkDisk d) refl
   where
-    by : (p : Plan) → Mild (most c) p → settle d a p ≡ settle d b p
-    by (no r) w = refl
-    by (go p) w = ap (λ (t : Bool). cond t (stopped (refuse 20 0)) (made (enact d p) (numbers p))) (h (length (numbers p)) w)
+    at : (p : Plan) → Mild (most c) p → settle d a p ≡ settle d b p
+    at (no r) w = refl
+    at (go p) w = ap (λ (t : Bool). cond t (stopped (refuse 20 0)) (made (enact d p) (numbers p))) (h (length (numbers p)) w)
+
+    by : (q : Reply) → checkDisk d ≡ q → checked q (settle d a (plan c d)) ≡ checked q (settle d b (plan c d))
+    by (some r) e = refl
+    by none e = at (plan c d) (mild d (disk-sound d e) c)
 
 pub least-room : (r n x : ℕ) → x ≤ n → ltb (min r n) x ≡ ltb r x
 least-room r n x h = by (below-or-not r x)

@@ -25,6 +25,15 @@ unfolding inBytes
 pairs-last [] s = refl
 pairs-last (x ∷ ss) s = ap (λ (r : List ℕ). x % 256 ∷ x / 256 ∷ r) (pairs-last ss s)
 
+-- one number more, after j of them
+pub pair-next : (b₀ ss : List ℕ) (j : ℕ) → length ss ≡ j → (b : List ℕ) → b ≡ put b₀ 0 (inBytes ss) → (s : ℕ)
+    → set (set b (2 * j) (s % 256)) (2 * j + 1) (s / 256) ≡ put b₀ 0 (inBytes (ss ++ (s ∷ [])))
+pair-next b₀ ss j n b e s =
+    let x : List ℕ = inBytes ss in
+    let l : length x ≡ 2 * j = length-pairs ss ∙ ap (λ (k : ℕ). 2 * k) n in
+    put-next b₀ (x ++ (s % 256 ∷ [])) (2 * j + 1) (s / 256) (length-append x (s % 256 ∷ []) ∙ omega arith) (set b (2 * j) (s % 256)) (put-next b₀ x (2 * j) (s % 256) l b e)
+    ∙ ap (put b₀ 0) (sym (pairs-last ss s))
+
 -- the list b with the pairs of the first j numbers, of n
 pub record Paired (b₀ ss : List ℕ) (n : ℕ) (b : List ℕ) (j : ℕ) : Type 0 where
   pub is : b ≡ put b₀ 0 (inBytes (take j ss))
@@ -48,18 +57,14 @@ module _ (b₀ ss : List ℕ) (n : ℕ) (b : List ℕ) (j : ℕ) (w : Paired b�
   paired-all h = let e : j ≡ n = omega (arith, w .below) in w .is ∙ ap (λ (k : ℕ). put b₀ 0 (inBytes (take k ss))) e
 
   pub paired-more : j < n → Paired b₀ ss n (set (set b (2 * j) (getD ss j 0 % 256)) (2 * j + 1) (getD ss j 0 / 256)) (j + 1)
-  paired-more h =
-      let s : ℕ = getD ss j 0 in
-      let x : List ℕ = inBytes (take j ss) in
-      let l : length x ≡ 2 * j = length-pairs (take j ss) ∙ ap (λ (k : ℕ). 2 * k) (length-take-le j ss (omega (arith, w .enough))) in
-      record {
-        is =
-            put-next b₀ (x ++ (s % 256 ∷ [])) (2 * j + 1) (s / 256) (length-append x (s % 256 ∷ []) ∙ omega arith) (set b (2 * j) (s % 256)) (put-next b₀ x (2 * j) (s % 256) l b (w .is))
-            ∙ ap (put b₀ 0) (sym (pairs-last (take j ss) s) ∙ ap inBytes (sym (take-suc ss j 0 (omega (arith, w .enough))) ∙ ap (λ (k : ℕ). take k ss) (sym (add-one j))));
-        below = omega arith;
-        enough = w .enough;
-        room = w .room;
-      }
+  paired-more h = record {
+    is =
+        pair-next b₀ (take j ss) j (length-take-le j ss (omega (arith, w .enough))) b (w .is) (getD ss j 0)
+        ∙ ap (λ (x : List ℕ). put b₀ 0 (inBytes x)) (sym (take-suc ss j 0 (omega (arith, w .enough))) ∙ ap (λ (k : ℕ). take k ss) (sym (add-one j)));
+    below = omega arith;
+    enough = w .enough;
+    room = w .room;
+  }
 
 -- ---- an answer and the numbers that it counts
 

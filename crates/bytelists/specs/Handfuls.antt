@@ -4,9 +4,10 @@ use mathlib.Core.List.{List}
 use lib.ListN.{length}
 use Rattle.buffers.specs.Bytes.{put}
 use Rattle.refusals.specs.Answers.{done, refused}
-use Rattle.plans.specs.Plan.{Result, stopped, made}
+use Rattle.plans.specs.Plan.{Result, stopped, made, Changed}
 use Rattle.handfuls.specs.Handful.{answersTo, runMany, Erased, erased}
-use Rattle.bytelists.specs.Lists.{inBytes}
+use Rattle.handfuls.specs.Parts.{Ask, single, handful, returned}
+use Rattle.bytelists.specs.Lists.{inBytes, changing}
 
 -- "one byte a name": the answers are bytes as they stand; "The sector list", "two to a number, low byte first"
 abbrev pub erasingBy : Result → List ℕ → List ℕ → List ℕ → List ℕ → Erased
@@ -16,3 +17,8 @@ erasingBy (made new ss) d ns abuf b = erased (done (length ss) 0) new (put abuf 
 -- 20 where the list has not two bytes for each
 unfoldable pub erasing : List ℕ → List ℕ → List ℕ → List ℕ → Erased
 erasing d ns abuf b = erasingBy (runMany ns d (length abuf) (length b / 2)) d ns abuf b
+
+-- everything that can be asked for, with a list of bytes: outcome, image and list at return
+abbrev pub asking : Ask → List ℕ → List ℕ → Changed
+asking (single c) d b = changing c d b
+asking (handful ns abuf) d b = returned (erasing d ns abuf b)

@@ -1,20 +1,24 @@
 // The changes for the app's C layer, with the list of sectors as bytes, two to a number, low byte first; and the listing of a
 // directory with its slots so.
 ghost use mathlib.Core.Path.{_≡_};
-ghost use Prim.Native.Nat.{_*_, _≤_};
+ghost use Prim.Native.Nat.{_+_, _*_, _/_, _≤_};
 ghost use lib.ListN.{length, take};
 ghost use Rattle.buffers.specs.Bytes.{put};
 ghost use Rattle.refusals.specs.Answers.{outcomeOf, out};
 ghost use Rattle.directory.specs.Places.{slots};
 ghost use Rattle.packing.specs.Packed.{valueIn};
-ghost use Rattle.plans.specs.Change.{save, erase, rename, mark};
+ghost use Rattle.plans.specs.Change.{save, erase, rename, mark, gather};
+ghost use Rattle.plans.specs.Gathered.{runSectors};
 ghost use Rattle.changes.specs.Marks.{markOf};
 ghost use Rattle.saves.specs.Write.{wish};
+ghost use Rattle.gathers.specs.Call.{sectorsOf, Placed};
 ghost use Rattle.bytelists.specs.Lists.{inBytes, Returns, Counted};
 ghost use Rattle.bytelists.specs.Trees.{treeingBytes};
-ghost use Rattle.handfuls.specs.Handful.{pairs, erased};
+ghost use Rattle.handfuls.specs.Handful.{erased};
 ghost use Rattle.bytelists.specs.Handfuls.{erasing};
 use changes::Marking;
+use gathers::Gathered;
+use gathers::Move;
 use refusals::Answer;
 
 // Puts the first `n` of the numbers to the front of a list, two bytes each, low byte first.
@@ -129,11 +133,46 @@ pub fn list_tree(image: &[u8], name: &[u8], list: &mut [u8]) -> Answer
     put_counted(listed, &numbers, list)
 }
 
-// Room for the numbers of every handful: those of all sectors of the directory.
-fn no_sectors() -> [u16; wipes::DIR_SECTORS]
-    ensures { λ r. ⌜ length r ≡ pairs ⌝ }
+// Puts the sector numbers of the `n` map bits from `b` on to the front of a list, two bytes each, low byte first.
+fn put_run(list: &mut [u8], n: usize, b: usize)
+    requires { ⌜ (2 * n ≤ length (now list)) × (b + n ≤ 1560) ⌝ }
+    ensures { λ _. ⌜ now (list .exit) ≡ put (now (list .entry)) 0 (inBytes (runSectors n b)) ⌝ }
 {
-    [0u16; wipes::DIR_SECTORS]
+    let mut j: usize = 0;
+    while j < n {
+        let sector = geometry::bit_place(b + j) / 512;
+        list[2 * j] = (sector % 256) as u8;
+        list[2 * j + 1] = (sector / 256) as u8;
+        j += 1;
+    }
+}
+
+// The same of a file that was moved, with its directory sector last.
+fn put_moved(list: &mut [u8], to: Move)
+    requires { ⌜ Placed to (length (now list) / 2) ⌝ }
+    ensures { λ _. ⌜ now (list .exit) ≡ put (now (list .entry)) 0 (inBytes (sectorsOf to)) ⌝ }
+{
+    let count = to.count;
+    put_run(list, count, to.bit);
+    let s = directory::dir_sector(to.slot);
+    list[2 * count] = (s % 256) as u8;
+    list[2 * count + 1] = (s / 256) as u8;
+}
+
+// Gathers a file: how many sectors, and their numbers to the front of the list. They are told by where the file went, so that no
+// room for them is taken here.
+pub fn gather(image: &mut [u8], name: &[u8], list: &mut [u8]) -> Answer
+    ensures { λ r. ⌜ Returns (gather (now (name .entry))) (now (image .entry)) (now (list .entry)) r (now (image .exit)) (now (list .exit)) ⌝ }
+{
+    let room = list.len() / 2;
+    match gathers::gather_in(image, name, room) {
+        Gathered::Barred(r) => Answer::No(r),
+        Gathered::Stays => Answer::Done(0, 0),
+        Gathered::Went(to) => {
+            put_moved(list, to);
+            Answer::Done(to.count + 1, 0)
+        }
+    }
 }
 
 // Erases a handful of files, their names of ten bytes each laid end to end: how many sectors, an answer to each name, and the
@@ -141,8 +180,8 @@ fn no_sectors() -> [u16; wipes::DIR_SECTORS]
 pub fn erase_many(image: &mut [u8], names: &[u8], answers: &mut [u8], list: &mut [u8]) -> Answer
     ensures { λ r. ⌜ erased (outcomeOf r) (now (image .exit)) (now (answers .exit)) (now (list .exit)) ≡ erasing (now (image .entry)) (now (names .entry)) (now (answers .entry)) (now (list .entry)) ⌝ }
 {
-    let mut numbers = no_sectors();
+    let mut numbers = [0u16; wipes::DIR_SECTORS];
     let room = buffers::lesser(list.len() / 2, wipes::DIR_SECTORS);
-    let erased = batches::erase_many(image, names, answers, &mut numbers[..room]);
-    put_counted(erased, &numbers, list)
+    let emptied = batches::erase_many(image, names, answers, &mut numbers[..room]);
+    put_counted(emptied, &numbers, list)
 }

@@ -167,7 +167,7 @@ module _ (c : Change) (d n buf : List ℕ) (t : Bool) (f : ℕ → File → Plan
   pub name-unfit : t ≡ false → settled (no (refuse 12 0)) d buf ≡ change c d buf
   name-unfit e = change-planned c d buf a (no (refuse 12 0)) (s ∙ rw e)
 
-  by-name : t ≡ true → (o : Option ℕ) → find (directory d) n ≡ o → plan c d ≡ held (no (refuse 15 0)) (λ i. f i (fileAt (look d) i)) o
+  pub by-name : t ≡ true → (o : Option ℕ) → find (directory d) n ≡ o → plan c d ≡ held (no (refuse 15 0)) (λ i. f i (fileAt (look d) i)) o
   by-name e o q =
       s ∙ ap (λ (t : Bool). naming t d n f) e
       ∙ ap (λ (v : Directory). held (no (refuse 15 0)) (λ i. f i (fileAt (look d) i)) (find v n)) (look-slots d)

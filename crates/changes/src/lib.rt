@@ -95,7 +95,8 @@ fn erase_at(image: &mut [u8], i: usize, list: &mut [u16]) -> Answer
     requires { ⌜ Holds (now image) i ⌝ }
     ensures { λ r. ⌜ Settles (erasing (now (image .entry)) i) (now (image .entry)) (now (list .entry)) r (now (image .exit)) (now (list .exit)) ⌝ }
 {
-    if slots::is_protected(directory::slot_at(image, i)) {
+    let erased = directory::slot_at(image, i);
+    if slots::is_protected(erased) {
         return refusals::no(Reason::FileProtected, i + 1);
     }
     if nesting::is_occupied(image, i, directory::slot_at(image, i)) {

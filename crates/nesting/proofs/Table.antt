@@ -77,6 +77,7 @@ zeros-at (suc n) (suc k) = zeros-at n k
 pub record Tabling (v : Directory) (above : List ℕ) (number i : ℕ) : Type 0 where
   pub long : length above ≡ 256
   pub entry : (c : ℕ) → getD above c 0 ≡ entryAmong v i c
+  pub root : getD above 0 0 ≡ 0
   pub counted : number ≡ count i (λ j. held false isDirectory (v j))
   pub rest : sweep slots (codeAt v) ≡ sweepFrom (slots - i) i (codeAt v)
 
@@ -90,7 +91,7 @@ not-coded c s h = by (coded c s) refl
 module _ (v : Directory) where
   pub tabling-none : (above : List ℕ) → length above ≡ 256 → ((c : ℕ) → getD above c 0 ≡ 0) → Tabling v above 0 0
   unfolding entryAmong earlier any count
-  tabling-none above l z = record { long = l; entry = z; counted = refl; rest = sweep-start slots (codeAt v) }
+  tabling-none above l z = record { long = l; entry = z; root = z 0; counted = refl; rest = sweep-start slots (codeAt v) }
 
   module _ (above : List ℕ) (number i : ℕ) (t : Tabling v above number i) (h : i < slots) where
     -- a slot that is no directory
@@ -98,6 +99,7 @@ module _ (v : Directory) where
     tabling-same d e = record {
       long = t .long;
       entry = λ c. t .entry c ∙ sym (entry-same v i c (by c (v i) d));
+      root = t .root;
       counted = t .counted ∙ sym (count-more i (λ j. held false isDirectory (v j)) ∙ rw d (omega arith));
       rest = t .rest ∙ sweep-skip slots i (codeAt v) h e;
     }
@@ -118,6 +120,7 @@ module _ (v : Directory) where
       tabling-folder n z l p q = record {
         long = simp length-set (t .long);
         entry = λ x. at x (eqb x c) refl;
+        root = getD-set-other above c 0 (p + 1) 0 (λ y. n (sym y)) ∙ t .root;
         counted = ap (λ (x : ℕ). x + 1) (t .counted) ∙ sym (count-more i (λ j. held false isDirectory (v j)) ∙ rw (e, d));
         rest = t .rest ∙ sweep-skip slots i (codeAt v) h (code-live v i s e ∙ free);
       }
@@ -169,7 +172,7 @@ module _ (v : Directory) where
 
   pub tabling-all : (above : List ℕ) (number : ℕ) → Tabling v above number slots → Tabled v above number
   unfolding directories
-  tabling-all above number t = record { entry = t .entry; number = t .counted }
+  tabling-all above number t = record { entry = t .entry; root = t .root; number = t .counted }
 
   pub tabling-few : (above : List ℕ) (number i : ℕ) → Tabling v above number i → number ≤ i
   tabling-few above number i t = omega (arith, t .counted, count-le i (λ j. held false isDirectory (v j)))

@@ -5,7 +5,7 @@ use mathlib.Core.Bool.{Bool, false, not, cond, _&&_}
 use mathlib.Core.List.{List, [], _∷_}
 use mathlib.Core.Option.{none, some}
 use lib.Dec.{eqb}
-use lib.ListN.{getD}
+use lib.ListN.{length, getD}
 use Rattle.buffers.specs.Bytes.{any}
 use Rattle.refusals.specs.Order.{Row, _when_, Reply, sweep}
 use Rattle.refusals.specs.Answers.{replyOf}
@@ -23,6 +23,7 @@ entryAmong v k c = cond (earlier v k (coded c)) (suc (upAmong v k c)) 0
 
 pub record Tabled (v : Directory) (above : List ℕ) (m : ℕ) : Type 0 where
   pub entry : (c : ℕ) → getD above c 0 ≡ entryAmong v slots c
+  pub root : getD above 0 0 ≡ 0
   pub number : m ≡ directories v
 
 -- going up by the table
@@ -32,6 +33,12 @@ climb above (suc n) c = getD above (climb above n c) 0 - 1
 
 unfoldable pub backBy : List ℕ → ℕ → ℕ → Bool
 backBy above m c = any m (λ n. eqb (climb above (suc n) c) c)
+
+-- going up from a code that is passed, and not the root's, does not come back to it; and none is above the root
+pub record Passed (above passed : List ℕ) (m : ℕ) : Type 0 where
+  pub long : length passed ≡ 256
+  pub root : getD above 0 0 ≡ 0
+  pub never : (c : ℕ) → (c ≡ 0 → ⊥) → (getD passed c 0 ≡ 0 → ⊥) → backBy above m c ≡ false
 
 -- in a directory that there is not
 unfoldable pub nowhere : List ℕ → List ℕ → Bool

@@ -2,14 +2,14 @@
 // an erase asks for. All of it goes by the directory's bytes alone, and answers for a slice of any length.
 ghost use mathlib.Core.Path.{_≡_};
 ghost use Prim.Native.Nat.{_-_};
-ghost use lib.ListN.{getD};
+ghost use lib.ListN.{getD, set, replicate};
 ghost use Rattle.buffers.specs.Bytes.{any};
 ghost use Rattle.refusals.specs.Order.{rows, sweep};
 ghost use Rattle.refusals.specs.Answers.{replyOf};
 ghost use Rattle.directory.specs.Places.{slots};
 ghost use Rattle.directory.specs.Directory.{directory};
 ghost use Rattle.trees.specs.Tree.{placeAt, occupied};
-ghost use Rattle.nesting.specs.Steps.{inOther, backBy, nowhere, placingBy, Tabled, Tables, Nests};
+ghost use Rattle.nesting.specs.Steps.{inOther, backBy, nowhere, placingBy, Tabled, Passed, Tables, Nests};
 use refusals::Reason;
 use refusals::Refused;
 use refusals::Verdict;
@@ -46,8 +46,11 @@ fn step_up(above: &[u16], code: usize) -> usize
     (entry - 1) as usize
 }
 
-// Whether going up from a directory comes back to it, within as many steps as there are directories.
-fn comes_back(above: &[u16], number: usize, code: usize) -> bool
+// Whether going up from a directory comes back to it, within as many steps as there are directories. `passed` has those codes
+// that it need not go on from: the root's, and of a directory that does not come back to itself, for what leads to such a one
+// does not come back either.
+fn comes_back(above: &[u16], passed: &[u8], number: usize, code: usize) -> bool
+    requires { ⌜ Passed (now above) (now passed) number ⌝ }
     ensures { λ r. ⌜ r ≡ backBy (now (above .entry)) number code ⌝ }
 {
     let mut at = code;
@@ -57,6 +60,9 @@ fn comes_back(above: &[u16], number: usize, code: usize) -> bool
         n += 1;
         if at == code {
             return true;
+        }
+        if buffers::byte_at(passed, at) != 0 {
+            return false;
         }
     }
     false
@@ -74,18 +80,28 @@ fn lies_nowhere(above: &[u16], s: &[u8]) -> bool
 }
 
 // 27 and 28 at a live slot.
-fn place_rows(above: &[u16], number: usize, s: &[u8], slot: usize) -> Verdict
+fn place_rows(above: &[u16], passed: &[u8], number: usize, s: &[u8], slot: usize) -> Verdict
+    requires { ⌜ Passed (now above) (now passed) number ⌝ }
     ensures { λ r. ⌜ replyOf r ≡ rows slot (placingBy (now (above .entry)) number (now (s .entry))) ⌝ }
 {
     if lies_nowhere(above, s) {
         return refusals::unsound(Reason::NoSuchDirectory, slot);
     }
     if slots::is_directory(s) {
-        if comes_back(above, number, slots::code_of(s)) {
+        if comes_back(above, passed, number, slots::code_of(s)) {
             return refusals::unsound(Reason::InsideItself, slot);
         }
     }
     Verdict::Sound
+}
+
+// The root's code alone is passed.
+fn root_alone() -> [u8; 256]
+    ensures { λ r. ⌜ r ≡ set (replicate 256 0) 0 1 ⌝ }
+{
+    let mut passed = [0u8; 256];
+    passed[0] = 1;
+    passed
 }
 
 // 27 and 28 at all slots.
@@ -94,16 +110,21 @@ fn all_places(dir: &[u8], above: &[u16], number: usize) -> Verdict
     ensures { λ r. ⌜ replyOf r ≡ sweep slots (placeAt (directory (now (dir .entry)))) ⌝ }
 {
     let end = directory::slots_read(dir);
+    let mut passed = root_alone();
     let mut i: usize = 0;
     while i < end {
         let s = directory::slot_at(dir, i);
         i += 1;
         if slots::is_live(s) {
-            match place_rows(above, number, s, i) {
+            match place_rows(above, &passed, number, s, i) {
                 Verdict::Unsound(r) => {
                     return Verdict::Unsound(r);
                 }
-                Verdict::Sound => {}
+                Verdict::Sound => {
+                    if slots::is_directory(s) {
+                        passed[slots::code_of(s)] = 1;
+                    }
+                }
             }
         }
     }

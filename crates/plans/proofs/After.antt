@@ -162,7 +162,7 @@ module _ (l : Look) (w : Sound l) (i : ℕ) (f : File) (h : i < slots) (e : l .f
       (none-share (leftMap l i) (mapOf (f .bytes)) (λ b k p q. true≢false (sym p ∙ unused b q)))
       ∙ ap (λ (c : ℕ). bitsOf (leftMap l i) + c) (w .good i f h e .bits)
 
-  freed-count : free (extra (upd l i none)) (slotsOf (upd l i none)) ≡ free (extra l) (slotsOf l) + countOf (f .bytes)
+  pub freed-count : free (extra (upd l i none)) (slotsOf (upd l i none)) ≡ free (extra l) (slotsOf l) + countOf (f .bytes)
   unfolding free freeOf usedMap counted bitsOf
   freed-count =
       omega (
@@ -175,7 +175,7 @@ module _ (l : Look) (w : Sound l) (i : ℕ) (f : File) (h : i < slots) (e : l .f
 
 -- ---- a file whose name or marks are other
 
-picked : (a b : Bool) (x y z w : ℕ) → a ≡ b → x ≡ y → z ≡ w → cond a x z ≡ cond b y w
+pub picked : (a b : Bool) (x y z w : ℕ) → a ≡ b → x ≡ y → z ≡ w → cond a x z ≡ cond b y w
 picked a b x y z w p q r = rw (p, q, r)
 
 -- with the kind and every byte from 11 on as they were
@@ -198,7 +198,7 @@ alike-by f s p r =
 
 -- slot i holds g in place of f
 module _ (d new : List ℕ) (i : ℕ) (f g : File) (e : look d .files i ≡ some f) (s : look new ≡ upd (look d) i (some g)) where
-  swap-here : look new .files i ≡ some g
+  pub swap-here : look new .files i ≡ some g
   swap-here = rw s (upd-same (look d) i (some g))
 
   swap-alike : Alike g f → (j : ℕ) → Alike (fileAt (look new) j) (fileAt (look d) j)
@@ -209,7 +209,7 @@ module _ (d new : List ℕ) (i : ℕ) (f g : File) (e : look d .files i ≡ some
           subst₂ Alike (sym (ap (fileAt (look new)) z ∙ ap (held noFile (λ f. f)) swap-here)) (sym (ap (fileAt (look d)) z ∙ ap (held noFile (λ f. f)) e)) a
       by (no z) = alike-same (fileAt (look new) j) (fileAt (look d) j) (ap (λ (l : Look). fileAt l j) s ∙ file-other (look d) i (some g) j z)
 
-  swap-answers : Alike g f → checkDisk d ≡ none → checkDisk new ≡ none → (m n : List ℕ) → askable m ≡ askable n
+  pub swap-answers : Alike g f → checkDisk d ≡ none → checkDisk new ≡ none → (m n : List ℕ) → askable m ≡ askable n
       → find (slotsOf (look new)) m ≡ find (slotsOf (look d)) n → SameAnswers new m d n
   unfolding checkDisk
   swap-answers a p q m n t z =
@@ -217,7 +217,7 @@ module _ (d new : List ℕ) (i : ℕ) (f g : File) (e : look d .files i ≡ some
       record { readings = w .0; starts = w .1 }
 
   -- with the same name, every name finds what it found
-  swap-find : nameOf (g .bytes) ≡ nameOf (f .bytes) → (m : List ℕ) → find (slotsOf (look new)) m ≡ find (slotsOf (look d)) m
+  pub swap-find : nameOf (g .bytes) ≡ nameOf (f .bytes) → (m : List ℕ) → find (slotsOf (look new)) m ≡ find (slotsOf (look d)) m
   swap-find q m =
       ap (λ (l : Look). find (slotsOf l) m) s
       ∙ find-upd (look d) i (some g) m

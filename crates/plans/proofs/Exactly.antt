@@ -43,7 +43,8 @@ use Rattle.plans.proofs.Named.{fresh-find, find-fresh, found-file, foun
 use Rattle.plans.proofs.Free.{FreeSlot, free-slot, no-free-slot}
 use Rattle.plans.proofs.Ended.{free-there}
 use Rattle.plans.proofs.Effect.{erased, marked-so, renamed}
-use Rattle.plans.proofs.Refused.{some-free, none-free, refused-exactly, accepted-exactly}
+use Rattle.plans.proofs.Rows.{some-free, none-free}
+use Rattle.plans.proofs.Refused.{refused-exactly, accepted-exactly}
 
 -- ---- the files of a name
 

@@ -1,5 +1,5 @@
 -- What a change finds has the name asked for, and on an accepted disk it is one slot at most.
-use Prim.Native.Nat.{ℕ, _-_}
+use Prim.Native.Nat.{ℕ}
 use mathlib.Core.Path.{_≡_, refl, sym, _∙_}
 use mathlib.Core.Bool.{Bool, true, false, false≢true}
 use mathlib.Core.List.{List}
@@ -13,7 +13,7 @@ use Rattle.names.proofs.Names.{same-both}
 use Rattle.chains.specs.File.{File}
 use Rattle.disk.specs.Look.{look}
 use Rattle.disk.specs.Check.{checkDisk}
-use Rattle.plans.specs.Change.{Wish, Mark, Change, save, erase, rename, mark}
+use Rattle.plans.specs.Change.{Wish, Mark, Change, save, erase, rename, mark, gather}
 use Rattle.plans.specs.Plan.{finds}
 use Rattle.plans.proofs.Frame.{disk-sound, holds}
 use Rattle.plans.proofs.Kept.{sound-apart}
@@ -29,6 +29,10 @@ finds-rename n new f = (λ e. e, λ e. e)
 pub finds-mark : (m : Mark) (n : List ℕ) (f : File) → (finds (mark m n) f ≡ true) ↔ Same (nameOf (f .bytes)) (padded n)
 unfolding finds
 finds-mark m n f = (λ e. e, λ e. e)
+
+pub finds-gather : (n : List ℕ) (f : File) → (finds (gather n) f ≡ true) ↔ Same (nameOf (f .bytes)) (padded n)
+unfolding finds
+finds-gather n f = (λ e. e, λ e. e)
 
 -- "a save finds none"
 pub finds-save : (w : Wish) (f : File) → finds (save w) f ≡ false
@@ -51,3 +55,4 @@ module _ (d : List ℕ) (ok : checkDisk d ≡ none) (i j : ℕ) (f g : File) (p 
   finds-one (erase n) a b = one-name n (finds-erase n f .0 a) (finds-erase n g .0 b)
   finds-one (rename n new) a b = one-name n (finds-rename n new f .0 a) (finds-rename n new g .0 b)
   finds-one (mark m n) a b = one-name n (finds-mark m n f .0 a) (finds-mark m n g .0 b)
+  finds-one (gather n) a b = one-name n (finds-gather n f .0 a) (finds-gather n g .0 b)

@@ -1,5 +1,5 @@
 -- What a save takes: the lowest free bits, as many as the body needs, and the lowest slot that holds no file.
-use Prim.Native.Nat.{ℕ, zero, suc, _+_, _-_, _*_, _≤_, _<_}
+use Prim.Native.Nat.{ℕ, zero, suc, _+_, _≤_, _<_}
 use mathlib.Core.Path.{_≡_, refl, sym, ap, ap₂, _∙_, subst}
 use mathlib.Core.Bool.{Bool, true, false, cond, not, _&&_, _||_, true≢false, false≢true, and-eq-true-iff}
 use mathlib.Core.List.{List, [], _∷_}
@@ -12,7 +12,7 @@ use lib.Dec.{eqb}
 use lib.ListN.{length, getD, take}
 use lib.Seq.{length-take-le}
 use Rattle.buffers.specs.Bytes.{count, any}
-use Rattle.buffers.proofs.Counts.{count-add, count-cong, count-less, any-none, some-any}
+use Rattle.buffers.proofs.Counts.{count-add, count-cong, count-less, any-none, none-any, some-any}
 use Rattle.refusals.proofs.First.{sweep-none, sweep-first}
 use Rattle.maps.specs.Bits.{has, bitsOf}
 use Rattle.slots.specs.Slot.{mapOf, sectorsFor}
@@ -20,17 +20,19 @@ use Rattle.slots.specs.Tracks.{dataBit}
 use Rattle.slots.proofs.Tracks.{tracks-few, data-is, count-data}
 use Rattle.chains.specs.File.{File}
 use Rattle.directory.specs.Places.{slotCount, slots}
-use Rattle.directory.specs.Directory.{held, Directory}
+use Rattle.directory.specs.Directory.{held, Directory, tracksOf}
 use Rattle.surveys.specs.Survey.{union, counted, usedMap, freeOf, free}
 use Rattle.directory.proofs.Places.{slot-few}
 use Rattle.surveys.proofs.Union.{has-union}
-use Rattle.disk.specs.Look.{Look, slotsOf, extra}
+use Rattle.disk.specs.Look.{Look, look, slotsOf, extra}
 use Rattle.disk.specs.Sound.{Sound}
-use Rattle.steps.specs.Sectors.{listed}
+use Rattle.disk.proofs.Look.{look-extra}
+use Rattle.steps.specs.Sectors.{listed, Once}
 use Rattle.steps.proofs.Sectors.{listed-tail}
 use Rattle.plans.specs.Change.{Wish}
 use Rattle.plans.specs.Saving.{passing, freeBit, taken, lowestSlot}
-use Rattle.plans.proofs.Frame.{slot-file, slot-none}
+use Rattle.plans.specs.Accepted.{Unused}
+use Rattle.plans.proofs.Frame.{slots-some, slot-file, slot-none, holds}
 
 -- ---- runs
 
@@ -73,6 +75,10 @@ module _ (p : ℕ → Bool) where
       by : (t : Bool) → listed c bs ≡ t → t ≡ false
       by true e = absurd (omega (arith, run-listed (suc b) bs r c e .low))
       by false e = refl
+
+  pub run-once : (l : ℕ) (bs : List ℕ) → Run p l bs → Once bs
+  run-once l [] r = tt
+  run-once l (b ∷ bs) r = (run-fresh b b bs (omega arith) (r .1), run-once (suc b) bs (r .1))
 
   -- by place
   pub run-at : (l : ℕ) (bs : List ℕ) → Run p l bs → (k : ℕ) → k < length bs → From p l (getD bs k 0)
@@ -147,6 +153,25 @@ free-is n v b e i s h q m =
     let k : b < 1560 = data-is n b (t .0) .0 in
     let u : any slots (λ j. held false (λ x. has (mapOf x) b) (v j)) ≡ false = sym (has-union v slots b k) ∙ not-true (has (union v slots) b) (t .1) in
     true≢false (sym (rw (q, m)) ∙ any-none slots (λ j. held false (λ x. has (mapOf x) b) (v j)) u i h)
+
+-- the same of the files of a disk, both ways
+pub free-unused : (d : List ℕ) (b : ℕ) → freeBit (extra (look d)) (slotsOf (look d)) b ≡ true → Unused d b
+free-unused d b e i f q = free-is (extra (look d)) (slotsOf (look d)) b e i (f .bytes) (holds d i f q .here) (slots-some (look d) i f q)
+
+pub unused-free : (d : List ℕ) (b : ℕ) → dataBit (tracksOf d) b ≡ true → Unused d b → freeBit (extra (look d)) (slotsOf (look d)) b ≡ true
+unused-free d b h u =
+    rw (look-extra d, h)
+    (ap not
+    (has-union (slotsOf (look d)) slots b (data-is (tracksOf d) b h .0)
+    ∙ none-any slots (λ i. held false (λ s. has (mapOf s) b) (slotsOf (look d) i)) (λ i m. by i (slotsOf (look d) i) refl)))
+  where
+    at : (s : List ℕ) (i : ℕ) (f : File) → look d .files i ≡ some f → f .bytes ≡ s → (t : Bool) → has (mapOf s) b ≡ t → t ≡ false
+    at s i f p q true w = absurd (u i f p (ap (λ (x : List ℕ). has (mapOf x) b) q ∙ w))
+    at s i f p q false w = refl
+
+    by : (i : ℕ) (o : Option (List ℕ)) → slotsOf (look d) i ≡ o → held false (λ s. has (mapOf s) b) o ≡ false
+    by i none q = refl
+    by i (some s) q = let g = slot-file (look d) i s q in at s i (g .0) (g .1) (g .2) (has (mapOf s) b) refl
 
 pub extra-few : (l : Look) → extra l ≤ 35
 unfolding extra

@@ -4,7 +4,7 @@ use Prim.Native.Nat.{ℕ, _%_, _≤_, _<_}
 use mathlib.Core.Path.{_≡_, sym, ap, _∙_, subst, subst₂}
 use mathlib.Core.Bool.{true, true≢false}
 use mathlib.Core.List.{List}
-use mathlib.Core.Logic.{⊎-elim}
+use mathlib.Core.Logic.{inl, inr, ⊎-elim}
 use mathlib.Core.Option.{Option, none, some, Option·some-injective}
 use native.Mathlib.Decide.{ℕ-discrete}
 use native.Mathlib.Nat.{eq-or-lt-of-le}
@@ -12,35 +12,45 @@ use native.Mathlib.Omega.{arith}
 use lib.ListN.{length, getD}
 use Rattle.buffers.specs.Bytes.{put}
 use Rattle.buffers.proofs.Lists.{put-before, put-after}
-use Rattle.slots.specs.Slot.{isLive, kindOf, facts, lengthOf}
+use Rattle.slots.specs.Slot.{isLive, kindOf, countOf, facts, lengthOf}
 use Rattle.names.specs.Name.{padded}
 use Rattle.slots.proofs.Least.{sectors-few}
 use Rattle.chains.specs.File.{File}
-use Rattle.disk.specs.Look.{Look, look, slotsOf}
+use Rattle.disk.specs.Look.{Look, look}
 use Rattle.disk.specs.Check.{checkDisk, checkRelease}
 use Rattle.disk.specs.Release.{LeanFile, Lean}
 use Rattle.disk.proofs.Release.{release-accepts, release-exactly}
 use Rattle.steps.specs.Sectors.{cut}
-use Rattle.plans.specs.Change.{Wish, Change, save, erase, rename, mark, marked}
+use Rattle.plans.specs.Change.{Wish, Change, save, erase, rename, mark, gather, marked}
+use Rattle.plans.specs.Gathering.{upFrom, placed}
 use Rattle.plans.specs.Plan.{upd, entryOf, made, run, finds}
 use Rattle.plans.specs.Accepted.{Erases, Renames}
-use Rattle.plans.specs.After.{marking}
+use Rattle.plans.specs.After.{marking, Outside}
 use Rattle.plans.proofs.Frame.{disk-sound, upd-same, upd-other, entry-alive, entry-is, holds-long}
 use Rattle.plans.proofs.Kept.{sound-long, usable-is}
 use Rattle.plans.proofs.NewFile.{newFile, count-is, length-is}
 use Rattle.plans.proofs.Crash.{unseen, run-made}
 use Rattle.plans.proofs.Sure.{sure}
-use Rattle.plans.proofs.Effect.{Touched, erasing, erased, marked-so, renamed}
+use Rattle.plans.proofs.Moved.{gathered, before, after, kind-now}
+use Rattle.plans.proofs.Effect.{Touched, erasing, erased, marked-so, renamed, gathers}
 use Rattle.plans.proofs.Demand3.{crash, change-accepted}
 use Rattle.plans.proofs.ReadBack.{Stored, stored}
 use Rattle.plans.proofs.After.{first-byte, kind-bits}
 
 -- ---- one slot
 
--- with the kind and every byte from 11 on as they were
-lean-kept : (s t : List ℕ) → kindOf t ≡ kindOf s → ((j : ℕ) → 11 ≤ j → getD t j 0 ≡ getD s j 0) → LeanFile s → LeanFile t
+-- with the kind and every byte from 11 on as they were, but for the first address and the map
+lean-kept : (s t : List ℕ) → kindOf t ≡ kindOf s → ((j : ℕ) → 11 ≤ j → Outside j 13 197 → getD t j 0 ≡ getD s j 0) → LeanFile s → LeanFile t
 unfolding facts lengthOf
-lean-kept s t p r w = rw (p, r 11 (omega arith), r 12 (omega arith), r 239 (omega arith), r 240 (omega arith), r 241 (omega arith)) w
+lean-kept s t p r w =
+    rw (
+      p,
+      r 11 (omega arith) (inl (omega arith)),
+      r 12 (omega arith) (inl (omega arith)),
+      r 239 (omega arith) (inr (omega arith)),
+      r 240 (omega arith) (inr (omega arith)),
+      r 241 (omega arith) (inr (omega arith)),
+    ) w
 
 -- slot i of a look holds another file, or none
 lean-upd : (l : Look) (i : ℕ) (o : Option File) → Lean l → ((f : File) → o ≡ some f → LeanFile (f .bytes)) → Lean (upd l i o)
@@ -100,7 +110,7 @@ module _ (d : List ℕ) (ok : checkRelease d ≡ none) (room : ℕ) (new ss : Li
       touched-lean d n 1 (λ f. padded to) (Renames d to) new ss lean t
       (λ a.
       lean-kept s (put s 1 (padded to)) (ap (λ (x : ℕ). x % 64) (put-before s 1 (padded to) 0 (omega arith)))
-      (λ j h. put-after s 1 (padded to) j (omega (arith, u .1))))
+      (λ j h o. put-after s 1 (padded to) j (omega (arith, u .1))))
   change-lean (mark k n) e =
       let t = marked-so d first room new ss k n e in
       let z = holds-long d (t .slot) (t .file) (t .found .here) (sound-long d (disk-sound d first)) in
@@ -109,7 +119,21 @@ module _ (d : List ℕ) (ok : checkRelease d ≡ none) (room : ℕ) (new ss : Li
       touched-lean d n 0 (marking k) (λ i f. Unit {0}) new ss lean t
       (λ a.
       lean-kept s (put s 0 (marking k (t .file))) (ap (λ (x : ℕ). x % 64) (first-byte s (marked k x) (omega arith)) ∙ kind-bits k x)
-      (λ j h. put-after s 0 (marking k (t .file)) j (omega arith)))
+      (λ j h o. put-after s 0 (marking k (t .file)) j (omega arith)))
+  change-lean (gather n) e =
+      let t = gathers d first room new ss n e in
+      let s : List ℕ = t .file .bytes in
+      let z = holds-long d (t .slot) (t .file) (t .found .here) (sound-long d (disk-sound d first)) in
+      ⊎-elim (λ a. subst (λ (x : List ℕ). Lean (look x)) (sym (a .1)) lean)
+      (λ a.
+      let bs : List ℕ = upFrom (countOf s) (a .bit) in
+      subst Lean (sym (a .seen))
+      (lean-upd (look d) (t .slot) (some (gathered (t .file) bs)) lean
+      (λ f q.
+      subst (λ (f : File). LeanFile (f .bytes)) (Option·some-injective (gathered (t .file) bs) f q)
+      (lean-kept s (put s 13 (placed bs)) (kind-now (t .file) bs z)
+      (λ j h o. ⊎-elim (before (t .file) bs z j) (after (t .file) bs z j) o) (lean (t .slot) (t .file) (t .found .below) (t .found .here))))))
+      (t .done)
 
   -- the disk that an accepted change leaves
   pub change-released : (c : Change) → run c d room ≡ made new ss → checkRelease new ≡ none

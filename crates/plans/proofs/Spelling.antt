@@ -1,4 +1,4 @@
--- Each spelling of a name is erased, renamed and marked as every other, and as taken for a save.
+-- Each spelling of a name is erased, renamed, marked and gathered as every other, and as taken for a save.
 use Prim.Native.Nat.{ℕ}
 use mathlib.Core.Path.{_≡_, ap}
 use mathlib.Core.List.{List}
@@ -6,7 +6,7 @@ use Rattle.names.specs.Name.{Same}
 use Rattle.disk.specs.Look.{look, slotsOf}
 use Rattle.disk.specs.Check.{checkDisk}
 use Rattle.files.proofs.Spelling.{spelt-asked, spelt-found}
-use Rattle.plans.specs.Change.{Mark, Change, erase, rename, mark}
+use Rattle.plans.specs.Change.{Mark, Change, erase, rename, mark, gather}
 use Rattle.plans.specs.Plan.{Plan, takenAt, nameTaken, planOf, plan, settle, checked, run}
 
 -- on every disk, accepted or not, for every two spellings, usable or not: image, list, number answered or refusal
@@ -27,6 +27,10 @@ module _ (d m n : List ℕ) (e : Same m n) (room : ℕ) where
   pub spelt-mark : (k : Mark) → run (mark k m) d room ≡ run (mark k n) d room
   unfolding planOf
   spelt-mark k = planned (mark k m) (mark k n) (rw (spelt-asked d m n e, spelt-found d m n e))
+
+  pub spelt-gather : run (gather m) d room ≡ run (gather n) d room
+  unfolding planOf
+  spelt-gather = planned (gather m) (gather n) (rw (spelt-asked d m n e, spelt-found d m n e))
 
 -- 16 of a save
 pub spelt-taken : (d m n : List ℕ) → Same m n → nameTaken (slotsOf (look d)) m ≡ nameTaken (slotsOf (look d)) n

@@ -3,25 +3,29 @@ use Prim.Native.Nat.{ℕ}
 use mathlib.Core.Path.{_≡_, refl, sym, ap, _∙_}
 use mathlib.Core.Bool.{Bool, true, false, false≢true}
 use mathlib.Core.List.{List}
+use mathlib.Core.Logic.{⊎-elim}
 use mathlib.Core.Option.{none, some, Option·some-ne-none, Option·some-injective}
-use Rattle.slots.specs.Slot.{nameOf}
+use Rattle.slots.specs.Slot.{nameOf, countOf}
 use Rattle.names.specs.Name.{Same, askable, padded}
 use Rattle.names.proofs.Names.{same-eq, same-of, same-via}
 use Rattle.chains.specs.File.{File}
 use Rattle.directory.specs.Directory.{directory}
-use Rattle.disk.specs.Look.{look, slotsOf}
+use Rattle.disk.specs.Look.{look}
 use Rattle.disk.specs.Check.{checkDisk}
-use Rattle.plans.specs.Change.{Wish, Change, save, erase, rename, mark}
+use Rattle.plans.specs.Change.{Wish, Change, save, erase, rename, mark, gather}
+use Rattle.plans.specs.Gathering.{upFrom}
 use Rattle.plans.specs.Plan.{finds, made, run}
 use Rattle.plans.specs.Accepted.{Erases, Renames}
 use Rattle.plans.specs.After.{SameAnswers, Other, Unasked, marking}
 use Rattle.plans.proofs.Kept.{usable-is}
 use Rattle.plans.proofs.NewFile.{newFile, name-is}
 use Rattle.plans.proofs.Demand3.{change-accepted}
-use Rattle.plans.proofs.Effect.{erased, marked-so, renamed, erasing}
+use Rattle.plans.proofs.Moved.{gathered}
+use Rattle.plans.proofs.Effect.{erased, marked-so, renamed, erasing, gathers}
 use Rattle.plans.proofs.ReadBack.{stored}
 use Rattle.plans.proofs.Others.{Unnamed, others, unusable-same, other-slots, touched-slots, erase-others, mark-others, rename-others}
-use Rattle.plans.proofs.Finds.{finds-erase, finds-rename, finds-mark}
+use Rattle.plans.proofs.Gathered.{after-gather}
+use Rattle.plans.proofs.Finds.{finds-erase, finds-rename, finds-mark, finds-gather}
 
 module _ (d : List ℕ) (ok : checkDisk d ≡ none) (room : ℕ) (new ss : List ℕ) where
   save-others : (w : Wish) → run (save w) d room ≡ made new ss → (m : List ℕ) → (Same (padded m) (padded (w .name)) → ⊥) → SameAnswers new m d m
@@ -44,6 +48,7 @@ module _ (d : List ℕ) (ok : checkDisk d ≡ none) (room : ℕ) (new ss : List 
   others-stay (erase n) e m u = erase-others d ok room new ss n e m u
   others-stay (rename n to) e m u = rename-others d ok room new ss n to e m (u .0) (u .1)
   others-stay (mark k n) e m u = mark-others d ok room new ss k n e m u
+  others-stay (gather n) e m u = after-gather d n room new ss e .answers m
 
   unusable-stay : (c : Change) → run c d room ≡ made new ss → (m : List ℕ) → askable m ≡ false → SameAnswers new m d m
   unfolding checkDisk
@@ -73,3 +78,9 @@ module _ (d : List ℕ) (ok : checkDisk d ≡ none) (room : ℕ) (new ss : List 
   entries-stay (mark k n) e j f h x =
       touched-slots d n 0 (marking k) (λ i f. Unit {0}) new ss (marked-so d ok room new ss k n e) j
       (unfound j f n h (λ p. false≢true (sym x ∙ finds-mark k n f .1 p)))
+  entries-stay (gather n) e j f h x =
+      let t = gathers d ok room new ss n e in
+      ⊎-elim (λ a. ap (λ (x : List ℕ). directory x j) (a .1))
+      (λ a. other-slots d new (t .slot) (some (gathered (t .file) (upFrom (countOf (t .file .bytes)) (a .bit)))) (a .seen) j
+      (λ q. unfound j f n h (λ p. false≢true (sym x ∙ finds-gather n f .1 p)) (t .file) (ap (look d .files) q ∙ t .found .here) (t .found .name)))
+      (t .done)

@@ -1,31 +1,27 @@
 -- What an accepted save takes, the least number of sectors, the lowest free bits, the lowest free slot, and what it leaves, byte by byte.
 use Prim.Native.Nat.{ℕ, zero, suc, _+_, _*_, _/_, _%_, _≤_, _<_}
 use mathlib.Core.Path.{_≡_, refl, sym, ap, _∙_}
-use mathlib.Core.Bool.{Bool, true, false, cond, not, _&&_}
+use mathlib.Core.Bool.{Bool, true, false, cond, _&&_}
 use mathlib.Core.List.{List, [], _∷_, map}
 use mathlib.Core.Logic.{⊎-elim}
-use mathlib.Core.Option.{Option, none, some}
+use mathlib.Core.Option.{none, some}
 use native.Mathlib.Omega.{arith}
 use borrow.Author.Tests.{eqb-true, ne-eqb}
 use lib.Dec.{eqb}
 use lib.ListN.{length, getD, drop}
 use Rattle.buffers.specs.Bytes.{put}
 use Rattle.buffers.proofs.Lists.{part-at, put-in, put-before, put-after}
-use Rattle.buffers.proofs.Counts.{none-any}
 use Rattle.geometry.specs.Disk.{bitNumber, bitPlace}
-use Rattle.maps.specs.Bits.{has}
-use Rattle.slots.specs.Slot.{nameOf, mapOf}
+use Rattle.slots.specs.Slot.{nameOf}
 use Rattle.names.specs.Name.{padded}
 use Rattle.names.proofs.Names.{same-eq}
-use Rattle.slots.specs.Tracks.{isLabel, dataBit}
-use Rattle.slots.proofs.Tracks.{data-is}
+use Rattle.slots.specs.Tracks.{isLabel}
 use Rattle.slots.proofs.Least.{sectors-least}
 use Rattle.chains.specs.File.{File}
-use Rattle.directory.specs.Places.{slots, slotAt}
-use Rattle.directory.specs.Directory.{held, labelOf, tracksOf, slotsIn}
+use Rattle.directory.specs.Places.{slotAt}
+use Rattle.directory.specs.Directory.{labelOf, slotsIn}
 use Rattle.directory.proofs.Places.{slot-within, slots-apart}
 use Rattle.directory.proofs.Label.{slots-few}
-use Rattle.surveys.proofs.Union.{has-union}
 use Rattle.disk.specs.Look.{look, slotsOf, extra}
 use Rattle.disk.specs.Check.{checkDisk}
 use Rattle.disk.specs.Sound.{Sound}
@@ -37,15 +33,16 @@ use Rattle.steps.proofs.Steps.{goes-long, goes-other}
 use Rattle.plans.specs.Change.{Wish, save}
 use Rattle.plans.specs.Saving.{freeBit, stream, block, nextTrack, nextSector, slotByte}
 use Rattle.plans.specs.Plan.{dataSteps, oldName, noName, cleared, saveSteps, made, run}
-use Rattle.plans.specs.Accepted.{many, Unused, Takes}
+use Rattle.plans.specs.Accepted.{many, Takes}
 use Rattle.plans.specs.After.{Outside, AfterSave}
-use Rattle.plans.proofs.Frame.{slots-some, slot-file, disk-sound, upd-same, holds, holds-sector}
+use Rattle.plans.proofs.Frame.{disk-sound, upd-same, holds, holds-sector}
 use Rattle.plans.proofs.Kept.{sound-long, usable-is}
 use Rattle.plans.proofs.Ended.{reach-free}
-use Rattle.plans.proofs.Free.{From, run-listed, run-rises, free-data, free-is, taken-lowest, free-small}
+use Rattle.plans.proofs.Free.{From, run-listed, run-rises, free-data, free-unused, unused-free, taken-lowest, free-small}
 use Rattle.plans.proofs.NewFile.{newFile, length-slot, slot-byte, name-is, block-byte, block-track, block-sector, filled, sector-at}
 use Rattle.plans.proofs.Good.{own-bit, slot-names}
-use Rattle.plans.proofs.Saved.{data-numbers, data-goes, save-disk}
+use Rattle.plans.proofs.Laid.{data-numbers, laid-goes}
+use Rattle.plans.proofs.Saved.{save-disk}
 use Rattle.plans.proofs.Demand3.{run-room}
 use Rattle.plans.proofs.ReadBack.{Stored, stored}
 use Rattle.plans.proofs.Exactly.{first-empty}
@@ -59,21 +56,6 @@ label-at d k h e = rw e (part-at (slotAt 0) 256 d k h)
 pub unlisted : (s : ℕ) (bs : List ℕ) → ((j : ℕ) → j < length bs → s ≡ bitNumber (getD bs j 0) → ⊥) → listed s (map bitNumber bs) ≡ false
 unlisted s [] h = refl
 unlisted s (b ∷ bs) h = rw (ne-eqb s (bitNumber b) (h 0 (omega arith))) (unlisted s bs (λ j (q : j < length bs). h (suc j) (omega arith)))
-
-unused-free : (d : List ℕ) (b : ℕ) → dataBit (tracksOf d) b ≡ true → Unused d b → freeBit (extra (look d)) (slotsOf (look d)) b ≡ true
-unused-free d b h u =
-    rw (look-extra d, h)
-    (ap not
-    (has-union (slotsOf (look d)) slots b (data-is (tracksOf d) b h .0)
-    ∙ none-any slots (λ i. held false (λ s. has (mapOf s) b) (slotsOf (look d) i)) (λ i m. by i (slotsOf (look d) i) refl)))
-  where
-    at : (s : List ℕ) (i : ℕ) (f : File) → look d .files i ≡ some f → f .bytes ≡ s → (t : Bool) → has (mapOf s) b ≡ t → t ≡ false
-    at s i f p q true w = absurd (u i f p (ap (λ (x : List ℕ). has (mapOf x) b) q ∙ w))
-    at s i f p q false w = refl
-
-    by : (i : ℕ) (o : Option (List ℕ)) → slotsOf (look d) i ≡ o → held false (λ s. has (mapOf s) b) o ≡ false
-    by i none q = refl
-    by i (some s) q = let g = slot-file (look d) i s q in at s i (g .0) (g .1) (g .2) (has (mapOf s) b) refl
 
 module _ (d : List ℕ) (w : Wish) (room : ℕ) (new ss : List ℕ) (e : run (save w) d room ≡ made new ss) where
   ok : checkDisk d ≡ none
@@ -95,8 +77,7 @@ module _ (d : List ℕ) (w : Wish) (room : ℕ) (new ss : List ℕ) (e : run (sa
     bits = k .bits;
     long = k .ready .long;
     data-bits = λ b m. rw (← look-extra d) (free-data (extra (look d)) (slotsOf (look d)) b (taken-from b m .passes));
-    unused = λ b m j f g.
-        free-is (extra (look d)) (slotsOf (look d)) b (taken-from b m .passes) j (f .bytes) (holds d j f g .here) (slots-some (look d) j f g);
+    unused = λ b m. free-unused d b (taken-from b m .passes);
     rises = run-rises free 0 (k .bits) (k .ready .run);
     lowest = λ b c m h x u.
         rw (k .takes) (taken-lowest (extra (look d)) (slotsOf (look d)) w b c (rw (k .takes) at m) h (unused-free d c x u));
@@ -200,7 +181,7 @@ module _ (d : List ℕ) (w : Wish) (room : ℕ) (new ss : List ℕ) (e : run (sa
       ∙ clean-else m (oldName d (k .slot)) refl c ∙ sym (at-sector mid m) ∙ ap (λ (s : List ℕ). getD s (m % 512) 0) (data-other m (apart m h)) ∙ at-sector d m
     where
       data-other : (m : ℕ) → listed (m / 512) (numbers (dataSteps (stream w) 0 (k .bits))) ≡ false → sector mid (m / 512) ≡ sector d (m / 512)
-      data-other m q = goes-other look Sound (dataSteps (stream w) 0 (k .bits)) d (data-goes d (disk-sound d ok) (k .slot) (k .lowest) w (k .bits) (k .ready)) (m / 512) q
+      data-other m q = goes-other look Sound (dataSteps (stream w) 0 (k .bits)) d (laid-goes d (disk-sound d ok) (stream w) (k .bits) (k .ready .run)) (m / 512) q
 
   pub after-save : AfterSave d w new ss
   unfolding save-takes

@@ -6,7 +6,7 @@ use mathlib.Core.Bool.{Bool, true, false, cond, not, _&&_, true≢false}
 use mathlib.Core.List.{List, [], _∷_, _++_, append-assoc, map}
 use mathlib.Core.Logic.{_⊎_, inl, inr, ⊎-elim}
 use mathlib.Core.Option.{none, some}
-use native.Mathlib.Nat.{eq-or-lt-of-le}
+use native.Mathlib.Nat.{eq-or-lt-of-le, not-suc-le-zero}
 use native.Mathlib.Omega.{arith}
 use borrow.Author.Tests.{ltb-true, ltb-false, eqb-true, eqb-false, ne-eqb, not-true}
 use lib.Dec.{eqb, ltb}
@@ -15,31 +15,38 @@ use Rattle.buffers.specs.Bytes.{part}
 use Rattle.buffers.proofs.Lists.{below-or-not}
 use Rattle.buffers.proofs.Tests.{and-both}
 use Rattle.geometry.specs.Disk.{bitNumber}
+use Rattle.slots.specs.Slot.{countOf}
 use Rattle.names.specs.Name.{padded}
 use Rattle.chains.specs.File.{File}
 use Rattle.directory.specs.Places.{slotCount, slotBytes, dirSector}
 use Rattle.directory.specs.Directory.{labelOf, tracksOf, slotsIn, isSlot, nameless, endOf, slotsRead, seen}
 use Rattle.directory.proofs.Places.{dir-not-data}
 use Rattle.directory.proofs.Label.{tracks-few, tracks-agree}
-use Rattle.directory.proofs.Ends.{end-some, some-end, none-end, read-in, read-seen, unread, unseen-read, seen-is, unseen-later, unseen-past, unseen-nameless, seen-next, unread-kept}
+use Rattle.directory.proofs.Ends.{end-some, some-end, none-end, read-in, read-seen, unseen-read, seen-is, unseen-later, unseen-past, unseen-nameless, seen-next, unread-kept}
 use Rattle.disk.specs.Look.{look, slotsOf, extra}
 use Rattle.disk.specs.Check.{checkDisk}
 use Rattle.disk.proofs.Look.{look-extra}
-use Rattle.steps.specs.Sectors.{sector, listed, cut}
+use Rattle.steps.specs.Sectors.{listed, cut}
 use Rattle.steps.proofs.Sectors.{listed-append, listed-before, cut-old}
-use Rattle.plans.specs.Change.{Wish, Change, save, erase, rename, mark}
+use Rattle.plans.specs.Change.{Wish, Change, save, erase, rename, mark, gather}
+use Rattle.plans.specs.Gathering.{upFrom}
 use Rattle.plans.specs.Saving.{freeBit}
-use Rattle.plans.specs.Plan.{oldName, together, dirSectors, made, run}
+use Rattle.plans.specs.Plan.{oldName, together, dirSectors, made, run, finds}
+use Rattle.plans.specs.Safe.{Safe}
 use Rattle.plans.specs.Accepted.{FirstEmpty}
 use Rattle.plans.specs.After.{marking}
+use Rattle.plans.specs.Gathered.{runSectors}
 use Rattle.plans.specs.Unread.{Writes, Unread, endBehind}
 use Rattle.plans.proofs.Frame.{disk-sound, upd-same, upd-other, holds, slot-half, slot-else}
 use Rattle.plans.proofs.Kept.{sound-long, usable-is}
-use Rattle.plans.proofs.Free.{run-at}
+use Rattle.plans.proofs.Free.{Run, run-at, free-data}
+use Rattle.plans.proofs.Runs.{up-long, free-rises}
 use Rattle.plans.proofs.Ended.{free-there, reach-free}
 use Rattle.plans.proofs.Saved.{save-slots, save-next}
 use Rattle.plans.proofs.NewFile.{newFile}
-use Rattle.plans.proofs.Effect.{Touched, erasing, erased, marked-so, renamed}
+use Rattle.plans.proofs.Moved.{gather-slots}
+use Rattle.plans.proofs.Sure.{not-directory}
+use Rattle.plans.proofs.Effect.{Touched, erasing, erased, marked-so, renamed, Shifted, Gathers, gathers}
 use Rattle.plans.proofs.Demand3.{crash, run-room}
 use Rattle.plans.proofs.ReadBack.{Stored, stored}
 use Rattle.plans.proofs.Exactly.{first-empty, first-one}
@@ -93,6 +100,49 @@ touch-unread c d n o y Also new ss ok whole label t k w =
     ap (λ (x : List ℕ). slotBytes x (slotsRead d)) (t .disk)
     ∙ slot-else d (sound-long d (disk-sound d ok)) (t .slot) (omega (arith, r, read-in d)) o (y (t .file)) k (slotsRead d) (omega arith)) j q)
     (λ j. inr (w j))
+
+-- the sectors of free bits are none of the directory's
+data-unlisted : (d bs : List ℕ) → Run (freeBit (extra (look d)) (slotsOf (look d))) 0 bs → (i : ℕ) → i < slotsIn d → listed (dirSector i) (map bitNumber bs) ≡ false
+data-unlisted d bs r i l =
+    unlisted (dirSector i) bs
+    (λ j h q.
+    dir-not-data (tracksOf d) (getD bs j 0) i (tracks-few d)
+    (rw (← look-extra d)
+    (free-data (extra (look d)) (slotsOf (look d)) (getD bs j 0) (run-at (freeBit (extra (look d)) (slotsOf (look d))) 0 bs r j h .passes))) l (sym q))
+
+-- ---- a gather
+
+gather-unread : (d n : List ℕ) (room : ℕ) (new ss : List ℕ) → checkDisk d ≡ none → run (gather n) d room ≡ made new ss → Unread (gather n) d new ss
+gather-unread d n room new ss ok e =
+    unread-of (gather n) d new ss (s .whole) (λ k h l. ⊎-elim (λ a. none-early k h (a .2)) (λ a. early a k h l) (t .done)) (s .label)
+    (λ j q z. ⊎-elim (λ a. ap (λ (x : List ℕ). seen x j) (a .1) ∙ q) (λ a. after a j q) (t .done)) (λ j. inr (λ x. x))
+  where
+    s : Safe (finds (gather n)) d new ss
+    s = crash (gather n) d room new ss ok e
+
+    t : Gathers d n new ss
+    t = gathers d ok room new ss n e
+
+    none-early : (k : ℕ) → k < length ss → ss ≡ [] → listed (dirSector (slotsRead d)) (take k ss) ≡ false
+    none-early k h q = absurd (not-suc-le-zero (subst (λ (x : List ℕ). k < length x) q h))
+
+    rises : (a : Shifted d (t .slot) (t .file) new ss) → Run (freeBit (extra (look d)) (slotsOf (look d))) 0 (upFrom (countOf (t .file .bytes)) (a .bit))
+    rises a = free-rises d (countOf (t .file .bytes)) (a .bit) (a .lowest .here)
+
+    early : Shifted d (t .slot) (t .file) new ss → (k : ℕ) → k < length ss → slotsRead d < slotsIn d → listed (dirSector (slotsRead d)) (take k ss) ≡ false
+    early a k h l =
+        subst (λ (xs : List ℕ). k < length xs → listed (dirSector (slotsRead d)) (take k xs) ≡ false) (sym (a .sectors))
+        (λ q. cut-last (runSectors (countOf (t .file .bytes)) (a .bit)) (dirSector (t .slot)) k (dirSector (slotsRead d)) q
+        (data-unlisted d (upFrom (countOf (t .file .bytes)) (a .bit)) (rises a) (slotsRead d) l)) h
+
+    after : Shifted d (t .slot) (t .file) new ss → (j : ℕ) → seen d j ≡ false → seen new j ≡ false
+    after a =
+        unread-kept d new (tracks-agree d new (sym (ap labelOf (s .whole)) ∙ s .label (length ss) (omega arith)))
+        (λ l.
+        let r = read-seen d (t .slot) (holds d (t .slot) (t .file) (t .found .here) .read) in
+        ap (λ (x : List ℕ). slotBytes x (slotsRead d)) (a .disk)
+        ∙ gather-slots d (disk-sound d ok) (t .slot) (t .file) (t .found .here) (not-directory (t .file .bytes) (t .no-directory))
+        (upFrom (countOf (t .file .bytes)) (a .bit)) (rises a) (up-long (countOf (t .file .bytes)) (a .bit)) (slotsRead d) l (omega arith))
 
 -- ---- a save
 
@@ -151,13 +201,6 @@ module _ (d : List ℕ) (ok : checkDisk d ≡ none) (room : ℕ) (w : Wish) (new
           ∙ save-slots d (disk-sound d ok) i (k .lowest) w (k .bits) (k .ready) (slotsRead d) l (omega arith)
           (λ o. absurd (true≢false (sym (reach-free d i (k .lowest) .end o .0) ∙ n)))) j q
 
-  data-unlisted : slotsRead d < slotsIn d → listed (dirSector (slotsRead d)) (map bitNumber (k .bits)) ≡ false
-  data-unlisted l =
-      unlisted (dirSector (slotsRead d)) (k .bits)
-      (λ j h q.
-      dir-not-data (tracksOf d) (getD (k .bits) j 0) (slotsRead d) (tracks-few d)
-      (rw (← look-extra d) (k .ready .inside (getD (k .bits) j 0) (run-at (freeBit (extra (look d)) (slotsOf (look d))) 0 (k .bits) (k .ready .run) j h .passes))) l (sym q))
-
   early : (m : ℕ) → m < length ss → slotsRead d < slotsIn d → listed (dirSector (slotsRead d)) (take m ss) ≡ false
   unfolding dirSectors together
   early m h l = subst (λ (xs : List ℕ). m < length xs → listed (dirSector (slotsRead d)) (take m xs) ≡ false) (sym (k .sectors)) (by (oldName d i && not (together i)) refl) h
@@ -171,14 +214,14 @@ module _ (d : List ℕ) (ok : checkDisk d ≡ none) (room : ℕ) (w : Wish) (new
           let z = is-end (reach-free d i (k .lowest) .end (b .0) .0) in
           let n = eqb-false (dirSector (suc i)) (dirSector i) (not-true (eqb (dirSector (suc i)) (dirSector i)) (b .1)) in
           listed-append (dirSector (slotsRead d)) xs (dirSector (suc i) ∷ [])
-          ∙ rw (data-unlisted l, ne-eqb (dirSector (slotsRead d)) (dirSector (suc i)) (λ e. n (sym e ∙ ap dirSector z)))
+          ∙ rw (data-unlisted d (k .bits) (k .ready .run) (slotsRead d) l, ne-eqb (dirSector (slotsRead d)) (dirSector (suc i)) (λ e. n (sym e ∙ ap dirSector z)))
 
       by : (t : Bool) → (oldName d i && not (together i)) ≡ t → m < length (xs ++ cond t (dirSector (suc i) ∷ dirSector i ∷ []) (dirSector i ∷ []))
           → listed (dirSector (slotsRead d)) (take m (xs ++ cond t (dirSector (suc i) ∷ dirSector i ∷ []) (dirSector i ∷ []))) ≡ false
       by true q =
           subst (λ (ys : List ℕ). m < length ys → listed (dirSector (slotsRead d)) (take m ys) ≡ false) (append-assoc xs (dirSector (suc i) ∷ []) (dirSector i ∷ []))
           (λ h. cut-last (xs ++ (dirSector (suc i) ∷ [])) (dirSector i) m (dirSector (slotsRead d)) h (apart q))
-      by false q = λ h. cut-last xs (dirSector i) m (dirSector (slotsRead d)) h (data-unlisted l)
+      by false q = λ h. cut-last xs (dirSector i) m (dirSector (slotsRead d)) h (data-unlisted d (k .bits) (k .ready .run) (slotsRead d) l)
 
   save-unread : Unread (save w) d new ss
   save-unread = let s = crash (save w) d room new ss ok e in unread-of (save w) d new ss (s .whole) early (s .label) after written
@@ -230,6 +273,7 @@ unread-stays (rename n to) d room new ss ok e =
 unread-stays (mark m n) d room new ss ok e =
     let t = marked-so d ok room new ss m n e in
     touch-unread (mark m n) d n 0 (marking m) _ new ss ok (crash (mark m n) d room new ss ok e .whole) (crash (mark m n) d room new ss ok e .label) t (omega arith) (λ j x. x)
+unread-stays (gather n) d room new ss ok e = gather-unread d n room new ss ok e
 
 -- after a save that took the end the directory ends right behind the new file, or has no end where that is the last slot
 pub ends-behind : (d : List ℕ) (room : ℕ) (w : Wish) (new ss : List ℕ) → run (save w) d room ≡ made new ss → (i : ℕ) → FirstEmpty d i → endOf d ≡ some i

@@ -21,7 +21,7 @@ use Rattle.directory.specs.Directory.{tracksOf, directory}
 use Rattle.surveys.specs.Survey.{free}
 use Rattle.disk.specs.Look.{look}
 use Rattle.files.specs.Calls.{reading, starting}
-use Rattle.plans.specs.Change.{Wish, Mark, hide, show, protect, release, Change, save, erase, rename, mark, marked}
+use Rattle.plans.specs.Change.{Wish, Mark, hide, show, protect, release, Change, save, erase, rename, mark, gather, marked}
 use Rattle.plans.specs.Saving.{freeBit, stream, nextTrack, nextSector, slotByte}
 use Rattle.plans.specs.Plan.{oldName}
 use Rattle.plans.specs.Accepted.{Named, many, Takes}
@@ -38,6 +38,7 @@ Other (save w) m = Same (padded m) (padded (w .name)) → ⊥
 Other (erase n) m = Same (padded m) (padded n) → ⊥
 Other (rename n to) m = (Same (padded m) (padded n) → ⊥) × (Same (padded m) (padded to) → ⊥)
 Other (mark k n) m = Same (padded m) (padded n) → ⊥
+Other (gather n) m = Same (padded m) (padded n) → ⊥
 
 -- every name but those the change names: one that cannot be asked for is none of them, however it is spelt
 abbrev pub Unasked : Change → List ℕ → Type 0

@@ -1,4 +1,4 @@
--- The changes that can be asked for. The words of document 01 stand above what they define.
+-- The changes that can be asked for. The words of documents 01 and 02 stand above what they define.
 use Prim.Native.Nat.{ℕ, _+_, _*_, _/_, _%_}
 use mathlib.Core.Bool.{Bool, true, not, _&&_}
 use mathlib.Core.List.{List, [], _∷_}
@@ -24,6 +24,8 @@ pub data Change : Type 0 where
   erase : List ℕ → Change
   rename : List ℕ → List ℕ → Change
   mark : Mark → List ℕ → Change
+  -- "Gather a scattered file."
+  gather : List ℕ → Change
 
 -- "Hide, show, protect, release set or clear one bit": of byte 0, bit 7 is hidden, bit 6 protected
 abbrev pub marked : Mark → ℕ → ℕ

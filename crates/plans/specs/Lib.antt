@@ -1,9 +1,11 @@
 pub mod Change
 pub mod Saving
+pub mod Gathering
 pub mod Plan
 pub mod Safe
 pub mod Refused
 pub mod Accepted
 pub mod After
+pub mod Gathered
 pub mod Unread
 pub mod Spectrum

@@ -1,4 +1,4 @@
--- What each change refuses, and which steps it makes. The words of document 01 stand above what they define.
+-- What each change refuses, and which steps it makes. The words of documents 01 and 02 stand above what they define.
 use Prim.Native.Nat.{ℕ, suc, _+_}
 use mathlib.Core.Bool.{Bool, true, false, cond, not, _&&_}
 use mathlib.Core.List.{List, [], _∷_, _++_}
@@ -9,7 +9,7 @@ use Rattle.buffers.specs.Bytes.{put}
 use Rattle.geometry.specs.Disk.{bitNumber, bitPlace}
 use Rattle.refusals.specs.Order.{Refusal, refuse, Reply, _else_, row}
 use Rattle.refusals.specs.Answers.{Outcome, done, refused}
-use Rattle.slots.specs.Slot.{isLive, protected, carried, nameOf, sectorsFor}
+use Rattle.slots.specs.Slot.{isLive, protected, carried, isDirectory, nameOf, countOf, sectorsFor}
 use Rattle.names.specs.Name.{sameBytes, sameName, askable, padded}
 use Rattle.chains.specs.File.{File}
 use Rattle.directory.specs.Places.{slotAt, dirSector}
@@ -21,8 +21,9 @@ use Rattle.disk.specs.Check.{checkDisk}
 use Rattle.files.specs.Calls.{fileAt}
 use Rattle.steps.specs.Steps.{Put, Step, enact, numbers}
 use Rattle.trees.specs.Tree.{occupied}
-use Rattle.plans.specs.Change.{Wish, Change, save, erase, rename, mark, marked, between, usable}
+use Rattle.plans.specs.Change.{Wish, Change, save, erase, rename, mark, gather, marked, between, usable}
 use Rattle.plans.specs.Saving.{taken, lowestSlot, slotTaken, stream, block, nextTrack, nextSector, chained, newSlot}
+use Rattle.plans.specs.Gathering.{scattered, upFrom, lowestRun, payloadOf, placed}
 
 -- ---- steps
 
@@ -100,6 +101,11 @@ slotSteps old l i s sec = endSteps old i ++ (endStep old l i 0 s (entryOf s sec)
 abbrev pub saveSteps : Bool → Look → ℕ → Wish → List ℕ → List (Step Look)
 saveSteps old l i w bs = dataSteps (stream w) 0 bs ++ slotSteps old l i (newSlot (l .label) i w bs) (chained (stream w) 0 bs)
 
+-- "all its payload bytes in their order, .. chained rising", "Data first in chain order, slot sector last, so demand 3 holds."
+abbrev pub gatherSteps : Look → ℕ → File → List ℕ → List (Step Look)
+gatherSteps l i f bs =
+    dataSteps (payloadOf f) 0 bs ++ (slotStep l i 13 (placed bs) (entryOf (put (f .bytes) 13 (placed bs)) (chained (payloadOf f) 0 bs)) ∷ [])
+
 -- ---- what is refused, and what is done
 
 pub data Plan : Type 0 where
@@ -148,6 +154,13 @@ saveReply n v w =
     else row 14 0 (not (leb (w .page) 31 && between 32768 (w .offset) 49151)) else nameTaken v (w .name)
     else row 18 0 (held true (λ i. false) (lowestSlot n v)) else row 19 0 (ltb (free n v) (sectorsFor (length (w .body))))
 
+-- where the file in slot i goes: "32 (slot 0), exactly when the file must move and no such run exists", "left, with an empty list" when not
+unfoldable pub movePlan : Look → ℕ → File → Plan
+movePlan l i f =
+    cond (scattered f)
+    (held (no (refuse 32 0)) (λ b. go (gatherSteps l i f (upFrom (countOf (f .bytes)) b))) (lowestRun (extra l) (slotsOf l) (countOf (f .bytes))))
+    (go [])
+
 -- old: whether an old name stands behind slot i
 unfoldable pub planOf : (ℕ → Bool) → Change → Look → Plan
 -- "Erase sets byte 0 to 0 and changes no other byte."
@@ -161,6 +174,9 @@ planOf old (rename n new) l =
 -- "Hide, show, protect, release set or clear one bit; where it is so already the call is accepted."
 planOf old (mark m n) l =
     orNo (row 12 0 (not (askable n))) (byName l n (λ i f. go (touch l i f 0 (marked m (getD (f .bytes) 0 0) ∷ []))))
+-- "A kind 21 is refused 13."
+planOf old (gather n) l =
+    orNo (row 12 0 (not (askable n))) (byName l n (λ i f. orNo (row 13 (suc i) (isDirectory (f .bytes))) (movePlan l i f)))
 planOf old (save w) l =
     orNo (saveReply (extra l) (slotsOf l) w)
     (go (saveSteps (old (slotTaken (extra l) (slotsOf l))) l (slotTaken (extra l) (slotsOf l)) w (taken (extra l) (slotsOf l) w)))
@@ -210,4 +226,5 @@ unfoldable pub finds : Change → File → Bool
 finds (erase n) f = sameName (nameOf (f .bytes)) (padded n)
 finds (rename n new) f = sameName (nameOf (f .bytes)) (padded n)
 finds (mark m n) f = sameName (nameOf (f .bytes)) (padded n)
+finds (gather n) f = sameName (nameOf (f .bytes)) (padded n)
 finds (save w) f = false

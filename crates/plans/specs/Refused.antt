@@ -1,15 +1,17 @@
 -- When a change is refused: "A number is given when its row holds and nothing before it in the order does, and only then."
 use Prim.Native.Nat.{ℕ, _+_}
-use mathlib.Core.Bool.{Bool, true, false, not, _&&_}
+use mathlib.Core.Bool.{Bool, true, false, cond, not, _&&_}
 use mathlib.Core.List.{List, [], _∷_}
+use mathlib.Core.Logic.{_⊎_}
 use mathlib.Core.Option.{none}
 use mathlib.Core.Path.{_≡_}
 use lib.Dec.{ltb}
 use lib.ListN.{length}
 use Rattle.buffers.specs.Bytes.{any}
 use Rattle.refusals.specs.Order.{Refusal, SlotRow, rowAt, NoRow}
-use Rattle.slots.specs.Slot.{protected, carried, sectorsFor}
+use Rattle.slots.specs.Slot.{protected, carried, isDirectory, countOf, sectorsFor}
 use Rattle.names.specs.Name.{askable}
+use Rattle.chains.specs.File.{File}
 use Rattle.directory.specs.Places.{slotCount}
 use Rattle.directory.specs.Directory.{held}
 use Rattle.directory.specs.Find.{find}
@@ -17,10 +19,11 @@ use Rattle.surveys.specs.Survey.{free}
 use Rattle.disk.specs.Look.{Look, look, slotsOf, extra}
 use Rattle.disk.specs.Check.{checkDisk}
 use Rattle.files.specs.Calls.{fileNamed}
-use Rattle.files.specs.Asked.{someNamed, slotNamed, startOutside, row12, row15, row20, RefusesBy}
+use Rattle.files.specs.Asked.{someNamed, slotNamed, startOutside, row12, row15, row20, rowFound, RefusesBy}
 use Rattle.trees.specs.Tree.{occupied}
-use Rattle.plans.specs.Change.{Wish, Change, save, erase, rename, mark, usable}
+use Rattle.plans.specs.Change.{Wish, Change, save, erase, rename, mark, gather, usable}
 use Rattle.plans.specs.Saving.{slotTaken}
+use Rattle.plans.specs.Gathering.{scattered, lowestRun}
 use Rattle.plans.specs.Plan.{oldName, dirSectors, respells, made, run}
 
 -- ---- the tests
@@ -67,6 +70,18 @@ row19 l w = rowAt 19 0 (ltb (free (extra l) (slotsOf l)) (sectorsFor (length (w 
 unfoldable pub listLong : (ℕ → Bool) → Look → Wish → ℕ
 listLong old l w = sectorsFor (length (w .body)) + length (dirSectors (old (slotTaken (extra l) (slotsOf l))) (slotTaken (extra l) (slotsOf l)))
 
+-- "A kind 21 is refused 13", at the slot found
+abbrev pub gatherRow13 : Look → List ℕ → SlotRow
+gatherRow13 l n = rowFound 13 l n isDirectory
+
+-- "32 (slot 0), exactly when the file must move and no such run exists, after 19"
+abbrev pub row32 : Look → File → SlotRow
+row32 l f = rowAt 32 0 (scattered f && held true (λ b. false) (lowestRun (extra l) (slotsOf l) (countOf (f .bytes))))
+
+-- how many numbers a gather names
+unfoldable pub gatherLong : File → ℕ
+gatherLong f = cond (scattered f) (countOf (f .bytes) + 1) 0
+
 -- "then the lowest that applies of 12 to 20", and "29 .., after 17": the rows of each change, with a list of so many numbers; old:
 -- whether an old name stands behind slot i
 unfoldable pub changeRows : (ℕ → Bool) → Change → Look → ℕ → List SlotRow
@@ -75,13 +90,19 @@ changeRows old (save w) l room =
 changeRows old (erase n) l room = row12 (askable n) ∷ row15 l n ∷ row17 l n ∷ row29 l n ∷ row20 room 1 ∷ []
 changeRows old (rename n new) l room = row12 (askable n && usable new) ∷ row15 l n ∷ renameRow16 l n new ∷ row17 l n ∷ row20 room 1 ∷ []
 changeRows old (mark m n) l room = row12 (askable n) ∷ row15 l n ∷ row20 room 1 ∷ []
+changeRows old (gather n) l room = row12 (askable n) ∷ gatherRow13 l n ∷ row15 l n ∷ row32 l (fileNamed l n) ∷ row20 room (gatherLong (fileNamed l n)) ∷ []
 
--- the same in the order of their numbers: 29 stands before 20
+-- the numbers above 20 that stand before it: "29 .., after 17" and "32 .., after 19"
+abbrev pub Ahead : ℕ → Type 0
+Ahead k = (k ≡ 29) ⊎ (k ≡ 32)
+
+-- the same in the order of their numbers
 unfoldable pub byNumber : (ℕ → Bool) → Change → Look → ℕ → List SlotRow
 byNumber old (save w) l room = changeRows old (save w) l room
 byNumber old (erase n) l room = row12 (askable n) ∷ row15 l n ∷ row17 l n ∷ row20 room 1 ∷ row29 l n ∷ []
 byNumber old (rename n new) l room = changeRows old (rename n new) l room
 byNumber old (mark m n) l room = changeRows old (mark m n) l room
+byNumber old (gather n) l room = row12 (askable n) ∷ gatherRow13 l n ∷ row15 l n ∷ row20 room (gatherLong (fileNamed l n)) ∷ row32 l (fileNamed l n) ∷ []
 
 -- ---- refused, and accepted
 

@@ -9,7 +9,7 @@ use Rattle.chains.specs.File.{File}
 use Rattle.directory.specs.Directory.{isSlot, seen}
 use Rattle.disk.specs.Look.{look}
 use Rattle.steps.specs.Sectors.{cut}
-use Rattle.plans.specs.Change.{Change, save, erase, rename, mark}
+use Rattle.plans.specs.Change.{Change, save, erase, rename, mark, gather}
 use Rattle.plans.specs.Accepted.{FirstEmpty}
 
 -- slot j is the one that a save writes
@@ -18,6 +18,7 @@ Writes (save w) d j = FirstEmpty d j
 Writes (erase n) d j = ⊥
 Writes (rename n to) d j = ⊥
 Writes (mark k n) d j = ⊥
+Writes (gather n) d j = ⊥
 
 -- "that slot .. and all later ones are unread .. none of them is a live slot, also in demand 3": whichever number of the sectors
 -- named is written

@@ -37,6 +37,7 @@ pub enum Reason {
     InsideItself,
     DirectoryNotEmpty,
     ReportFull,
+    NoFreeRun,
 }
 
 // A refusal: its reason, and the slot (from 1) it was found at, or 0.
@@ -92,6 +93,7 @@ pub fn number_of(reason: Reason) -> usize
         Reason::InsideItself => 28,
         Reason::DirectoryNotEmpty => 29,
         Reason::ReportFull => 31,
+        Reason::NoFreeRun => 32,
     }
 }
 

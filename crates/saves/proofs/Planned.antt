@@ -34,7 +34,7 @@ use Rattle.plans.specs.Plan.{no, go, orNo, nameTaken, saveReply, planOf, plan, 
 use Rattle.plans.proofs.Frame.{disk-sound}
 use Rattle.plans.proofs.Free.{taken-run, taken-long, run-at, lowest-slot}
 use Rattle.plans.proofs.Ended.{old-is}
-use Rattle.plans.proofs.Refused.{save-long}
+use Rattle.plans.proofs.Saved.{save-long}
 use Rattle.plans.proofs.Sure.{save-tested}
 use Rattle.changes.specs.Settled.{Made}
 use Rattle.changes.proofs.Laws.{change-planned, settled-no, settled-short, settled-done}

@@ -18,8 +18,7 @@ use Rattle.plans.specs.Change.{Wish}
 use Rattle.plans.specs.Saving.{stream, chained, slotByte, newSlot}
 use Rattle.plans.specs.Plan.{entryOf, dataSteps, cleared, dirSectors, slotSteps, saveSteps}
 use Rattle.plans.proofs.Ended.{end-enact}
-use Rattle.plans.proofs.Saved.{save-numbers}
-use Rattle.plans.proofs.Refused.{save-long}
+use Rattle.plans.proofs.Saved.{save-numbers, save-long}
 use Rattle.changes.specs.Settled.{Made}
 use Rattle.taking.specs.declared.Start.{Start}
 use Rattle.taking.specs.Taken.{lowest}

@@ -1,6 +1,6 @@
 -- Directory tracks beyond four: how many there can be, which map bits are data, and how many those are.
 use Prim.Native.Nat.{ℕ, zero, suc, _+_, _-_, _*_, _/_, _%_, _^_, _≤_, _<_, min}
-use native.Mathlib.Nat.{zero-div}
+use native.Mathlib.Nat.{zero-div, div-eq-of-lt, pow-suc}
 use native.Mathlib.Numerals.{add-one}
 use mathlib.Core.Path.{_≡_, refl, sym, ap, _∙_}
 use mathlib.Core.Bool.{Bool, true, false, cond, not, _&&_, _||_, and-eq-true-iff, and-false, true≢false}
@@ -9,13 +9,14 @@ use mathlib.Core.Logic.{_⊎_, inl, inr, ⊎-elim}
 use native.Mathlib.Omega.{arith}
 use borrow.Author.Tests.{ltb-true, ltb-false, lt-ltb, le-ltb, not-true, leb-true, le-leb, lt-leb, eqb-true, eqb-false, eq-eqb, ne-eqb}
 use lib.Dec.{eqb, leb, ltb}
+use lib.Pow.{pow-pos}
 use lib.ListN.{length, getD, length-replicate}
-use Rattle.buffers.specs.Bytes.{count, any}
-use Rattle.buffers.proofs.Lists.{below-or-not}
+use Rattle.buffers.specs.Bytes.{count, any, word, wordOr}
+use Rattle.buffers.proofs.Lists.{below-or-not, word-there}
 use Rattle.buffers.proofs.Counts.{count-add, count-all, count-none, any-none, none-any, none-count, any-some}
 use Rattle.maps.specs.Bits.{has, clear, marked, bitsOf}
 use Rattle.maps.proofs.Laws.{has-clear, length-marked, has-marked}
-use Rattle.slots.specs.Tracks.{isLabel, tracksBy, badTracks, dataCount, dataBit, inDirectory, clearAt, innerTo, innerMap}
+use Rattle.slots.specs.Tracks.{isLabel, tracksBy, badTracks, dataCount, dataBit, inDirectory, clearAt, pastFirst, innerTo, innerMap}
 
 pub tracks-few : (b : ℕ) → tracksBy b ≤ 35
 unfolding tracksBy
@@ -145,17 +146,69 @@ none-to m c h l = absurd (omega arith)
 pub none-more : (m : List ℕ) (b : ℕ) → NoneTo m b → has m b ≡ false → NoneTo m (b + 1)
 none-more m b w e c h l = ⊎-elim (λ k. w c h k) (λ (k : b ≤ c). let z : c ≡ b = omega arith in ap (has m) z ∙ e) (below-or-not c b)
 
--- the bits of a byte that is clear
-pub none-byte : (m : List ℕ) (b : ℕ) → NoneTo m b → clearAt m b ≡ true → NoneTo m (b + 8)
-unfolding clearAt has
-none-byte m b w e c h l =
-    let q = and-eq-true-iff (eqb (b % 8) 0) (eqb (getD m (b / 8) 0) 0) .0 e in
+-- a bit of a byte that is 0, and one but the first of a byte that is 0 or 1
+zero-bit : (m : List ℕ) (c : ℕ) → getD m (c / 8) 0 ≡ 0 → has m c ≡ false
+unfolding has
+zero-bit m c e = ap (λ (x : ℕ). eqb (x / 2 ^ (c % 8) % 2) 1) e ∙ ap (λ (x : ℕ). eqb (x % 2) 1) (zero-div (2 ^ (c % 8)))
+
+low-bit : (m : List ℕ) (c : ℕ) → 1 ≤ c → c < 8 → getD m 0 0 ≤ 1 → has m c ≡ false
+unfolding has
+low-bit m zero h l e = absurd (omega arith)
+low-bit m (suc c) h l e =
+    let q : suc c / 8 ≡ 0 = omega arith in
+    let r : suc c % 8 ≡ suc c = omega arith in
+    let p : 1 < 2 ^ suc c = rw pow-suc (omega (arith, pow-pos c)) in
+    let d : getD m 0 0 < 2 ^ suc c = omega arith in
+    rw (q, r, div-eq-of-lt d)
+
+-- the bytes of a word that is 0
+zero-bytes : (m : List ℕ) (i k j t : ℕ) → word k m i j ≡ 0 → t < k → getD m (i + (j + t)) 0 ≡ 0
+unfolding word
+zero-bytes m i zero j t e h = absurd (omega arith)
+zero-bytes m i (suc k) j zero e h =
+    let z : i + (j + 0) ≡ i + j = omega arith in
+    let s : getD m (i + j) 0 + 256 * word k m i (suc j) ≡ 0 = e in
+    ap (λ (x : ℕ). getD m x 0) z ∙ omega arith
+zero-bytes m i (suc k) j (suc t) e h =
+    let z : i + (j + suc t) ≡ i + (suc j + t) = omega arith in
+    let s : getD m (i + j) 0 + 256 * word k m i (suc j) ≡ 0 = e in
+    ap (λ (x : ℕ). getD m x 0) z ∙ zero-bytes m i k (suc j) t (omega arith) (omega arith)
+
+-- the bits of eight bytes that are clear
+pub none-word : (m : List ℕ) (b : ℕ) → NoneTo m b → clearAt m b ≡ true → NoneTo m (b + 64)
+unfolding clearAt
+none-word m b w e c h l =
+    let q = and-eq-true-iff (eqb (b % 8) 0) (leb (b / 8 + 8) (length m) && eqb (wordOr m (b / 8)) 0) .0 e in
+    let p = and-eq-true-iff (leb (b / 8 + 8) (length m)) (eqb (wordOr m (b / 8)) 0) .0 (q .1) in
     let r : b % 8 ≡ 0 = eqb-true (b % 8) 0 (q .0) in
+    let d : word 8 m (b / 8) 0 ≡ 0 = sym (word-there m (b / 8) (leb-true (b / 8 + 8) (length m) (p .0))) ∙ eqb-true (wordOr m (b / 8)) 0 (p .1) in
     ⊎-elim (λ k. w c h k)
     (λ (k : b ≤ c).
-    let z : c / 8 ≡ b / 8 = omega arith in
-    ap (λ (x : ℕ). eqb (x / 2 ^ (c % 8) % 2) 1) (ap (λ (j : ℕ). getD m j 0) z ∙ eqb-true (getD m (b / 8) 0) 0 (q .1)) ∙ ap (λ (x : ℕ). eqb (x % 2) 1) (zero-div (2 ^ (c % 8))))
+    let z : c / 8 ≡ b / 8 + (0 + (c / 8 - b / 8)) = omega arith in
+    zero-bit m c (ap (λ (j : ℕ). getD m j 0) z ∙ zero-bytes m (b / 8) 8 0 (c / 8 - b / 8) d (omega arith)))
     (below-or-not c b)
+
+-- and those before the bit that a loop begins with
+past-first : (m : List ℕ) → (1 ≤ pastFirst m) × NoneTo m (pastFirst m)
+unfolding pastFirst word
+past-first m = by (leb 8 (length m) && leb (wordOr m 0) 1) refl
+  where
+    bits : leb 8 (length m) ≡ true → leb (wordOr m 0) 1 ≡ true → NoneTo m 64
+    bits p q c h l =
+        let d : word 8 m 0 0 ≤ 1 = omega (arith, word-there m 0 (leb-true 8 (length m) p), leb-true (wordOr m 0) 1 q) in
+        let s : getD m 0 0 + 256 * word 7 m 0 1 ≤ 1 = d in
+        ⊎-elim (λ k. low-bit m c h k (omega arith))
+        (λ (k : 8 ≤ c).
+        let z : c / 8 ≡ 0 + (1 + (c / 8 - 1)) = omega arith in
+        zero-bit m c (ap (λ (j : ℕ). getD m j 0) z ∙ zero-bytes m 0 7 1 (c / 8 - 1) (omega arith) (omega arith)))
+        (below-or-not c 8)
+
+    by : (t : Bool) → (leb 8 (length m) && leb (wordOr m 0) 1) ≡ t → (1 ≤ cond t 64 1) × NoneTo m (cond t 64 1)
+    by false e = (omega arith, none-to m)
+    by true e = let p = and-eq-true-iff (leb 8 (length m)) (leb (wordOr m 0) 1) .0 e in (omega arith, bits (p .0) (p .1))
+
+pub none-first : (m : List ℕ) (b : ℕ) → b ≡ pastFirst m → (1 ≤ b) × NoneTo m b
+none-first m b e = let p = past-first m in (omega (arith, p .0), λ c h l. p .1 c h (omega arith))
 
 -- past the directory's bits there is none; and one that is met is one
 pub inside-not : (n end b : ℕ) (m : List ℕ) → end ≡ 10 * min n 156 → end ≤ b → NoneTo m b → inDirectory n m ≡ false

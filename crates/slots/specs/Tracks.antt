@@ -1,11 +1,11 @@
 -- Directory tracks beyond four. "These disks have up to 39 directory tracks.": how many there are, which bytes of slot 1 are the
 -- disk's own, and which map bits are data. Here n is the number of those tracks.
-use Prim.Native.Nat.{ℕ, zero, suc, _-_, _*_, _/_, _%_}
+use Prim.Native.Nat.{ℕ, zero, suc, _+_, _-_, _*_, _/_, _%_}
 use mathlib.Core.Bool.{Bool, cond, not, _&&_, _||_}
 use mathlib.Core.List.{List}
 use lib.Dec.{eqb, leb, ltb}
-use lib.ListN.{getD}
-use Rattle.buffers.specs.Bytes.{any}
+use lib.ListN.{length}
+use Rattle.buffers.specs.Bytes.{any, wordOr}
 use Rattle.maps.specs.Bits.{has, clear, marked}
 
 -- "a save into slot 1 now keeps bytes 210 to 219, 252, 253 and 255": they are the disk's, and no file's
@@ -33,9 +33,13 @@ dataBit n b = ltb b 1560 && (eqb b 0 || leb (10 * n) b)
 unfoldable pub inDirectory : ℕ → List ℕ → Bool
 inDirectory n m = any 1560 (λ b. has m b && not (dataBit n b))
 
--- byte b / 8 of a map is 0, and bit b is its first
+-- the eight bytes of a map from byte b / 8 on are there and 0, and bit b is the first of them
 unfoldable pub clearAt : List ℕ → ℕ → Bool
-clearAt m b = eqb (b % 8) 0 && eqb (getD m (b / 8) 0) 0
+clearAt m b = eqb (b % 8) 0 && (leb (b / 8 + 8) (length m) && eqb (wordOr m (b / 8)) 0)
+
+-- a bit from 1 on before which none but bit 0 is set
+unfoldable pub pastFirst : List ℕ → ℕ
+pastFirst m = cond (leb 8 (length m) && leb (wordOr m 0) 1) 64 1
 
 -- the map of the bits inside the directory: of those below k, and of all
 unfoldable pub innerTo : ℕ → ℕ → List ℕ

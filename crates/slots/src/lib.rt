@@ -4,7 +4,7 @@ ghost use mathlib.Core.Path.{_≡_};
 ghost use Prim.Native.Nat.{_+_, _*_, _≤_, _<_};
 ghost use Rattle.refusals.specs.Answers.{replyOf};
 ghost use Rattle.slots.specs.Slot.{isLive, isNameless, hidden, protected, kindOf, known, carried, spectrum, readable, isDirectory, codeOf, parentOf, nameOf, isNamed, countOf, firstOf, mapOf, pageOf, offsetOf, pagesOf, remainderOf, facts, lengthOf};
-ghost use Rattle.slots.specs.Tracks.{dataCount, innerMap, inDirectory, clearAt};
+ghost use Rattle.slots.specs.Tracks.{dataCount, innerMap, inDirectory, clearAt, pastFirst};
 ghost use Rattle.slots.specs.Rows.{directoryReply, fileReplyBy, ownReplyBy, wasteful};
 use refusals::Reason;
 use refusals::Verdict;
@@ -184,26 +184,44 @@ pub fn data_count(tracks: usize) -> usize
     1561 - 10 * tracks
 }
 
-// Whether the eight bits of a map from `b` on are clear, and `b` is the first of a byte.
+// Whether the 64 bits of a map from `b` on are clear, `b` is the first of a byte, and the map has them all.
 fn is_clear(map: &[u8], b: usize) -> bool
     ensures { λ r. ⌜ r ≡ clearAt (now (map .entry)) b ⌝ }
 {
     if b % 8 != 0 {
         return false;
     }
-    buffers::byte_at(map, b / 8) == 0
+    let k = b / 8;
+    if map.len() < k + 8 {
+        return false;
+    }
+    buffers::word_at(map, k) == 0
 }
 
-// Whether a map has a bit inside the directory, with so many tracks beyond four. Of a byte that is clear no bit is looked at.
+// A bit from 1 on before which none but bit 0 is set: past the first eight bytes where they are there and have no other.
+fn past_first(map: &[u8]) -> usize
+    ensures { λ r. ⌜ r ≡ pastFirst (now (map .entry)) ⌝ }
+{
+    if map.len() < 8 {
+        return 1;
+    }
+    if 1 < buffers::word_at(map, 0) {
+        return 1;
+    }
+    64
+}
+
+// Whether a map has a bit inside the directory, with so many tracks beyond four. Of eight bytes that are clear no bit is looked
+// at.
 pub fn is_inside(map: &[u8], tracks: usize) -> bool
     ensures { λ r. ⌜ r ≡ inDirectory tracks (now (map .entry)) ⌝ }
 {
     let end = 10 * buffers::lesser(tracks, 156);
-    let mut b: usize = 1;
+    let mut b = past_first(map);
     while b < end {
         let c = b;
         if is_clear(map, c) {
-            b += 8;
+            b += 64;
         } else {
             b += 1;
             if maps::has_bit(map, c) {

@@ -1,16 +1,18 @@
 -- A name before a slot, by the filter and by its key; and what the pass keeps beside the used map: the filter of the names so
 -- far, and how many slots are live.
-use Prim.Native.Nat.{ℕ, _+_, _*_, _%_, _≤_, _<_}
-use mathlib.Core.Path.{_≡_, refl, sym, ap, _∙_}
-use mathlib.Core.Bool.{Bool, true, false, or-true, and-false, and-eq-true-iff, true≢false}
+use Prim.Native.Nat.{ℕ, zero, suc, _+_, _*_, _%_, _≤_, _<_}
+use mathlib.Core.Path.{_≡_, refl, sym, ap, ap₂, _∙_}
+use mathlib.Core.Bool.{Bool, true, false, not, or-true, and-false, true≢false}
 use mathlib.Core.List.{List}
 use mathlib.Core.Logic.{⊎-elim}
 use mathlib.Core.Option.{Option, none, some, Option·some-ne-none, Option·some-injective}
 use native.Mathlib.Omega.{arith}
-use borrow.Author.Tests.{eq-eqb}
+use native.Mathlib.Numerals.{add-one}
+use borrow.Author.Tests.{eq-eqb, not-true, not-false}
 use lib.Dec.{eqb}
 use lib.ListN.{length}
-use Rattle.buffers.proofs.Counts.{any-more, any-some, none-any}
+use Rattle.buffers.specs.Bytes.{any}
+use Rattle.buffers.proofs.Counts.{any-more, any-some, any-none, none-any}
 use Rattle.buffers.proofs.Lists.{below-or-not}
 use Rattle.maps.specs.Bits.{has, marked}
 use Rattle.maps.proofs.Laws.{length-marked, has-marked}
@@ -19,7 +21,7 @@ use Rattle.names.specs.Name.{sameName, keyOf}
 use Rattle.names.proofs.Keys.{keys-differ}
 use Rattle.directory.specs.Directory.{held, directory, liveAmong}
 use Rattle.surveys.specs.Survey.{earlier}
-use Rattle.surveys.specs.Filter.{isNoted, noted, Filtered}
+use Rattle.surveys.specs.Filter.{keyBit, keyStep, lacks, isNoted, notedTo, noted, Filtered}
 use Rattle.directory.proofs.Live.{among-dead, among-live, among-few, among-none}
 use Rattle.directory.proofs.Named.{named}
 
@@ -32,49 +34,72 @@ module _ (f : List ℕ) (b : ℕ) (h : b < 8 * length f) where
   marked-keeps : (c : ℕ) → has f c ≡ true → has (marked f b) c ≡ true
   marked-keeps c e = has-marked f b c h ∙ rw e (or-true (eqb c b))
 
-module _ (f : List ℕ) (key : ℕ) (l : length f ≡ 1024) where
-  once : List ℕ
-  once = marked f (key % 7741)
+pub bit-small : (key j : ℕ) → keyBit key j < 8192
+unfolding keyBit
+bit-small key zero = omega arith
+bit-small key (suc j) = omega arith
 
-  twice : List ℕ
-  twice = marked once (key % 7867)
+-- the bit after a bit
+pub bit-next : (key j : ℕ) {b step : ℕ} → b ≡ keyBit key j → step ≡ keyStep key → (b + step) % 8192 ≡ keyBit key (j + 1)
+unfolding keyBit
+bit-next key j p q = rw (add-one, p, q)
 
-  length-once : length once ≡ 1024
-  unfolding once
-  length-once = length-marked f (key % 7741) ∙ l
+module _ (f : List ℕ) (key : ℕ) where
+  pub length-noted : (n : ℕ) → length (notedTo f key n) ≡ length f
+  unfolding notedTo
+  length-noted zero = refl
+  length-noted (suc n) = length-marked (notedTo f key n) (keyBit key n) ∙ length-noted n
 
-  length-twice : length twice ≡ 1024
-  unfolding twice
-  length-twice = length-marked once (key % 7867) ∙ length-once
+  pub noted-more : (n : ℕ) {g x : List ℕ} {b : ℕ} → g ≡ notedTo f key n → b ≡ keyBit key n → x ≡ marked g b → x ≡ notedTo f key (n + 1)
+  unfolding notedTo
+  noted-more n p q r = rw add-one (r ∙ ap₂ marked p q)
 
-  pub length-noted : length (noted f key) ≡ 1024
-  unfolding noted twice once
-  length-noted = length-marked twice (key % 8147) ∙ length-twice
+  -- the bits looked at so far: none lacks
+  pub lacks-none : false ≡ lacks f key 0
+  unfolding lacks any
+  lacks-none = refl
 
-  last-keeps : (c : ℕ) → has twice c ≡ true → has (noted f key) c ≡ true
-  unfolding noted twice once
-  last-keeps c e = marked-keeps twice (key % 8147) (omega (arith, length-twice)) c e
+  pub lacks-more : (n : ℕ) → false ≡ lacks f key n → {b : ℕ} {t : Bool} → b ≡ keyBit key n → t ≡ has f b → t ≡ true → false ≡ lacks f key (n + 1)
+  unfolding lacks
+  lacks-more n e p q r =
+      let h : has f (keyBit key n) ≡ true = ap (has f) (sym p) ∙ sym q ∙ r in
+      sym (any-more n (λ j. not (has f (keyBit key j))) ∙ rw (← e, h))
 
-  -- the bits that are set stay
-  bit-keeps : (c : ℕ) → has f c ≡ true → has (noted f key) c ≡ true
-  unfolding twice once
-  bit-keeps c e = last-keeps c (marked-keeps once (key % 7867) (omega (arith, length-once)) c (marked-keeps f (key % 7741) (omega arith) c e))
+  pub lacks-one : (n : ℕ) → n < 4 → {b : ℕ} {t : Bool} → b ≡ keyBit key n → t ≡ has f b → t ≡ false → false ≡ isNoted f key
+  unfolding isNoted lacks
+  lacks-one n h p q r =
+      let e : has f (keyBit key n) ≡ false = ap (has f) (sym p) ∙ sym q ∙ r in
+      sym (ap not (any-some 4 (λ j. not (has f (keyBit key j))) n h (rw e)))
 
-  pub noted-keeps : (k : ℕ) → isNoted f k ≡ true → isNoted (noted f key) k ≡ true
-  unfolding isNoted
-  noted-keeps k e =
-      let p = and-eq-true-iff _ _ .0 e in
-      let q = and-eq-true-iff _ _ .0 (p .1) in
-      rw (bit-keeps (k % 7741) (p .0), bit-keeps (k % 7867) (q .0), bit-keeps (k % 8147) (q .1))
+  module _ (l : length f ≡ 1024) where
+    in-filter : (n j : ℕ) → keyBit key j < 8 * length (notedTo f key n)
+    in-filter n j = omega (arith, bit-small key j, length-noted n)
 
-  -- and the key's are set
-  pub noted-sets : isNoted (noted f key) key ≡ true
-  unfolding isNoted noted twice once
-  noted-sets =
-      let p : has (noted f key) (key % 7741) ≡ true = last-keeps _ (marked-keeps once (key % 7867) (omega (arith, length-once)) _ (marked-sets f (key % 7741) (omega arith))) in
-      let q : has (noted f key) (key % 7867) ≡ true = last-keeps _ (marked-sets once (key % 7867) (omega (arith, length-once))) in
-      let r : has (noted f key) (key % 8147) ≡ true = marked-sets twice (key % 8147) (omega (arith, length-twice)) in
-      rw (p, q, r)
+    -- the bits that are set stay
+    bit-keeps : (n c : ℕ) → has f c ≡ true → has (notedTo f key n) c ≡ true
+    unfolding notedTo
+    bit-keeps zero c e = e
+    bit-keeps (suc n) c e = marked-keeps (notedTo f key n) (keyBit key n) (in-filter n n) c (bit-keeps n c e)
+
+    -- and the key's are set
+    bit-sets : (n j : ℕ) → j < n → has (notedTo f key n) (keyBit key j) ≡ true
+    unfolding notedTo
+    bit-sets zero j h = absurd (omega arith)
+    bit-sets (suc n) j h =
+        ⊎-elim (λ (k : j < n). marked-keeps (notedTo f key n) (keyBit key n) (in-filter n n) (keyBit key j) (bit-sets n j k))
+        (λ (k : n ≤ j). let z : j ≡ n = omega arith in ap (λ (i : ℕ). has (marked (notedTo f key n) (keyBit key n)) (keyBit key i)) z ∙ marked-sets (notedTo f key n) (keyBit key n) (in-filter n n))
+        (below-or-not j n)
+
+    pub noted-keeps : (k : ℕ) → isNoted f k ≡ true → isNoted (noted f key) k ≡ true
+    unfolding isNoted lacks
+    noted-keeps k e =
+        let o : any 4 (λ j. not (has f (keyBit k j))) ≡ false = not-true _ e in
+        ap not (none-any 4 (λ j. not (has (noted f key) (keyBit k j))) (λ j h.
+        rw (bit-keeps 4 (keyBit k j) (not-false _ (any-none 4 (λ j. not (has f (keyBit k j))) o j h)))))
+
+    pub noted-sets : isNoted (noted f key) key ≡ true
+    unfolding isNoted lacks
+    noted-sets = ap not (none-any 4 (λ j. not (has (noted f key) (keyBit key j))) (λ j h. rw (bit-sets 4 j h)))
 
 -- ---- a name before a slot
 
@@ -129,7 +154,7 @@ module _ (d : List ℕ) (i : ℕ) (f : List ℕ) (files : ℕ) (w : Kept d i f f
   pub kept-live : (s : List ℕ) → directory d i ≡ some s → {n : List ℕ} {key : ℕ} {g : List ℕ} → n ≡ nameOf s → key ≡ keyOf n → g ≡ noted f key → Kept d (i + 1) g (files + 1)
   kept-live s e {n} {key} {g} p q r =
       record {
-        filtered = record { long = ap length r ∙ length-noted f key (w .filtered .long); bits = bits };
+        filtered = record { long = ap length r ∙ length-noted f key 4 ∙ w .filtered .long; bits = bits };
         live = ap (λ (x : ℕ). x + 1) (w .live) ∙ sym (among-live (directory d) i s e);
       }
     where

@@ -1,23 +1,40 @@
--- The filter of row 9: 8,192 bits, of which each live slot's name sets three, the same for all its spellings. A name that finds
--- one of its three clear is no earlier live slot's.
-use Prim.Native.Nat.{ℕ, _%_, _<_}
+-- The filter of row 9: 8,192 bits, of which each live slot's name sets four, the same for all its spellings. A name that finds
+-- one of its four clear is no earlier live slot's.
+use Prim.Native.Nat.{ℕ, zero, suc, _+_, _%_, _<_}
 use mathlib.Core.Path.{_≡_}
-use mathlib.Core.Bool.{Bool, true, _&&_}
+use mathlib.Core.Bool.{Bool, true, not}
 use mathlib.Core.List.{List}
 use mathlib.Core.Option.{some}
 use lib.ListN.{length}
+use Rattle.buffers.specs.Bytes.{any}
 use Rattle.maps.specs.Bits.{has, marked}
 use Rattle.slots.specs.Slot.{nameOf}
 use Rattle.names.specs.Name.{keyOf}
 use Rattle.directory.specs.Directory.{directory}
 
--- the bits of a key are set: its remainders by three primes below 8,192 that scatter names which differ in few bytes
-unfoldable pub isNoted : List ℕ → ℕ → Bool
-isNoted f key = has f (key % 7741) && (has f (key % 7867) && has f (key % 8147))
+-- the bits of a key: the first is its remainder by a prime, and from each to the next it is its remainder by another. Both
+-- scatter names which differ in few bytes.
+unfoldable pub keyStep : ℕ → ℕ
+keyStep key = key % 7741
 
--- the filter with the bits of a key set as well
-unfoldable pub noted : List ℕ → ℕ → List ℕ
-noted f key = marked (marked (marked f (key % 7741)) (key % 7867)) (key % 8147)
+unfoldable pub keyBit : ℕ → ℕ → ℕ
+keyBit key zero = key % 8147
+keyBit key (suc j) = (keyBit key j + keyStep key) % 8192
+
+-- one of the first n bits of a key is clear; none of its four is
+unfoldable pub lacks : List ℕ → ℕ → ℕ → Bool
+lacks f key n = any n (λ j. not (has f (keyBit key j)))
+
+unfoldable pub isNoted : List ℕ → ℕ → Bool
+isNoted f key = not (lacks f key 4)
+
+-- the filter with the first n bits of a key set as well; with all four
+unfoldable pub notedTo : List ℕ → ℕ → ℕ → List ℕ
+notedTo f key zero = f
+notedTo f key (suc j) = marked (notedTo f key j) (keyBit key j)
+
+abbrev pub noted : List ℕ → ℕ → List ℕ
+noted f key = notedTo f key 4
 
 -- the bits of the live slots before slot i are set
 pub record Filtered (d : List ℕ) (i : ℕ) (f : List ℕ) : Type 0 where

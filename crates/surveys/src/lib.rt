@@ -9,7 +9,7 @@ ghost use Rattle.slots.specs.Slot.{nameOf};
 ghost use Rattle.slots.specs.Rows.{ownReply};
 ghost use Rattle.directory.specs.Directory.{tracksOf, slotsRead, directory};
 ghost use Rattle.surveys.specs.Survey.{earlier, surveyAt, surveyBy, counted, freeOf, refusedWith};
-ghost use Rattle.surveys.specs.Filter.{isNoted, noted, Filtered};
+ghost use Rattle.surveys.specs.Filter.{keyBit, keyStep, isNoted, noted, Filtered};
 ghost use Rattle.surveys.specs.Steps.{Apart, Reached, Surveyed};
 use refusals::Reason;
 use refusals::Verdict;
@@ -29,29 +29,55 @@ pub struct Survey {
     pub files: usize,
 }
 
-// The bytes of the filter of row 9.
+// The bytes of the filter of row 9, its bits, and how many of them a key has.
 const FILTER_BYTES: usize = 1024;
+
+const FILTER_BITS: usize = 8192;
+
+const KEY_BITS: usize = 4;
+
+// The first bit of a key, and how far each of the others is from the one before.
+fn first_bit(key: u64) -> usize
+    ensures { λ r. ⌜ (r ≡ keyBit key 0) × (r < 8192) ⌝ }
+{
+    (key % 8147) as usize
+}
+
+fn bit_step(key: u64) -> usize
+    ensures { λ r. ⌜ (r ≡ keyStep key) × (r < 8192) ⌝ }
+{
+    (key % 7741) as usize
+}
 
 // Whether the filter has all bits of a key.
 fn is_noted(filter: &[u8], key: u64) -> bool
     ensures { λ r. ⌜ r ≡ isNoted (now (filter .entry)) key ⌝ }
 {
-    if !maps::has_bit(filter, (key % 7741) as usize) {
-        return false;
+    let step = bit_step(key);
+    let mut b = first_bit(key);
+    let mut n: usize = 0;
+    while n < KEY_BITS {
+        if !maps::has_bit(filter, b) {
+            return false;
+        }
+        b = (b + step) % FILTER_BITS;
+        n += 1;
     }
-    if !maps::has_bit(filter, (key % 7867) as usize) {
-        return false;
-    }
-    maps::has_bit(filter, (key % 8147) as usize)
+    true
 }
 
 // Sets the bits of a key in the filter.
 fn note(filter: &mut [u8], key: u64)
     ensures { λ _. ⌜ now (filter .exit) ≡ noted (now (filter .entry)) key ⌝ }
 {
-    maps::mark(filter, (key % 7741) as usize);
-    maps::mark(filter, (key % 7867) as usize);
-    maps::mark(filter, (key % 8147) as usize);
+    let step = bit_step(key);
+    let mut b = first_bit(key);
+    let mut n: usize = 0;
+    while n < KEY_BITS {
+        maps::mark(filter, b);
+        b = (b + step) % FILTER_BITS;
+        n += 1;
+    }
 }
 
 // Whether a live slot before slot `i` has that name. The slots are looked at only where the filter has all bits of the name's

@@ -42,7 +42,7 @@ pass-yes b p h e =
 
 -- ---- a full byte
 
-all-set : (j : ℕ) → j < 8 → bit 255 j ≡ true
+pub all-set : (j : ℕ) → j < 8 → bit 255 j ≡ true
 all-set zero h = refl
 all-set (suc zero) h = refl
 all-set (suc (suc zero)) h = refl

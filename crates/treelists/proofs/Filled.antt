@@ -1,10 +1,10 @@
 -- Filling: what the loop has put after i slots of a level.
 use Prim.Native.Nat.{ℕ, zero, suc, _+_, _-_, _≤_, _<_}
-use mathlib.Core.Path.{_≡_, refl, sym, ap, ap₂, _∙_}
+use mathlib.Core.Path.{_≡_, refl, sym, ap, ap₂, _∙_, subst}
 use mathlib.Core.Bool.{Bool, true, false, cond}
 use mathlib.Core.List.{List, [], _∷_, _++_, append-nil, append-assoc}
 use mathlib.Core.Option.{Option, none, some}
-use native.Mathlib.Nat.{add-zero, add-suc}
+use native.Mathlib.Nat.{add-zero, add-suc, add-assoc}
 use native.Mathlib.Numerals.{add-one}
 use native.Mathlib.Omega.{arith}
 use borrow.Author.Tests.{eq-eqb, ne-eqb}
@@ -13,10 +13,14 @@ use lib.ListN.{length, length-append}
 use Rattle.buffers.specs.Bytes.{put}
 use Rattle.buffers.specs.Sums.{gather}
 use Rattle.buffers.proofs.Lists.{length-put, put-none, put-append}
-use Rattle.buffers.proofs.Sums.{gather-more, gather-le, gather-rest}
+use Rattle.buffers.proofs.Sums.{gather-more, gather-le}
 use Rattle.slots.specs.Slot.{isDirectory, codeOf, parentOf}
 use Rattle.directory.specs.Places.{slots}
-use Rattle.directory.specs.Directory.{held, Directory}
+use Rattle.directory.specs.Directory.{held, Directory, directory, slotOr}
+use Rattle.directory.proofs.Ends.{slot-read}
+use Rattle.directory.proofs.Live.{directory-some}
+use Rattle.levels.specs.Links.{linksOf, entryOf}
+use Rattle.levels.proofs.Next.{Inside, From, first-link, next-link}
 use Rattle.trees.specs.Tree.{levelAt, level, inside, beneath}
 use Rattle.treelists.specs.Steps.{Put}
 
@@ -27,6 +31,23 @@ partly v n c i = gather i (levelAt v c (inside n v))
 pub record Filled (v : Directory) (n c : ℕ) (buf : List ℕ) (from i at : ℕ) (now : List ℕ) : Type 0 where
   pub place : at ≡ from + length (partly v n c i)
   pub numbers : now ≡ put buf from (partly v n c i)
+
+-- slot i is the next to put, or all are put
+pub record Walked (v : Directory) (n c : ℕ) (buf : List ℕ) (from i at : ℕ) (now : List ℕ) : Type 0 where
+  pub filled : Filled v n c buf from i at now
+  pub most : i ≤ slots
+  pub found : i < slots → Inside v c i
+
+-- the slot that the loop looks at, by its bytes
+module _ (d : List ℕ) (c i : ℕ) (o : Inside (directory d) c i) (s : List ℕ) (e : s ≡ slotOr d i) where
+  same-slot : o .bytes ≡ s
+  same-slot = let w = directory-some d i (o .bytes) (o .here) in w .1 ∙ sym (slot-read d i (w .0)) ∙ sym e
+
+  pub met-here : directory d i ≡ some s
+  met-here = o .here ∙ ap some same-slot
+
+  pub met-inside : parentOf s ≡ c
+  met-inside = ap parentOf (sym same-slot) ∙ o .inside
 
 -- ---- a level, slot by slot
 
@@ -47,13 +68,14 @@ unfolding inside
 inside-last v n s h = let z : n ≡ 0 = omega arith in rw z
 
 module _ (v : Directory) (n c : ℕ) where
-  pub level-dead : (i : ℕ) → v i ≡ none → levelAt v c (inside n v) i ≡ []
+  -- a slot that is not in the directory
+  level-not : (i : ℕ) → ((s : List ℕ) → v i ≡ some s → parentOf s ≡ c → ⊥) → levelAt v c (inside n v) i ≡ []
   unfolding levelAt
-  level-dead i e = rw e
-
-  pub level-other : (i : ℕ) (s : List ℕ) → v i ≡ some s → (parentOf s ≡ c → ⊥) → levelAt v c (inside n v) i ≡ []
-  unfolding levelAt
-  level-other i s e h = rw (e, ne-eqb (parentOf s) c h)
+  level-not i h = by (v i) refl
+    where
+      by : (o : Option (List ℕ)) → v i ≡ o → held [] (λ s. cond (eqb (parentOf s) c) (suc i ∷ inside n v s) []) o ≡ []
+      by none e = refl
+      by (some s) e = rw (ne-eqb (parentOf s) c (h s e))
 
   pub level-in : (i : ℕ) (s : List ℕ) → v i ≡ some s → parentOf s ≡ c → levelAt v c (inside n v) i ≡ (i + 1) ∷ inside n v s
   unfolding levelAt
@@ -129,15 +151,41 @@ module _ (v : Directory) (n c : ℕ) where
           filled-in s q h e w r g
           (record { place = p .place ∙ ap (λ (x : List ℕ). at + 1 + length x) y; numbers = p .numbers ∙ ap (put e (at + 1)) y })
 
-    -- past the slots that are read there is nothing to put
-    pub filled-all : (i at : ℕ) (now : List ℕ) → Filled v n c buf from i at now → i ≤ slots → ((k : ℕ) → i ≤ k → v k ≡ none)
-        → Put buf from (beneath n v c) now at
+    -- the slots between two of a directory are passed over
+    filled-over : (i m at : ℕ) (now : List ℕ) → Filled v n c buf from i at now
+        → ((k : ℕ) (s : List ℕ) → i ≤ k → k < i + m → v k ≡ some s → parentOf s ≡ c → ⊥) → Filled v n c buf from (i + m) at now
+    filled-over i zero at now f h = subst (λ (k : ℕ). Filled v n c buf from k at now) (sym (add-zero i)) f
+    filled-over i (suc m) at now f h =
+        subst (λ (k : ℕ). Filled v n c buf from k at now) (add-assoc i m 1 ∙ ap (λ (k : ℕ). i + k) (add-one m))
+        (filled-skip (i + m) at now (filled-over i m at now f (λ k s l q. h k s l (omega arith))) (level-not (i + m) (λ s. h (i + m) s (omega arith) (omega arith))))
+
+    filled-from : (i at : ℕ) (now : List ℕ) → Filled v n c buf from i at now → (j : ℕ) → From v c i j → Walked v n c buf from j at now
+    filled-from i at now f j g =
+        let z : i + (j - i) ≡ j = omega (arith, g .low) in
+        record {
+          filled = subst (λ (k : ℕ). Filled v n c buf from k at now) z (filled-over i (j - i) at now f (λ k s l q. g .skipped k s l (omega arith)));
+          most = g .most;
+          found = g .found;
+        }
+
+    pub walked-first : (links : List ℕ) → links ≡ linksOf v → c < 256 → (j : ℕ) → j ≡ entryOf links c → Walked v n c buf from j from buf
+    walked-first links e h j q = filled-from 0 from buf filled-none j (first-link v links e c h j q)
+
+    -- the slot i is put, and j is the next
+    pub walked-next : (i at : ℕ) (now : List ℕ) → Filled v n c buf from (i + 1) at now → (links : List ℕ) → links ≡ linksOf v → i < slots
+        → (s : List ℕ) → v i ≡ some s → parentOf s ≡ c → (j : ℕ) → j ≡ entryOf links (256 + i) → Walked v n c buf from j at now
+    walked-next i at now f links e h s w p j q =
+        filled-from (i + 1) at now f j (subst (λ (x : ℕ). From v x (i + 1) j) p (next-link v links e i s h w j q))
+
+    pub walked-less : (i : ℕ) (links : List ℕ) → links ≡ linksOf v → i < slots → (s : List ℕ) → v i ≡ some s → (j : ℕ) → j ≡ entryOf links (256 + i) → slots - j < slots - i
+    walked-less i links e h s w j q = let g = next-link v links e i s h w j q in omega (arith, g .low, g .most)
+
+    pub walked-all : (i at : ℕ) (now : List ℕ) → Walked v n c buf from i at now → slots ≤ i → Put buf from (beneath n v c) now at
     unfolding beneath level
-    filled-all i at now f h e =
-        let z : i + (slots - i) ≡ slots = omega arith in
-        let w : partly v n c i ≡ partly v n c slots =
-        sym (gather-rest (slots - i) i (levelAt v c (inside n v)) (λ k l. level-dead k (e k l))) ∙ ap (partly v n c) z in
-        record { place = f .place ∙ ap (λ (l : List ℕ). from + length l) w; numbers = f .numbers ∙ ap (put buf from) w }
+    walked-all i at now w h =
+        let z : i ≡ slots = omega (arith, w .most) in
+        let f : Filled v n c buf from slots at now = subst (λ (k : ℕ). Filled v n c buf from k at now) z (w .filled) in
+        record { place = f .place; numbers = f .numbers }
 
     pub filled-long : (i at : ℕ) (now : List ℕ) → Filled v n c buf from i at now → length now ≡ length buf
     filled-long i at now f = ap length (f .numbers) ∙ length-put buf from (partly v n c i)

@@ -24,15 +24,15 @@ use Rattle.treelists.specs.Steps.{Room, Clean, Put}
 
 -- ---- the listing by a code
 
-module _ (d : List ℕ) (end m : ℕ) (k : Clean d end m) (c : ℕ) where
+module _ (d links : List ℕ) (m c : ℕ) (k : Clean d links m c) where
   clean-tree : beneath m (directory d) c ≡ tree (directory d) c
   clean-tree = ap (λ (x : ℕ). beneath x (directory d) c) (k .number)
 
   short : length (tree (directory d) c) ≤ slots
   short = tree-short (directory d) (nested (directory d) (k .none)) c
 
-  pub clean-room : Room d end m c 0
-  clean-room = record { read = k .read; room = omega (arith, short, ap length clean-tree) }
+  pub clean-room : Room d links m c 0
+  clean-room = record { linked = k .linked; coded = k .coded; room = omega (arith, short, ap length clean-tree) }
 
   -- a list as long as there are slots has room
   pub room-enough : (room : ℕ) → slots ≤ room → leb (length (tree (directory d) c)) room ≡ true

@@ -39,7 +39,7 @@ fn name_rows(dir: &[u8], name: &[u8]) -> Verdict
 
 // The code of the directory that has the name; 0 for an empty name, and where there is none.
 fn asked_code(dir: &[u8], name: &[u8]) -> usize
-    ensures { λ r. ⌜ r ≡ askedCode (directory (now (dir .entry))) (now (name .entry)) ⌝ }
+    ensures { λ r. ⌜ (r ≡ askedCode (directory (now (dir .entry))) (now (name .entry))) × (r < 256) ⌝ }
 {
     if name.len() == 0 {
         return 0;
@@ -61,26 +61,29 @@ fn put_number(list: &mut [u16], at: usize, n: usize)
 }
 
 // Puts what lies beneath the directory with a code at a place of a list, as far as the list goes, and gives the place after
-// all of it; `left` directories are not yet entered, and `end` slots are read. It calls itself for each directory that it
-// enters, so it keeps no more than it must.
-fn fill(dir: &[u8], end: usize, left: usize, code: usize, list: &mut [u16], from: usize) -> usize
-    requires { ⌜ Room (now dir) end left code from ⌝ }
+// all of it; `left` directories are not yet entered. It goes from slot to slot by the links, so that it looks at those alone that
+// it puts, and it calls itself for each directory that it enters, so it keeps no more than it must.
+fn fill(
+    dir: &[u8],
+    links: &[u16; 1034],
+    left: usize,
+    code: usize,
+    list: &mut [u16],
+    from: usize,
+) -> usize
+    requires { ⌜ Room (now dir) (now links) left code from ⌝ }
     ensures { λ r. ⌜ Put (now (list .entry)) from (beneath left (directory (now (dir .entry))) code) (now (list .exit)) r ⌝ }
 {
     let mut at = from;
-    let mut i: usize = 0;
-    while i < end {
+    let mut i = levels::link_at(links, code);
+    while i < directory::SLOTS {
         let s = directory::slot_at(dir, i);
-        i += 1;
-        if slots::is_live(s) {
-            if slots::parent_of(s) == code {
-                put_number(list, at, i);
-                at += 1;
-                if slots::is_directory(s) {
-                    if 0 < left {
-                        at = fill(dir, end, left - 1, slots::code_of(s), list, at);
-                    }
-                }
+        put_number(list, at, i + 1);
+        at += 1;
+        i = levels::link_at(links, 256 + i);
+        if slots::is_directory(s) {
+            if 0 < left {
+                at = fill(dir, links, left - 1, slots::code_of(s), list, at);
             }
         }
     }
@@ -89,26 +92,32 @@ fn fill(dir: &[u8], end: usize, left: usize, code: usize, list: &mut [u16], from
 
 // Whether a list of `room` numbers holds all that lies beneath the directory with a code. There are never more than slots, so
 // a list that holds as many need not be counted for.
-fn has_room(dir: &[u8], end: usize, number: usize, code: usize, room: usize) -> bool
-    requires { ⌜ Clean (now dir) end number ⌝ }
+fn has_room(dir: &[u8], links: &[u16; 1034], number: usize, code: usize, room: usize) -> bool
+    requires { ⌜ Clean (now dir) (now links) number code ⌝ }
     ensures { λ r. ⌜ r ≡ leb (length (tree (directory (now (dir .entry))) code)) room ⌝ }
 {
     if directory::SLOTS <= room {
         return true;
     }
     let mut none = [0u16; 1];
-    fill(dir, end, number, code, &mut none, 0) <= room
+    fill(dir, links, number, code, &mut none, 0) <= room
 }
 
 // The listing of a directory by its code.
-fn list_code(dir: &[u8], end: usize, number: usize, code: usize, list: &mut [u16]) -> Answer
-    requires { ⌜ Clean (now dir) end number ⌝ }
+fn list_code(
+    dir: &[u8],
+    links: &[u16; 1034],
+    number: usize,
+    code: usize,
+    list: &mut [u16],
+) -> Answer
+    requires { ⌜ Clean (now dir) (now links) number code ⌝ }
     ensures { λ r. ⌜ out (outcomeOf r) (now (list .exit)) ≡ fillWith (tree (directory (now (dir .entry))) code) none (now (list .entry)) ⌝ }
 {
-    if !has_room(dir, end, number, code, list.len()) {
+    if !has_room(dir, links, number, code, list.len()) {
         return refusals::no(Reason::BufferTooShort, 0);
     }
-    let many = fill(dir, end, number, code, list, 0);
+    let many = fill(dir, links, number, code, list, 0);
     Answer::Done(many, 0)
 }
 
@@ -126,13 +135,10 @@ pub fn list_tree(image: &[u8], name: &[u8], list: &mut [u16]) -> Answer
                 Verdict::Unsound(r) => Answer::No(r),
                 Verdict::Sound => match name_rows(image, name) {
                     Verdict::Unsound(r) => Answer::No(r),
-                    Verdict::Sound => list_code(
-                        image,
-                        directory::slots_read(image),
-                        nesting.number,
-                        asked_code(image, name),
-                        list,
-                    ),
+                    Verdict::Sound => {
+                        let links = levels::link_slots(image);
+                        list_code(image, &links, nesting.number, asked_code(image, name), list)
+                    }
                 },
             }
         }

@@ -6,7 +6,7 @@ ghost use Rattle.packing.specs.Packed.{packed};
 ghost use Rattle.files.specs.Calls.{listing, reading, starting};
 ghost use Rattle.readers.specs.Pieces.{placeOf, pieceOf, bufferAfter};
 ghost use Rattle.readers.specs.Opening.{beginning};
-ghost use Rattle.plans.specs.Change.{save, erase, rename, mark, hide, show, protect, release};
+ghost use Rattle.plans.specs.Change.{save, erase, rename, mark, gather, hide, show, protect, release};
 ghost use Rattle.changes.specs.Marks.{markOf};
 ghost use Rattle.saves.specs.Write.{wish};
 ghost use Rattle.bytelists.specs.Trees.{treeingBytes};
@@ -230,6 +230,15 @@ pub extern "C" fn varnucht_report_join(report: &mut [u8], other: &[u8]) -> u64
     packing::pack(joined)
 }
 
+// Gathers a file: how many sectors, 0 where it lies on consecutive bits already, and their numbers to the front of the list.
+#[no_mangle]
+pub extern "C" fn varnucht_gather(image: &mut [u8], name: &[u8], list: &mut [u8]) -> u64
+    ensures { λ r. ⌜ Returns (gather (now (name .entry))) (now (image .entry)) (now (list .entry)) r (now (image .exit)) (now (list .exit)) ⌝ }
+{
+    let gathered = bytelists::gather(image, name, list);
+    packing::pack(gathered)
+}
+
 // Erases a handful of files, their names of ten bytes each laid end to end: how many sectors, an answer of one byte to each name,
 // 0 for done, and the numbers of the sectors, rising, to the front of `list`.
 #[no_mangle]
@@ -241,6 +250,6 @@ pub extern "C" fn varnucht_erase_many(
 ) -> u64
     ensures { λ r. ⌜ ReturnsMany (now (image .entry)) (now (names .entry)) (now (answers .entry)) (now (list .entry)) r (now (image .exit)) (now (answers .exit)) (now (list .exit)) ⌝ }
 {
-    let erased = bytelists::erase_many(image, names, answers, list);
-    packing::pack(erased)
+    let emptied = bytelists::erase_many(image, names, answers, list);
+    packing::pack(emptied)
 }

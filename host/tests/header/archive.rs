@@ -84,9 +84,10 @@ fn the_calls_need_little_stack() {
         let said = said.iter().find(|(name, _)| name == call).map(|(_, most)| *most);
         assert!(said.is_none_or(|most| bytes <= most), "{line}: the header says {said:?}");
         let most = match call {
-            "save" | "erase_many" => 8192,
+            "save" => 8192,
+            "erase_many" => 5120,
             "gather" => 3072,
-            "tree" => 36 * 1024,
+            "tree" => 30 * 1024,
             _ => 2048,
         };
         assert!(bytes > 0 && bytes < most, "{line}");

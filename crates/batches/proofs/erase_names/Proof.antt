@@ -1,5 +1,6 @@
 -- `batches::erase_names` meets its contract.
 use Rattle.batches.proofs.Whole.{short-answers, short-list, all-written}
+use Rattle.batches.proofs.Index.{index-empty}
 use borrow.Author.Needs.{needs}
 use Rattle.batches.proofs.erase_names.Statement.{statement}
 use Rattle.batches.proofs.erase_names.Tie as tie
@@ -10,14 +11,11 @@ no-requires c κs = search needs
 returns : tie.Need-returns
 returns c = short-answers _ _ _ _ (c .before .before .before .before .before .before .pre) (c .before .if1 .taken) (c .no .ensures)
 
-no-index-requires : tie.Need-no-index-requires
-no-index-requires c κs = search needs
-
 slice-aggregate-index-names : tie.Need-slice-aggregate-index-names
 slice-aggregate-index-names c = search needs
 
 index-names-requires : tie.Need-index-names-requires
-index-names-requires c κs = search needs
+index-names-requires c κs = index-empty
 
 slice-aggregate-is-short : tie.Need-slice-aggregate-is-short
 slice-aggregate-is-short c = search needs
@@ -34,7 +32,7 @@ same-length c = search needs
 returns-2 : tie.Need-returns-2
 returns-2 c =
     let s = c .before .before in
-    let e = s .before .before .before .before .before .before .before .before in
+    let e = s .before .before .before .before .before .before .before in
     short-list _ _ _ _ (e .before .before .before .before .before .pre) (e .if1 .left) (s .is-short .ensures) (c .before .if2 .taken) (c .no2 .ensures)
 
 slice-aggregate-write-all : tie.Need-slice-aggregate-write-all
@@ -57,7 +55,7 @@ returns-3 c =
     let w = c .before .before .before .before .before .before in
     let z = w .before .before .before .before .before in
     let s = z .before in
-    let e = s .before .before .before .before .before .before .before .before in
+    let e = s .before .before .before .before .before .before .before in
     all-written _ _ _ _ (e .before .before .before .before .before .pre) (e .if1 .left) (s .is-short .ensures) (z .if2 .left) (w .write-all .ensures)
 
 pub erase-names-spec : {M : Type 1} → statement M
@@ -66,7 +64,6 @@ erase-names-spec =
     (tie.spec
     no-requires
     returns
-    no-index-requires
     slice-aggregate-index-names
     index-names-requires
     slice-aggregate-is-short

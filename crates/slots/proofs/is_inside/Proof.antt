@@ -2,7 +2,7 @@
 use Prim.Native.Nat.{ℕ, _-_, _*_, _≤_, min}
 use mathlib.Core.Path.{_≡_, sym, ap, _∙_}
 use native.Mathlib.Omega.{arith}
-use Rattle.slots.proofs.Tracks.{NoneTo, none-to, none-more, none-byte, inside-not, inside-met}
+use Rattle.slots.proofs.Tracks.{NoneTo, none-first, none-more, none-word, inside-not, inside-met}
 use borrow.Author.Needs.{needs}
 use Rattle.slots.proofs.is_inside.Statement.{statement}
 use Rattle.slots.proofs.is_inside.Tie as tie
@@ -19,8 +19,11 @@ lesser-requires c κs = search needs
 mul-end : tie.Need-mul-end Inv-loop μ-loop
 mul-end c = omega (arith, c .lesser .ensures)
 
+past-first-requires : tie.Need-past-first-requires Inv-loop μ-loop
+past-first-requires c κs = search needs
+
 loop-holds : tie.Need-loop-holds Inv-loop μ-loop
-loop-holds c = (omega arith, ap (λ (k : ℕ). 10 * k) (c .lesser .ensures), none-to _)
+loop-holds c = let p = none-first _ _ (c .past-first .ensures) in (p .0, ap (λ (k : ℕ). 10 * k) (c .before .lesser .ensures), p .1)
 
 is-clear-requires : tie.Need-is-clear-requires Inv-loop μ-loop
 is-clear-requires c κs = search needs
@@ -34,7 +37,7 @@ loop-less c = search needs
 loop-again : tie.Need-loop-again Inv-loop μ-loop
 loop-again c =
     let a = c .before .before .before .loop in
-    (omega arith, a .inv .1, none-byte _ (a .b) (a .inv .2) (sym (c .before .is-clear .ensures) ∙ c .if1 .taken))
+    (omega arith, a .inv .1, none-word _ (a .b) (a .inv .2) (sym (c .before .is-clear .ensures) ∙ c .if1 .taken))
 
 add-b-2 : tie.Need-add-b-2 Inv-loop μ-loop
 add-b-2 c = let l = c .before .before in omega (arith, l .loop-test .taken, l .before .loop .inv .1)
@@ -67,6 +70,7 @@ is-inside-spec =
     μ-loop
     lesser-requires
     mul-end
+    past-first-requires
     loop-holds
     is-clear-requires
     add-b

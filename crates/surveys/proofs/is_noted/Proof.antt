@@ -1,44 +1,79 @@
 -- `surveys::is_noted` meets its contract: one bit after the other, up to the first that is clear.
-use Rattle.surveys.specs.Filter.{isNoted}
+use Prim.Native.Nat.{_-_, _≤_, _<_}
+use mathlib.Core.Path.{_≡_, sym, ap, _∙_}
+use mathlib.Core.Bool.{false, not}
+use native.Mathlib.Omega.{arith}
 use borrow.Author.Needs.{needs}
 use borrow.Author.Tests.{not-true, not-false}
+use Rattle.surveys.specs.Filter.{keyBit, keyStep, lacks, isNoted}
+use Rattle.surveys.proofs.Filter.{bit-small, bit-next, lacks-none, lacks-more, lacks-one}
 use Rattle.surveys.proofs.is_noted.Statement.{statement}
 use Rattle.surveys.proofs.is_noted.Tie as tie
 
-has-bit-requires : tie.Need-has-bit-requires
+abbrev Inv-loop : tie.InvT-loop
+Inv-loop filter key step b₀ n₀ b n = (n ≤ 4) × (b < 8192) × (b ≡ keyBit key n) × (false ≡ lacks filter key n)
+
+abbrev μ-loop : tie.MeasureT-loop
+μ-loop filter key step b₀ n₀ b n = 4 - n
+
+bit-step-requires : tie.Need-bit-step-requires Inv-loop μ-loop
+bit-step-requires c κs = search needs
+
+first-bit-requires : tie.Need-first-bit-requires Inv-loop μ-loop
+first-bit-requires c κs = search needs
+
+loop-holds : tie.Need-loop-holds Inv-loop μ-loop
+loop-holds c = (omega arith, c .first-bit .ensures .1, c .first-bit .ensures .0, lacks-none _ _)
+
+has-bit-requires : tie.Need-has-bit-requires Inv-loop μ-loop
 has-bit-requires c κs = search needs
 
-returns : tie.Need-returns
-unfolding isNoted
-returns c = rw (← (c .before .has-bit .ensures), not-true (c .before .has-bit .result) (c .if1 .taken))
+returns : tie.Need-returns Inv-loop μ-loop
+returns c =
+    let l = c .before .before in
+    let a = l .before .loop in
+    lacks-one _ _ (a .n) (l .loop-test .taken) (a .inv .2) (c .before .has-bit .ensures) (not-true (c .before .has-bit .result) (c .if1 .taken))
 
-has-bit-requires-2 : tie.Need-has-bit-requires-2
-has-bit-requires-2 c κs = search needs
+add-b : tie.Need-add-b Inv-loop μ-loop
+add-b c = let l = c .before .before .before in omega (arith, l .loop .inv .1, l .before .before .bit-step .ensures .1)
 
-returns-2 : tie.Need-returns-2
+add-n : tie.Need-add-n Inv-loop μ-loop
+add-n c = search needs
+
+loop-less : tie.Need-loop-less Inv-loop μ-loop
+loop-less c = search needs
+
+loop-again : tie.Need-loop-again Inv-loop μ-loop
+loop-again c =
+    let h = c .before in
+    let l = h .before in
+    let a = l .before .loop in (
+      omega (arith, l .loop-test .taken),
+      omega arith,
+      bit-next _ (a .n) (a .inv .2) (l .before .before .before .bit-step .ensures .0),
+      lacks-more _ _ (a .n) (a .inv .3) (a .inv .2) (h .has-bit .ensures) (not-false (h .has-bit .result) (c .if1 .left)),
+    )
+
+returns-2 : tie.Need-returns-2 Inv-loop μ-loop
 unfolding isNoted
 returns-2 c =
-    let o = c .before .before in
-    rw (← (o .before .has-bit .ensures), not-false (o .before .has-bit .result) (o .if1 .left), ← (c .before .has-bit2 .ensures), not-true (c .before .has-bit2 .result) (c .if2 .taken))
-
-has-bit-requires-3 : tie.Need-has-bit-requires-3
-has-bit-requires-3 c κs = search needs
-
-returns-3 : tie.Need-returns-3
-unfolding isNoted
-returns-3 c =
-    let t = c .before in
-    let o = t .before .before in
-    rw (← (o .before .has-bit .ensures), not-false (o .before .has-bit .result) (o .if1 .left), ← (t .before .has-bit2 .ensures), not-false (t .before .has-bit2 .result) (t .if2 .left))
-    (c .has-bit3 .ensures)
+    let a = c .before .loop in
+    let e : a .n ≡ 4 = omega (arith, a .inv .0, c .loop-test .left) in
+    ap not (rw e at (a .inv .3))
 
 pub is-noted-spec : {M : Type 1} → statement M
 is-noted-spec =
     tie.close
     (tie.spec
+    Inv-loop
+    μ-loop
+    bit-step-requires
+    first-bit-requires
+    loop-holds
     has-bit-requires
     returns
-    has-bit-requires-2
-    returns-2
-    has-bit-requires-3
-    returns-3)
+    add-b
+    add-n
+    loop-less
+    loop-again
+    returns-2)

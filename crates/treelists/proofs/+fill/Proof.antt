@@ -1,79 +1,87 @@
 -- The proof of the cycle of calls {fill}. The measure is the number of directories not yet entered.
 use borrow.Author.Needs.{needs}
-use Prim.Native.Nat.{ℕ, _-_, _≤_, _<_}
+use Prim.Native.Nat.{ℕ, _+_, _-_, _≤_, _<_}
 use mathlib.Core.Path.{_≡_, sym, ap, _∙_}
 use native.Mathlib.Omega.{arith}
 use denote.Ref.{now}
-use lib.ListN.{length}
 use Rattle.directory.specs.Places.{slots}
-use Rattle.directory.specs.Directory.{directory, slotsRead}
-use Rattle.directory.proofs.Ends.{read-most}
-use Rattle.directory.proofs.Live.{met-live, met-dead, directory-unread}
-use Rattle.treelists.proofs.Filled.{Filled, level-dead, level-other, inside-file, inside-folder, inside-last, filled-none, filled-low, filled-skip, filled-in, filled-one, filled-room, filled-all, filled-long, folder-room, filled-folder}
+use Rattle.directory.specs.Directory.{directory}
+use Rattle.treelists.proofs.Filled.{Walked, met-here, met-inside, inside-file, inside-last, filled-low, filled-one, filled-long, folder-room, filled-folder, walked-first, walked-next, walked-less, walked-all}
+use Rattle.levels.proofs.Next.{Inside}
 use borrow.Fn.Kinds.{In}
 use borrow.Fn.PlainCycle.{Measures, is, falls, and}
 use Rattle.treelists.proofs.fill.Reads as fill
 use Rattle.treelists.proofs.fill.Kinds as fill-kinds
 use Rattle.treelists.proofs.+fill.Lts-fill as fill-lts
 use Rattle.directory.proofs.slot_at.Reads as slot-at-reads
-use Rattle.slots.proofs.is_live.Reads as is-live-reads
+use Rattle.levels.proofs.link_at.Reads as link-at-reads
 use Rattle.slots.proofs.code_of.Reads as code-of-reads
 use Rattle.slots.proofs.is_directory.Reads as is-directory-reads
-use Rattle.slots.proofs.parent_of.Reads as parent-of-reads
 use Rattle.treelists.proofs.put_number.Reads as put-number-reads
 use Rattle.treelists.proofs.+fill.{statement}
 use Rattle.treelists.proofs.+fill.Tie.{close}
 
-abbrev μ-fill : Measures 2 fill-kinds.ps ℕ
+abbrev μ-fill : Measures 3 fill-kinds.ps ℕ
 μ-fill κs a = a .1 .1 .0
 
-abbrev fill-at : ℕ → In 2 fill-kinds.ps
-fill-at t = and 2 fill-kinds.ps (is 2 fill-kinds.ps μ-fill t) fill.Pre
+abbrev fill-at : ℕ → In 3 fill-kinds.ps
+fill-at t = and 3 fill-kinds.ps (is 3 fill-kinds.ps μ-fill t) fill.Pre
 
-abbrev fill-below : ℕ → In 2 fill-kinds.ps
-fill-below t = and 2 fill-kinds.ps (falls 2 fill-kinds.ps _<_ μ-fill t) fill.Pre
+abbrev fill-below : ℕ → In 3 fill-kinds.ps
+fill-below t = and 3 fill-kinds.ps (falls 3 fill-kinds.ps _<_ μ-fill t) fill.Pre
 
 -- what the calls ask and give, that of itself below the measure t
 abbrev claims : ℕ → fill-lts.Claims
-claims t = (slot-at-reads.Asked, slot-at-reads.Learnt, is-live-reads.Asked, is-live-reads.Learnt, parent-of-reads.Asked, parent-of-reads.Learnt, put-number-reads.Asked, put-number-reads.Learnt, is-directory-reads.Asked, is-directory-reads.Learnt, code-of-reads.Asked, code-of-reads.Learnt, fill-below t, fill.Post)
+claims t = (link-at-reads.Asked, link-at-reads.Learnt, slot-at-reads.Asked, slot-at-reads.Learnt, put-number-reads.Asked, put-number-reads.Learnt, is-directory-reads.Asked, is-directory-reads.Learnt, code-of-reads.Asked, code-of-reads.Learnt, fill-below t, fill.Post)
 
 abbrev fill-Inv-loop : fill-lts.InvT-loop
-fill-Inv-loop dir end left code list₀ from at₀ i₀ list at i = (i ≤ slotsRead dir) × Filled (directory dir) left code list₀ from i at list
+fill-Inv-loop dir links left code list₀ from at₀ i₀ list at i = Walked (directory dir) left code list₀ from i at list
 
 abbrev fill-μ-loop : fill-lts.MeasureT-loop
-fill-μ-loop dir end left code list₀ from at₀ i₀ list at i = end - i
+fill-μ-loop dir links left code list₀ from at₀ i₀ list at i = slots - i
 
--- the slot that the loop looks at is read
-read : (t : ℕ) (c : fill-lts.In-loop (claims t) (fill-at t) fill.Post fill-Inv-loop fill-μ-loop) → c .before .loop .i < slotsRead (now (c .before .before .before .before .args .dir))
-read t c = omega (arith, c .before .before .before .before .pre .1 .read, c .loop-test .taken)
+-- the slot that the loop looks at is in the directory
+looked : (t : ℕ) (s : fill-lts.After-slot-at (claims t) (fill-at t) fill.Post fill-Inv-loop fill-μ-loop) → Inside (directory (now (s .before .before .before .before .before .before .args .dir))) (s .before .before .before .before .before .before .args .code) (s .before .before .loop .i)
+looked t s = s .before .before .loop .inv .found (s .before .loop-test .taken)
 
-low : (t : ℕ) (c : fill-lts.In-loop (claims t) (fill-at t) fill.Post fill-Inv-loop fill-μ-loop) → c .before .loop .i < slots
-low t c = omega (arith, read t c, read-most (now (c .before .before .before .before .args .dir)))
+-- the next slot is a later one
+later : (t : ℕ) (k : fill-lts.After-link-at2 (claims t) (fill-at t) fill.Post fill-Inv-loop fill-μ-loop) → slots - k .link-at2 .result < slots - k .before .before .before .before .before .before .before .loop .i
+later t k =
+    let s = k .before .before .before .before .before in
+    let b = s .before .before .before .before .before .before in
+    walked-less _ (b .args .left) (b .args .code) (now (b .args .list)) (b .args .from) (s .before .before .loop .i) _ (b .pre .1 .linked) (s .before .loop-test .taken) _ (met-here _ _ _ (looked t s) _ (s .slot-at .ensures)) _ (k .link-at2 .ensures)
+
+fill-link-at-requires : (t : ℕ) → fill-lts.Need-link-at-requires (claims t) (fill-at t) fill.Post fill-Inv-loop fill-μ-loop
+fill-link-at-requires t c κs = search needs
 
 fill-loop-holds : (t : ℕ) → fill-lts.Need-loop-holds (claims t) (fill-at t) fill.Post fill-Inv-loop fill-μ-loop
 fill-loop-holds t c =
-    (omega arith, filled-none _ _ _ _ _)
+    let b = c .before .before .before in
+    walked-first _ _ _ _ _ _ (b .pre .1 .linked) (b .pre .1 .coded) _ (c .link-at .ensures)
 
 fill-slot-at-requires : (t : ℕ) → fill-lts.Need-slot-at-requires (claims t) (fill-at t) fill.Post fill-Inv-loop fill-μ-loop
 fill-slot-at-requires t c κs = search needs
 
-fill-add-i : (t : ℕ) → fill-lts.Need-add-i (claims t) (fill-at t) fill.Post fill-Inv-loop fill-μ-loop
-fill-add-i t c = search needs
-
-fill-is-live-requires : (t : ℕ) → fill-lts.Need-is-live-requires (claims t) (fill-at t) fill.Post fill-Inv-loop fill-μ-loop
-fill-is-live-requires t c κs = search needs
-
-fill-parent-of-requires : (t : ℕ) → fill-lts.Need-parent-of-requires (claims t) (fill-at t) fill.Post fill-Inv-loop fill-μ-loop
-fill-parent-of-requires t c κs = search needs
+fill-add-put-number : (t : ℕ) → fill-lts.Need-add-put-number (claims t) (fill-at t) fill.Post fill-Inv-loop fill-μ-loop
+fill-add-put-number t c =
+    omega (arith, c .before .before .loop-test .taken)
 
 fill-put-number-requires : (t : ℕ) → fill-lts.Need-put-number-requires (claims t) (fill-at t) fill.Post fill-Inv-loop fill-μ-loop
-fill-put-number-requires t c κs = omega (arith, low t (c .before .before .before .before .before .before))
+fill-put-number-requires t c κs =
+    omega (arith, c .before .before .loop-test .taken)
 
 fill-add-at : (t : ℕ) → fill-lts.Need-add-at (claims t) (fill-at t) fill.Post fill-Inv-loop fill-μ-loop
 fill-add-at t c =
-    let l = c .before .before .before .before .before .before .before .before .before in
+    let l = c .before .before .before .before .before in
     let a = l .before .loop in
-    omega (arith, filled-low _ _ _ _ _ (a .i) _ _ (a .inv .1) (omega (arith, low t l)) (l .before .before .before .before .pre .1 .room))
+    omega (arith, filled-low _ _ _ _ _ (a .i) _ _ (a .inv .filled) (a .inv .most) (l .before .before .before .before .before .pre .1 .room))
+
+fill-add-link-at : (t : ℕ) → fill-lts.Need-add-link-at (claims t) (fill-at t) fill.Post fill-Inv-loop fill-μ-loop
+fill-add-link-at t c =
+    omega (arith, c .before .before .before .before .before .loop-test .taken)
+
+fill-link-at-requires-2 : (t : ℕ) → fill-lts.Need-link-at-requires-2 (claims t) (fill-at t) fill.Post fill-Inv-loop fill-μ-loop
+fill-link-at-requires-2 t c κs = search needs
 
 fill-is-directory-requires : (t : ℕ) → fill-lts.Need-is-directory-requires (claims t) (fill-at t) fill.Post fill-Inv-loop fill-μ-loop
 fill-is-directory-requires t c κs = search needs
@@ -86,108 +94,82 @@ fill-code-of-requires t c κs = search needs
 
 fill-fill-requires : (t : ℕ) → fill-lts.Need-fill-requires (claims t) (fill-at t) fill.Post fill-Inv-loop fill-μ-loop
 fill-fill-requires t c κs =
-    let o = c .before in
-    let z = o .before in
-    let d = z .before .before in
-    let p = d .before .before .before in
-    let w = p .before .before in
-    let y = w .before .before in
-    let s = y .before .before in
-    let l = s .before in
-    let a = l .before .loop in
-    let b = l .before .before .before .before in
-    let e = met-live _ _ (s .slot-at .ensures) (y .before .is-live .ensures) (read t (s .before)) (y .if1 .taken) in (
-      omega (arith, b .pre .0, z .if4 .taken),
+    let z = c .before .before in
+    let k = z .before .before .before in
+    let s = k .before .before .before .before .before in
+    let a = s .before .before .loop in
+    let b = s .before .before .before .before .before .before in
+    let o = looked t s in
+    let e = met-here _ _ _ o _ (s .slot-at .ensures) in
+    let p = met-inside _ _ _ o _ (s .slot-at .ensures) in (
+      omega (arith, b .pre .0, z .if2 .taken),
       record {
-        read = b .pre .1 .read;
-        room = folder-room _ _ _ _ _ (a .i) _ _ (a .inv .1) _ e (sym (w .before .parent-of .ensures .0) ∙ w .if2 .taken)
-            (sym (d .is-directory .ensures) ∙ z .before .if3 .taken) (z .if4 .taken) (low t l) (b .pre .1 .room) _ (o .code-of .ensures .0);
+        linked = b .pre .1 .linked;
+        coded = c .before .code-of .ensures .1;
+        room = folder-room _ _ _ _ _ (a .i) _ _ (a .inv .filled) _ e p (sym (z .before .before .is-directory .ensures) ∙ z .before .if1 .taken)
+            (z .if2 .taken) (s .before .loop-test .taken) (b .pre .1 .room) _ (c .before .code-of .ensures .0);
       },
     )
 
 fill-loop-less : (t : ℕ) → fill-lts.Need-loop-less (claims t) (fill-at t) fill.Post fill-Inv-loop fill-μ-loop
-fill-loop-less t c = search needs
+fill-loop-less t c =
+    later t (c .before .before .before .before .before .before .before .before)
 
 fill-loop-again : (t : ℕ) → fill-lts.Need-loop-again (claims t) (fill-at t) fill.Post fill-Inv-loop fill-μ-loop
 fill-loop-again t c =
     let f = c .before .before in
-    let o = f .before .before in
-    let z = o .before in
-    let d = z .before .before in
-    let p = d .before .before .before in
-    let w = p .before .before in
-    let y = w .before .before in
-    let s = y .before .before in
+    let g = f .before .before in
+    let z = g .before in
+    let k = z .before .before .before in
+    let s = k .before .before .before .before .before in
     let a = s .before .before .loop in
-    let e = met-live _ _ (s .slot-at .ensures) (y .before .is-live .ensures) (read t (s .before)) (y .if1 .taken) in (
-      omega (arith, read t (s .before)),
-      filled-folder _ _ _ _ _ (a .i) _ _ (a .inv .1) _ e (sym (w .before .parent-of .ensures .0) ∙ w .if2 .taken)
-          (sym (d .is-directory .ensures) ∙ z .before .if3 .taken) (z .if4 .taken) _ (p .put-number .ensures) _ (o .code-of .ensures .0) _ _ (f .fill .ensures),
-    )
+    let b = s .before .before .before .before .before .before in
+    let o = looked t s in
+    let e = met-here _ _ _ o _ (s .slot-at .ensures) in
+    let p = met-inside _ _ _ o _ (s .slot-at .ensures) in
+    walked-next _ _ _ _ _ (a .i) _ _
+    (filled-folder _ _ _ _ _ (a .i) _ _ (a .inv .filled) _ e p (sym (z .before .before .is-directory .ensures) ∙ z .before .if1 .taken) (z .if2 .taken)
+    _ (k .before .before .before .put-number .ensures) _ (g .code-of .ensures .0) _ _ (f .fill .ensures)) _ (b .pre .1 .linked) (s .before .loop-test .taken) _ e p _ (k .link-at2 .ensures)
 
 fill-loop-less-2 : (t : ℕ) → fill-lts.Need-loop-less-2 (claims t) (fill-at t) fill.Post fill-Inv-loop fill-μ-loop
-fill-loop-less-2 t c = search needs
+fill-loop-less-2 t c =
+    later t (c .before .before .before)
 
 fill-loop-again-2 : (t : ℕ) → fill-lts.Need-loop-again-2 (claims t) (fill-at t) fill.Post fill-Inv-loop fill-μ-loop
 fill-loop-again-2 t c =
-    let p = c .before .before .before .before .before in
-    let w = p .before .before in
-    let y = w .before .before in
-    let s = y .before .before in
+    let k = c .before .before .before in
+    let s = k .before .before .before .before .before in
     let a = s .before .before .loop in
-    let e = met-live _ _ (s .slot-at .ensures) (y .before .is-live .ensures) (read t (s .before)) (y .if1 .taken) in (
-      omega (arith, read t (s .before)),
-      filled-one _ _ _ _ _ (a .i) _ _ (a .inv .1) _ e (sym (w .before .parent-of .ensures .0) ∙ w .if2 .taken)
-          (inside-last _ _ _ (c .if4 .left)) _ (p .put-number .ensures),
-    )
+    let b = s .before .before .before .before .before .before in
+    let o = looked t s in
+    let e = met-here _ _ _ o _ (s .slot-at .ensures) in
+    let p = met-inside _ _ _ o _ (s .slot-at .ensures) in
+    walked-next _ _ _ _ _ (a .i) _ _
+    (filled-one _ _ _ _ _ (a .i) _ _ (a .inv .filled) _ e p (inside-last _ _ _ (c .if2 .left)) _ (k .before .before .before .put-number .ensures)) _ (b .pre .1 .linked) (s .before .loop-test .taken) _ e p _ (k .link-at2 .ensures)
 
 fill-loop-less-3 : (t : ℕ) → fill-lts.Need-loop-less-3 (claims t) (fill-at t) fill.Post fill-Inv-loop fill-μ-loop
-fill-loop-less-3 t c = search needs
+fill-loop-less-3 t c =
+    later t (c .before .before)
 
 fill-loop-again-3 : (t : ℕ) → fill-lts.Need-loop-again-3 (claims t) (fill-at t) fill.Post fill-Inv-loop fill-μ-loop
 fill-loop-again-3 t c =
-    let p = c .before .before .before .before in
-    let w = p .before .before in
-    let y = w .before .before in
-    let s = y .before .before in
+    let k = c .before .before in
+    let s = k .before .before .before .before .before in
     let a = s .before .before .loop in
-    let e = met-live _ _ (s .slot-at .ensures) (y .before .is-live .ensures) (read t (s .before)) (y .if1 .taken) in (
-      omega (arith, read t (s .before)),
-      filled-one _ _ _ _ _ (a .i) _ _ (a .inv .1) _ e (sym (w .before .parent-of .ensures .0) ∙ w .if2 .taken)
-          (inside-file _ _ _ (sym (c .before .is-directory .ensures) ∙ c .if3 .left)) _ (p .put-number .ensures),
-    )
-
-fill-loop-less-4 : (t : ℕ) → fill-lts.Need-loop-less-4 (claims t) (fill-at t) fill.Post fill-Inv-loop fill-μ-loop
-fill-loop-less-4 t c = search needs
-
-fill-loop-again-4 : (t : ℕ) → fill-lts.Need-loop-again-4 (claims t) (fill-at t) fill.Post fill-Inv-loop fill-μ-loop
-fill-loop-again-4 t c =
-    let y = c .before .before in
-    let s = y .before .before in
-    let a = s .before .before .loop in
-    let e = met-live _ _ (s .slot-at .ensures) (y .before .is-live .ensures) (read t (s .before)) (y .if1 .taken) in
-    (omega (arith, read t (s .before)), filled-skip _ _ _ _ _ (a .i) _ _ (a .inv .1) (level-other _ _ _ (a .i) _ e (λ q. c .if2 .left (c .before .parent-of .ensures .0 ∙ q))))
-
-fill-loop-less-5 : (t : ℕ) → fill-lts.Need-loop-less-5 (claims t) (fill-at t) fill.Post fill-Inv-loop fill-μ-loop
-fill-loop-less-5 t c = search needs
-
-fill-loop-again-5 : (t : ℕ) → fill-lts.Need-loop-again-5 (claims t) (fill-at t) fill.Post fill-Inv-loop fill-μ-loop
-fill-loop-again-5 t c =
-    let s = c .before .before in
-    let a = s .before .before .loop in
-    let e = met-dead _ _ (s .slot-at .ensures) (c .before .is-live .ensures) (c .if1 .left) in
-    (omega (arith, read t (s .before)), filled-skip _ _ _ _ _ (a .i) _ _ (a .inv .1) (level-dead _ _ _ (a .i) e))
+    let b = s .before .before .before .before .before .before in
+    let o = looked t s in
+    let e = met-here _ _ _ o _ (s .slot-at .ensures) in
+    let p = met-inside _ _ _ o _ (s .slot-at .ensures) in
+    walked-next _ _ _ _ _ (a .i) _ _
+    (filled-one _ _ _ _ _ (a .i) _ _ (a .inv .filled) _ e p (inside-file _ _ _ (sym (c .before .is-directory .ensures) ∙ c .if1 .left)) _ (k .before .before .before .put-number .ensures)) _ (b .pre .1 .linked) (s .before .loop-test .taken) _ e p _ (k .link-at2 .ensures)
 
 fill-same-length : (t : ℕ) → fill-lts.Need-same-length (claims t) (fill-at t) fill.Post fill-Inv-loop fill-μ-loop
 fill-same-length t c =
-    filled-long _ _ _ _ _ _ _ _ (c .before .loop .inv .1)
+    filled-long _ _ _ _ _ _ _ _ (c .before .loop .inv .filled)
 
 fill-returns : (t : ℕ) → fill-lts.Need-returns (claims t) (fill-at t) fill.Post fill-Inv-loop fill-μ-loop
 fill-returns t c =
-    let a = c .before .loop in
-    let b = c .before .before .before .before in
-    filled-all _ _ _ _ _ _ _ _ (a .inv .1) (omega (arith, a .inv .0, read-most (now (b .args .dir))))
-    (λ k h. directory-unread _ k (omega (arith, b .pre .1 .read, c .loop-test .left)))
+    walked-all _ _ _ _ _ _ _ _ (c .before .loop .inv) (c .loop-test .left)
 
 pub +fill-spec : {M : Type 1} → statement M
 +fill-spec = close μ-fill λ t. fill-lts.spec (claims t)
@@ -195,13 +177,14 @@ pub +fill-spec : {M : Type 1} → statement M
     fill.Post
     fill-Inv-loop
     fill-μ-loop
+    (fill-link-at-requires t)
     (fill-loop-holds t)
     (fill-slot-at-requires t)
-    (fill-add-i t)
-    (fill-is-live-requires t)
-    (fill-parent-of-requires t)
+    (fill-add-put-number t)
     (fill-put-number-requires t)
     (fill-add-at t)
+    (fill-add-link-at t)
+    (fill-link-at-requires-2 t)
     (fill-is-directory-requires t)
     (fill-sub-fill t)
     (fill-code-of-requires t)
@@ -212,9 +195,5 @@ pub +fill-spec : {M : Type 1} → statement M
     (fill-loop-again-2 t)
     (fill-loop-less-3 t)
     (fill-loop-again-3 t)
-    (fill-loop-less-4 t)
-    (fill-loop-again-4 t)
-    (fill-loop-less-5 t)
-    (fill-loop-again-5 t)
     (fill-same-length t)
     (fill-returns t)

@@ -1,5 +1,6 @@
 -- `treelists::asked_code` meets its contract.
 use mathlib.Core.Path.{_≡_, sym, ap, _∙_}
+use native.Mathlib.Omega.{arith}
 use Rattle.directory.specs.Find.{foundAt}
 use Rattle.treelists.proofs.Named.{root-code, code-none, code-found}
 use borrow.Author.Needs.{needs}
@@ -7,7 +8,7 @@ use Rattle.treelists.proofs.asked_code.Statement.{statement}
 use Rattle.treelists.proofs.asked_code.Tie as tie
 
 returns : tie.Need-returns
-returns c = sym (root-code _ _ (c .if1 .taken))
+returns c = (sym (root-code _ _ (c .if1 .taken)), omega arith)
 
 find-requires : tie.Need-find-requires
 find-requires c κs = search needs
@@ -27,14 +28,14 @@ code-of-requires c κs = search needs
 returns-2 : tie.Need-returns-2
 returns-2 c =
     let f = c .before .before in
-    sym (code-none _ _ (f .before .if1 .left) (sym (f .find .ensures) ∙ ap foundAt (c .enum-told .given .1)))
+    (sym (code-none _ _ (f .before .if1 .left) (sym (f .find .ensures) ∙ ap foundAt (c .enum-told .given .1))), omega arith)
 
 returns-3 : tie.Need-returns-3
 returns-3 c =
     let s = c .before in
     let i = s .before .before in
     let f = i .before .before in
-    c .code-of .ensures .0 ∙ sym (code-found _ _ (f .before .if1 .left) _ (sym (f .find .ensures) ∙ ap foundAt (i .i .given .1)) _ (s .slot-at .ensures))
+    (c .code-of .ensures .0 ∙ sym (code-found _ _ (f .before .if1 .left) _ (sym (f .find .ensures) ∙ ap foundAt (i .i .given .1)) _ (s .slot-at .ensures)), c .code-of .ensures .1)
 
 pub asked-code-spec : {M : Type 1} → statement M
 asked-code-spec =

@@ -15,10 +15,10 @@ no-requires c κs = search needs
 returns : tie.Need-returns
 returns c =
     let h = c .before .before in
-    clean-short _ _ _ (h .before .before .before .pre) _ _ (sym (h .has-room .ensures) ∙ not-true _ (c .before .if1 .taken)) (c .no .ensures)
+    clean-short _ _ _ _ (h .before .before .before .pre) _ (sym (h .has-room .ensures) ∙ not-true _ (c .before .if1 .taken)) (c .no .ensures)
 
 fill-requires : tie.Need-fill-requires
-fill-requires c κs = clean-room _ _ _ (c .before .before .before .before .before .pre) _
+fill-requires c κs = clean-room _ _ _ _ (c .before .before .before .before .before .pre)
 
 same-length : tie.Need-same-length
 same-length c = search needs
@@ -28,7 +28,7 @@ returns-2 c =
     let f = c .before .before in
     let e = f .before .before in
     let h = e .before in
-    clean-listed _ _ _ (h .before .before .before .pre) _ _ _ _ (sym (h .has-room .ensures) ∙ not-false _ (e .if1 .left)) (f .fill .ensures)
+    clean-listed _ _ _ _ (h .before .before .before .pre) _ _ _ (sym (h .has-room .ensures) ∙ not-false _ (e .if1 .left)) (f .fill .ensures)
 
 pub list-code-spec : {M : Type 1} → statement M
 list-code-spec =

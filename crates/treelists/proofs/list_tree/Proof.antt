@@ -46,18 +46,19 @@ enum-known-r-2 c = search needs
 enum-told-3 : tie.Need-enum-told-3
 enum-told-3 c = search needs
 
-slots-read-requires : tie.Need-slots-read-requires
-slots-read-requires c κs = search needs
+link-slots-requires : tie.Need-link-slots-requires
+link-slots-requires c κs = search needs
 
 asked-code-requires : tie.Need-asked-code-requires
 asked-code-requires c κs = search needs
 
 list-code-requires : tie.Need-list-code-requires
 list-code-requires c κs =
-    let r = c .before .before in
-    let t = r .before .before .before .before in
+    let o = c .before in
+    let k = o .before .before in
+    let t = k .before .before .before .before in
     let e = clear t in
-    record { none = e; read = r .slots-read .ensures .0; number = nests-number _ _ (t .before .before .survey-nesting .ensures) e }
+    record { none = e; linked = k .link-slots .ensures; number = nests-number _ _ (t .before .before .survey-nesting .ensures) e; coded = o .asked-code .ensures .1 }
 
 returns : tie.Need-returns
 returns c = told-unsound _ _ _ _ (sym (c .before .before .before .check .ensures) ∙ ap replyOf (c .before .r .given .1))
@@ -80,10 +81,10 @@ returns-4 : tie.Need-returns-4
 returns-4 c =
     let l = c .before .before in
     let o = l .before .before in
-    let s = o .before .before in
+    let s = o .before .before .before in
     let m = s .before .before in
     let t = m .before in
-    l .list-code .ensures ∙ told-listed _ _ _ (accepted (t .before .before .before)) (clear t) (sym (m .name-rows .ensures) ∙ ap replyOf (s .enum-told3 .given .1)) _ (o .asked-code .ensures)
+    l .list-code .ensures ∙ told-listed _ _ _ (accepted (t .before .before .before)) (clear t) (sym (m .name-rows .ensures) ∙ ap replyOf (s .enum-told3 .given .1)) _ (o .asked-code .ensures .0)
 
 pub list-tree-spec : {M : Type 1} → statement M
 list-tree-spec =
@@ -98,7 +99,7 @@ list-tree-spec =
     name-rows-requires
     enum-known-r-2
     enum-told-3
-    slots-read-requires
+    link-slots-requires
     asked-code-requires
     list-code-requires
     returns
