@@ -1,6 +1,6 @@
 /* Varnucht: disk images of the SAM Coupé. Check a disk, list it, read a file's body, whole or piece by piece, give its start
  * address, tell what lies beneath a subdirectory, find a raw sector; save, erase, rename, hide, show, protect and release
- * files, gather a scattered one; count a shelf of disks. C99 and C++. Link libvarnucht.a.
+ * files, erase a handful at once, gather a scattered one; count a shelf of disks. C99 and C++. Link libvarnucht.a.
  *
  * Contents: 1 what a call takes and answers, 2 sizes, 3 refusals, 4 the calls that read, 5 the calls that change, and how
  * to write what they changed, 6 reading a listing, and what a disk says of itself, 7 names and kinds, 8 what is proved and
@@ -13,17 +13,17 @@
  * A slice is a pointer and then its length in bytes. It may have any length and any content: every call on every input ends
  * and answers. NULL with length 0 is an empty slice.
  *
- * A slice with a `const` pointer is only read. A slice without one (`out`, `slots`, `list`, the `image` of a change) may be
- * changed, and must not overlap any other slice of the same call. Slices that are only read may overlap each other. The
- * likely mistake is a name that points into the image that the call changes, or into the buffer that it fills: copy the name
- * out first.
+ * A slice with a `const` pointer is only read. A slice without one (`out`, `slots`, `answers`, `list`, the `image` of a
+ * change) may be changed, and must not overlap any other slice of the same call. Slices that are only read may overlap each
+ * other. The likely mistake is a name that points into the image that the call changes, or into the buffer that it fills:
+ * copy the name out first.
  *
  * You own every buffer before, during and after a call. The library allocates nothing, keeps no pointer and has no state:
  * what a call does depends on its arguments alone. So calls on different buffers may run at once on different threads, and
  * calls that only read may share an image. Nobody may read or write a buffer while a call that may change it is running.
- * Nothing outside is called but memcpy, memset and their like. A save needs less than 8 KiB of stack, a gather less than 3
- * KiB, every other call less than 2 KiB; but varnucht_tree less than 7 KiB where no more than ten subdirectories lie inside
- * each other, and 96 bytes more for each beyond them: less than 30 KiB on any disk.
+ * Nothing outside is called but memcpy, memset and their like. A save needs less than 8 KiB of stack, an erase of many less
+ * than 5 KiB, a gather less than 3 KiB, every other call less than 2 KiB; but varnucht_tree less than 7 KiB where no more than
+ * ten subdirectories lie inside each other, and 96 bytes more for each beyond them: less than 30 KiB on any disk.
  *
  * Every call answers one number with four parts, which the functions below take apart:
  *
@@ -83,6 +83,7 @@ enum varnucht_size {
     VARNUCHT_SAVE_LIST_BYTES = 3124,    /* `list` of varnucht_save: 2 * 1,562, the data sectors and two of the directory */
     VARNUCHT_GATHER_LIST_BYTES = 1562,  /* `list` of varnucht_gather: 2 * 781, half of all data sectors and one of the
                                            directory, since a file moves to as many sectors as it leaves */
+    VARNUCHT_ERASE_LIST_BYTES = 778,    /* `list` of varnucht_erase_many: 2 * 389, every sector of the biggest directory */
     VARNUCHT_CHANGE_LIST_BYTES = 2,     /* `list` of every other change */
     VARNUCHT_REPORT_BYTES = 496         /* a report: 124 numbers of four bytes */
 };
@@ -92,7 +93,8 @@ enum varnucht_size {
  * that applies of 12 to 20. So 12 to 20 say that the disk itself is good. varnucht_check_release alone tests 22 too,
  * directly after 7 at a slot. varnucht_tree alone tests 26 at every live slot, the lowest slot first, and then 27 and 28
  * likewise; both come before 12 to 20. varnucht_erase alone tests 29, after 17 and before 20, and varnucht_gather alone 32,
- * after 15 and before 20. varnucht_sector tests 1 and then 21, and looks at no directory. varnucht_next refuses nothing. The
+ * after 15 and before 20. varnucht_erase_many tests 23 and then 20, and of each name 12, 15, 17 and 29, which it answers for
+ * that name and which refuse nothing of the call. varnucht_sector tests 1 and then 21, and looks at no directory. varnucht_next refuses nothing. The
  * calls on reports test 20 and then 31. 3 is given no more, by any call: its number stays reserved, and "1 to 11" below is
  * without it.
  *
@@ -135,6 +137,8 @@ enum varnucht_reason {
     /* The disk is not fit to go out. */
     VARNUCHT_WASTE_SECTORS = 22,        /* carried kind, and the count is above the least that its length needs: the least n
                                            with 510 * n at least 9 + length (varnucht_check_release alone) */
+    /* The names of a handful are not ten bytes each. */
+    VARNUCHT_NAMES_NOT_TENS = 23,       /* the names are not a whole number of tens (varnucht_erase_many alone) */
     /* The disk is not good, as with 1 to 11; the same calls can give these, but varnucht_sector. */
     VARNUCHT_TRACKS_OUT_OF_RANGE = 24,  /* the number of directory tracks beyond four, byte 255 of slot 1, is 36 to 254 */
     VARNUCHT_BODY_TOO_LONG = 25,        /* kind 1 to 4, and 510 * count is below 9 + the length in the file's header */
@@ -185,6 +189,7 @@ static inline const char *varnucht_words(unsigned refusal) {
     case VARNUCHT_NO_SUCH_SECTOR: return "no such drive, track or sector";
     case VARNUCHT_WASTE_SECTORS:
         return "carried kind, and the count is above the least that its length needs (waste sectors behind the file)";
+    case VARNUCHT_NAMES_NOT_TENS: return "the names are not a whole number of tens (erase many)";
     case VARNUCHT_TRACKS_OUT_OF_RANGE:
         return "the number of directory tracks beyond four, byte 255 of slot 1, is 36 to 254";
     case VARNUCHT_BODY_TOO_LONG: /* with a multiplication sign */
@@ -389,8 +394,12 @@ static inline unsigned varnucht_report_class_first(unsigned c) { return c == 0 ?
  * You may rely on that only if no sector reaches the storage before one that stands earlier in the list, and none reaches it
  * in part. Where a write fails, the image in memory is ahead of the file: read it again from there before the next change.
  *
- * `list`: VARNUCHT_SAVE_LIST_BYTES for a save, VARNUCHT_GATHER_LIST_BYTES for a gather and VARNUCHT_CHANGE_LIST_BYTES for
- * any other change always suffice. */
+ * varnucht_erase_many alone makes several changes at once, and each sector of its list is a change of its own: stopped
+ * after some of them, the file holds a disk that varnucht_check accepts, on which the files erased in the sectors written
+ * are gone, and every other is still there.
+ *
+ * `list`: VARNUCHT_SAVE_LIST_BYTES for a save, VARNUCHT_GATHER_LIST_BYTES for a gather, VARNUCHT_ERASE_LIST_BYTES for an
+ * erase of many and VARNUCHT_CHANGE_LIST_BYTES for any other change always suffice. */
 
 /* The sector number at place i of a list, i below the value answered. */
 static inline unsigned varnucht_listed(const uint8_t *list, size_t i) { return list[2 * i] + 256u * list[2 * i + 1]; }
@@ -420,6 +429,24 @@ uint64_t varnucht_save(uint8_t *image, size_t image_len, uint32_t kind, const ui
  * refused 29. Value: 1. Refusals: 1 to 11, 24, 25, 12, 15, 17, 29, 20. */
 uint64_t varnucht_erase(uint8_t *image, size_t image_len, const uint8_t *name, size_t name_len, uint8_t *list,
                         size_t list_len);
+
+/* Erases a handful of files at once: those of the names, one after the other, as varnucht_erase does. The disk is checked
+ * once for all of them.
+ *   names     any number of names, none too, of ten bytes each, laid end to end; fill a shorter one with spaces (32)
+ *   answers   gets a byte for each name, in their order: 0 where its file is erased, else the number that varnucht_erase
+ *             would have answered there, 12 (its first byte is 0), 15, 17 or 29. Such a number refuses nothing of the call.
+ *             So a name that is given again is answered 15, and a subdirectory is erased where the names before it have
+ *             emptied it
+ *   list      gets the directory's sectors that changed, each once and rising
+ * What is not filled of `answers` and `list` stays. Value: how many sectors, 0 to 389. `answers`: names_len / 10 bytes.
+ * `list`: two bytes for each sector, and VARNUCHT_ERASE_LIST_BYTES always suffice.
+ *
+ * EACH SECTOR OF THE LIST IS A CHANGE OF ITS OWN. Where the writing is stopped, the files erased in the sectors written are
+ * gone, all others are still there, and varnucht_check accepts the disk. A file may be left there whose subdirectory is
+ * gone: varnucht_tree refuses such a disk 27, and the same names given again erase the rest.
+ * Refusals: 1 to 11, 24, 25, 23, 20 (`answers` or `list` too short). Stack: 4,440 bytes. */
+uint64_t varnucht_erase_many(uint8_t *image, size_t image_len, const uint8_t *names, size_t names_len, uint8_t *answers,
+                             size_t answers_len, uint8_t *list, size_t list_len);
 
 /* Gives a file a new name (section 7). It may be the file's own with other capitals. Refused 16 where another file has the
  * name, capitals or not (slot: that file's), or where the file has it already, byte for byte (slot: its own). Value: 1.
@@ -584,8 +611,8 @@ static inline size_t varnucht_disk_name(const uint8_t *image, uint8_t *name) {
  * Kind 21 is a subdirectory, which MasterDOS makes: a slot with a name and no sectors. It is listed, renamed, marked and,
  * where nothing is in it, erased like a file. Byte 250 of its slot is its code, and byte 254 of every live slot is the code
  * of the subdirectory that it is in, or 0: then it is in the root. Subdirectories may be in each other. A name is unique over
- * the whole disk, whatever it is in, so no call but varnucht_tree looks at the codes, and varnucht_erase at those of a
- * subdirectory. A save goes to the root. */
+ * the whole disk, whatever it is in, so no call but varnucht_tree looks at the codes, and varnucht_erase and
+ * varnucht_erase_many at those of a subdirectory. A save goes to the root. */
 enum varnucht_kind {
     VARNUCHT_KIND_ZX_BASIC = 1,         /* kinds of the Spectrum */
     VARNUCHT_KIND_ZX_NUMBERS = 2,

@@ -1,4 +1,4 @@
-//! The nineteen calls on byte slices: safe, and total on every input, but without types that rule anything out.
+//! The twenty calls on byte slices: safe, and total on every input, but without types that rule anything out.
 //!
 //! Each function hands its slices to the C layer and gives back the [`Answer`]. Nothing is decided here. A refused call
 //! changes no byte of anything lent. In the changes, `list` takes the numbers of the sectors to write, two bytes to a number,
@@ -137,6 +137,25 @@ pub fn save(image: &mut [u8], wish: &Wish, list: &mut [u8]) -> Answer {
             wish.information.len(),
             wish.body.as_ptr(),
             wish.body.len(),
+            list.as_mut_ptr(),
+            list.len(),
+        )
+    })
+}
+
+/// Erases the files of these names, ten bytes to each, laid end to end, one after the other. `answers` gets a byte for each: 0,
+/// or the number that refuses it, 12, 15, 17 or 29, which refuses nothing of the rest. Value: how many sectors are to be
+/// written; 778 bytes are always enough for their list.
+pub fn erase_many(image: &mut [u8], names: &[u8], answers: &mut [u8], list: &mut [u8]) -> Answer {
+    // SAFETY: pointers and lengths are those of slices; `image`, `answers` and `list` are borrowed alone.
+    Answer::from_number(unsafe {
+        raw::varnucht_erase_many(
+            image.as_mut_ptr(),
+            image.len(),
+            names.as_ptr(),
+            names.len(),
+            answers.as_mut_ptr(),
+            answers.len(),
             list.as_mut_ptr(),
             list.len(),
         )

@@ -41,7 +41,8 @@ impl<'a> NewFile<'a> {
 }
 
 /// A change of a disk, not made yet. [`Disk::change`](crate::Disk::change) makes it, and
-/// [`Disk::try_change`](crate::Disk::try_change) tells what it would do.
+/// [`Disk::try_change`](crate::Disk::try_change) tells what it would do. A handful of files erased at once is none of these:
+/// [`Disk::erase_many`](crate::Disk::erase_many) answers for each of them.
 #[derive(Clone, Copy, Debug)]
 pub enum Change<'a> {
     /// Save a file under a new name. Refused 16 (the name is taken), 18 (no slot) and 19 (too few sectors).

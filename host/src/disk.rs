@@ -4,6 +4,7 @@ use crate::chain;
 use crate::change::{Change, NewFile};
 use crate::directory::{Directory, DiskName};
 use crate::entry::Entry;
+use crate::handful::{self, Erased};
 use crate::image::Image;
 use crate::listing::Listing;
 use crate::name::{Name, NewName};
@@ -227,6 +228,40 @@ impl Disk {
     /// Erases a file, or a directory that nothing is in: [`Change::Erase`]. Refused 15, and 17 and 29 with the slot.
     pub fn erase(&mut self, name: &Name) -> Result<Sectors<'_>, Refused> {
         self.change(&Change::Erase(*name))
+    }
+
+    /// Erases the files of these names, one after the other, by one call: for each it answers whether it is done or why not,
+    /// 15, 17 or 29, as [`erase`](Disk::erase) does; what is refused refuses nothing of the rest. The same name again is not
+    /// there (15), and a directory that the names before it emptied is erased too. The disk is looked at twice, however many
+    /// they are.
+    ///
+    /// The directory's sectors that changed are named once each, rising, and each is a change of its own: cut short, the files
+    /// erased in the sectors written are gone, and all others are still there. Where a directory stands in one of them, and
+    /// what was in it in a later one, [`tree`](Disk::tree) refuses what is left (27); the same names again do the rest.
+    ///
+    /// ```
+    /// use varnucht::{CarriedKind, Disk, Image, Name, NewFile, NewName, Refusal, Start};
+    ///
+    /// let mut disk = Disk::open(Image::blank())?;
+    /// for name in ["ONE", "TWO", "THREE", "FOUR"] {
+    ///     let file = NewFile::new(CarriedKind::Code, NewName::new(name)?, Start::new(1, 32_768)?, b"la la la");
+    ///     let _ = disk.save(&file)?;
+    /// }
+    /// let names = [Name::new("four")?, Name::new("FIVE")?, Name::new("ONE")?, Name::new("TWO")?];
+    /// let erased = disk.erase_many(&names)?;
+    /// assert_eq!(erased.answers, [Ok(()), Err(Refusal::NotFound), Ok(()), Ok(())]);
+    /// assert_eq!(erased.sectors.numbers().len(), 2); // ONE and TWO share a sector of the directory
+    /// assert_eq!(disk.listing().entries()[0].name().to_string(), "THREE");
+    /// # Ok::<(), varnucht::Refused>(())
+    /// ```
+    pub fn erase_many(&mut self, names: &[Name]) -> Result<Erased<'_>, Refused> {
+        let made = handful::erase(&mut self.image, names)?;
+        // As with every change this is not refused.
+        self.listing = Listing::of(&self.image)?;
+        Ok(Erased {
+            answers: made.answers,
+            sectors: Sectors::new(&self.image, &mut self.written, &made.list, made.many).apart(),
+        })
     }
 
     /// Gives a file another name: [`Change::Rename`]. Refused 15, and 16 and 17 with the slot.

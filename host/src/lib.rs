@@ -6,7 +6,7 @@
 //! |---|---|
 //! | [`Image`] | it is 819,200 bytes: refusal 1 is ruled out |
 //! | [`Disk`] | the library has accepted it: refusals 1 to 11, 24 and 25 are ruled out |
-//! | [`Name`], [`NewName`] | usable as a name asked for, as a new name: refusal 12 is ruled out |
+//! | [`Name`], [`NewName`] | usable as a name asked for, as a new name: refusals 12 and 23 are ruled out |
 //! | [`CarriedKind`], [`Start`] | a save takes them: refusals 13 and 14 of a save are ruled out |
 //! | [`Drive`], [`Track`], [`Sector`] | they are there: refusal 21 is ruled out |
 //!
@@ -136,6 +136,11 @@
 //! [`Disk::is_scattered`] tells that of a file, and [`Disk::gather`] moves it to the lowest run of free sectors that is as long
 //! as it is.
 //!
+//! # A handful of files
+//!
+//! [`Disk::erase_many`] erases the files of several names by one call, and answers for each of them. Each sector that it names
+//! is a change of its own: cut short, the files of the sectors written are gone, and the others are still there.
+//!
 //! # Before a compilation goes out
 //!
 //! A file may have more sectors than its length needs, and old texts hide in them. Every call accepts such a disk but
@@ -149,8 +154,8 @@
 //! # A disk in a file
 //!
 //! A change answers with the [`Sectors`] that it altered, in the order in which they are to be written. Wherever that
-//! writing is cut short, the file holds the old disk until the last sector is written, and the new one from then on:
-//! [`Sectors::write_to`] does it, and waits for each sector to reach the disk before it goes on to the next. If a write fails,
+//! writing is cut short, the file holds the old disk until the last sector is written, and the new one from then on (of a
+//! handful of files erased at once that holds of each sector): [`Sectors::write_to`] does it, and waits for each sector to reach the disk before it goes on to the next. If a write fails,
 //! the disk in memory is ahead of the file: write the same sectors again, or open the disk anew from the file. A later change
 //! is not written before that.
 //!
@@ -182,7 +187,7 @@
 //! "Document 01" and "the paper" are the rules that the library is proved against. A refusal prints their words. The
 //! directory's end is its first slot whose first name byte is 0: that slot and all later ones are free, and what stands there
 //! is no file and is not looked at; a save clears the old name that would come back when it takes that slot. Below the
-//! types stand [`calls`], the nineteen calls on byte slices, and [`raw`], the C layer itself.
+//! types stand [`calls`], the twenty calls on byte slices, and [`raw`], the C layer itself.
 #![warn(missing_docs)]
 
 mod answer;
@@ -194,6 +199,7 @@ mod disk;
 mod drives;
 mod entry;
 pub mod escape;
+mod handful;
 mod image;
 mod kind;
 mod listing;
@@ -215,6 +221,7 @@ pub use directory::{Directory, DiskName};
 pub use disk::{Disk, Unsound};
 pub use drives::Drives;
 pub use entry::Entry;
+pub use handful::Erased;
 pub use image::{IMAGE_LENGTH, Image, WrongLength};
 pub use kind::{CarriedKind, Kind};
 pub use listing::Listing;

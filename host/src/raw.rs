@@ -68,6 +68,16 @@ unsafe extern "C" {
         list: *mut u8,
         list_len: usize,
     ) -> u64;
+    pub fn varnucht_erase_many(
+        image: *mut u8,
+        image_len: usize,
+        names: *const u8,
+        names_len: usize,
+        answers: *mut u8,
+        answers_len: usize,
+        list: *mut u8,
+        list_len: usize,
+    ) -> u64;
     pub fn varnucht_rename(
         image: *mut u8,
         image_len: usize,

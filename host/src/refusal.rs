@@ -52,6 +52,9 @@ pub enum Refusal {
     NoSuchSector,
     /// 22: carried kind, and the file has more sectors than its length needs. The check before a release alone gives it.
     WasteSectors,
+    /// 23: the names are not a whole number of tens. [`calls::erase_many`](crate::calls::erase_many) alone gives it; the types of
+    /// [`Disk::erase_many`](crate::Disk::erase_many) rule it out.
+    NamesNotTens,
     /// 24: slot 1 says a number of directory tracks that no disk has.
     DirectoryTracks,
     /// 25: a kind of the Spectrum, 1 to 4, and its sectors are too few for the length in its header.
@@ -74,7 +77,7 @@ pub enum Refusal {
 }
 
 /// The table of document 01 with the rows that document 02 adds, by rising number.
-const TABLE: [(u8, Refusal, &str); 30] = [
+const TABLE: [(u8, Refusal, &str); 31] = [
     (1, Refusal::ImageLength, "the image is not 819,200 bytes"),
     (2, Refusal::UnknownKind, "the kind is not known"),
     (3, Refusal::NoFirstNameByte, "the first name byte is 0 (given no more)"),
@@ -125,6 +128,11 @@ const TABLE: [(u8, Refusal, &str); 30] = [
         22,
         Refusal::WasteSectors,
         "carried kind, and the count is above the least that its length needs (waste sectors behind the file)",
+    ),
+    (
+        23,
+        Refusal::NamesNotTens,
+        "the names are not a whole number of tens (erase many)",
     ),
     (
         24,

@@ -13,9 +13,10 @@ pub(crate) const LIST_LENGTH: usize = 2 * (DATA_SECTORS + 2);
 /// The sectors that a change altered, in the order in which they are to be written, with the bytes that they hold now.
 ///
 /// The change is made in memory. A copy of the disk elsewhere follows when these sectors are written there, in this order:
-/// cut short anywhere, that copy is still the old disk to every call until the last one is written. As long as this value is
-/// kept, the disk can take no other change. Whoever writes with [`iter`](Sectors::iter) must leave out no change: the sectors
-/// of the next build on it. [`write_to`](Sectors::write_to) sees to that.
+/// cut short anywhere, that copy is still the old disk to every call until the last one is written. Those of a handful of files
+/// erased at once ([`Disk::erase_many`](crate::Disk::erase_many)) are a change of their own each. As long as this value is kept,
+/// the disk can take no other change. Whoever writes with [`iter`](Sectors::iter) must leave out no change: the sectors of the
+/// next build on it. [`write_to`](Sectors::write_to) sees to that.
 ///
 /// ```
 /// use varnucht::{CarriedKind, Disk, Image, NewFile, NewName, Start};
@@ -60,6 +61,8 @@ pub struct Sectors<'d> {
     numbers: Vec<SectorNumber>,
     written: &'d mut bool,
     skipped: bool,
+    /// Whether each sector is a change of its own.
+    apart: bool,
 }
 
 impl<'d> Sectors<'d> {
@@ -81,7 +84,13 @@ impl<'d> Sectors<'d> {
             numbers,
             written,
             skipped,
+            apart: false,
         }
+    }
+
+    /// The same of a change whose every sector is a change of its own.
+    pub(crate) fn apart(self) -> Sectors<'d> {
+        Sectors { apart: true, ..self }
     }
 
     /// The sector numbers, in the order of writing. No number occurs twice.
@@ -136,9 +145,10 @@ impl<'d> Sectors<'d> {
         }
         let of = self.numbers.len();
         for (written, (number, bytes)) in self.iter().enumerate() {
-            store
-                .write_sector(number, bytes)
-                .map_err(|error| WriteError::Stopped { written, of, error })?;
+            store.write_sector(number, bytes).map_err(|error| match self.apart {
+                false => WriteError::Stopped { written, of, error },
+                true => WriteError::Partly { written, of, error },
+            })?;
             progress(written + 1, of);
         }
         *self.written = true;

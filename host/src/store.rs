@@ -63,30 +63,51 @@ pub enum WriteError {
         /// Why the next could not be written.
         error: io::Error,
     },
+    /// The same where each sector is a change of its own, as of [`Disk::erase_many`](crate::Disk::erase_many): what the sectors
+    /// before it changed is done.
+    Partly {
+        /// How many were written before the one that failed.
+        written: usize,
+        /// How many there are.
+        of: usize,
+        /// Why the next could not be written.
+        error: io::Error,
+    },
     /// Nothing was written, because the sectors of an earlier change of this disk were not.
     Skipped,
 }
 
 impl WriteError {
-    /// Whether the sector that failed was the last. Before it only free sectors were written, or slots behind the directory's
-    /// end, so the old disk is as it was. The last one holds the directory: where it failed it may have been written or not.
+    /// Whether the sector that failed was the last of a change. Before it only free sectors were written, or slots behind the
+    /// directory's end, so the old disk is as it was. The last one holds the directory: where it failed it may have been
+    /// written or not. Where each sector is a change of its own, each is the last.
     pub fn at_last(&self) -> bool {
-        matches!(self, WriteError::Stopped { written, of, .. } if written + 1 >= *of)
+        match self {
+            WriteError::Stopped { written, of, .. } => written + 1 >= *of,
+            WriteError::Partly { .. } => true,
+            WriteError::Skipped => false,
+        }
     }
 }
 
 impl fmt::Display for WriteError {
     fn fmt(&self, f: &mut fmt::Formatter<'_>) -> fmt::Result {
-        let WriteError::Stopped { written, of, error } = self else {
-            return f.write_str(
+        if let WriteError::Stopped { written, of, error } | WriteError::Partly { written, of, error } = self {
+            write!(f, "{written} of {of} sectors were written, and then: {error}. ")?;
+        }
+        f.write_str(match self {
+            WriteError::Stopped { .. } if !self.at_last() => "The old disk is still there and reads as before",
+            WriteError::Stopped { .. } => {
+                "The directory's sector was the one that failed, and may hold the old bytes or the new: check the disk"
+            }
+            WriteError::Partly { .. } => {
+                "The files erased in those are gone, and all others are still there; but the sector that failed may hold the \
+                 old bytes or the new: check the disk"
+            }
+            WriteError::Skipped => {
                 "nothing was written, because an earlier change of this disk was not written whole. \
-                 Open the disk anew from where it is stored",
-            );
-        };
-        write!(f, "{written} of {of} sectors were written, and then: {error}. ")?;
-        f.write_str(match self.at_last() {
-            false => "The old disk is still there and reads as before",
-            true => "The directory's sector was the one that failed, and may hold the old bytes or the new: check the disk",
+                 Open the disk anew from where it is stored"
+            }
         })
     }
 }
@@ -94,7 +115,7 @@ impl fmt::Display for WriteError {
 impl Error for WriteError {
     fn source(&self) -> Option<&(dyn Error + 'static)> {
         match self {
-            WriteError::Stopped { error, .. } => Some(error),
+            WriteError::Stopped { error, .. } | WriteError::Partly { error, .. } => Some(error),
             WriteError::Skipped => None,
         }
     }

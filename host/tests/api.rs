@@ -5,6 +5,8 @@ mod bigger;
 mod changing;
 #[path = "api/gathering.rs"]
 mod gathering;
+#[path = "api/handful.rs"]
+mod handful;
 #[path = "api/pieces.rs"]
 mod pieces;
 #[path = "api/reading.rs"]

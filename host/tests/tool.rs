@@ -7,6 +7,8 @@ mod commands;
 mod flushes;
 #[path = "tool/gathering.rs"]
 mod gathering;
+#[path = "tool/handful.rs"]
+mod handful;
 #[path = "tool/input.rs"]
 mod input;
 #[path = "tool/lock.rs"]

@@ -4,3 +4,4 @@ pub mod Changing
 pub mod Safe
 pub mod Trees
 pub mod Gathers
+pub mod Handfuls

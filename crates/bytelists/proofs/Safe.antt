@@ -11,12 +11,13 @@ use Rattle.refusals.specs.Order.{Refusal}
 use Rattle.refusals.specs.Answers.{done, refused}
 use Rattle.disk.specs.Check.{checkRelease}
 use Rattle.steps.specs.Sectors.{cut}
-use Rattle.plans.specs.Change.{Change}
-use Rattle.plans.specs.Plan.{Result, stopped, made, run, finds}
-use Rattle.plans.specs.Safe.{Safe}
-use Rattle.plans.proofs.Demand3.{crash, run-room}
-use Rattle.plans.proofs.Released.{cut-released}
+use Rattle.plans.specs.Plan.{Result, stopped, made, Changed}
+use Rattle.handfuls.specs.Handful.{runMany}
+use Rattle.handfuls.specs.Parts.{Ask, single, handful, ran, returned, EachSafe}
+use Rattle.handfuls.proofs.Demand3.{crash, ran-room}
+use Rattle.handfuls.proofs.Likewise.{ask-released}
 use Rattle.bytelists.specs.Lists.{inBytes, numbersIn, changingBy, changing}
+use Rattle.bytelists.specs.Handfuls.{erasingBy, erasing, asking}
 use Rattle.bytelists.proofs.Pairs.{length-pairs}
 
 -- numbers put in front as bytes are read back
@@ -33,38 +34,58 @@ put-back b ss h =
     sym (take-append-drop (length x) (put b 0 x)) ∙ ap (λ (y : List ℕ). y ++ drop (length x) (put b 0 x)) (part-put b 0 x (omega (arith, length-pairs ss))) in
     ap (λ (y : List ℕ). take (length ss) (numbersIn y)) e ∙ pairs-back ss (drop (length x) (put b 0 x))
 
-module _ (c : Change) (d b : List ℕ) where
+-- by what it is run with
+asking-is : (a : Ask) (d b : List ℕ) → asking a d b ≡ changingBy (ran a d (length b / 2)) d b
+unfolding changing erasing
+asking-is (single c) d b = refl
+asking-is (handful ns abuf) d b = by (runMany ns d (length abuf) (length b / 2))
+  where
+    by : (x : Result) → returned (erasingBy x d ns abuf b) ≡ changingBy x d b
+    by (stopped r) = refl
+    by (made new ss) = refl
+
+module _ (a : Ask) (d b : List ℕ) where
   -- what holds of the new disk and the sectors named, holds where the call answers how many of the image at return and the first
   -- so many numbers of the list at return
-  call-of : (P : List ℕ → List ℕ → Type 0) → ((new ss : List ℕ) → run c d (length b / 2) ≡ made new ss → P new ss) → (n f : ℕ) → changing c d b .outcome ≡ done n f
-      → P (changing c d b .image) (take n (numbersIn (changing c d b .list)))
-  unfolding changing
-  call-of P h n f e = by (run c d (length b / 2)) refl e
+  call-of : (P : List ℕ → List ℕ → Type 0) → ((new ss : List ℕ) → ran a d (length b / 2) ≡ made new ss → P new ss) → (n f : ℕ) → asking a d b .outcome ≡ done n f
+      → P (asking a d b .image) (take n (numbersIn (asking a d b .list)))
+  call-of P h n f e =
+      subst (λ (x : Changed). P (x .image) (take n (numbersIn (x .list)))) (sym (asking-is a d b))
+      (by (ran a d (length b / 2)) refl (sym (ap (λ (x : Changed). x .outcome) (asking-is a d b)) ∙ e))
     where
-      by : (x : Result) → run c d (length b / 2) ≡ x → changingBy x d b .outcome ≡ done n f → P (changingBy x d b .image) (take n (numbersIn (changingBy x d b .list)))
+      by : (x : Result) → ran a d (length b / 2) ≡ x → changingBy x d b .outcome ≡ done n f → P (changingBy x d b .image) (take n (numbersIn (changingBy x d b .list)))
       by (stopped r) q w = let z : _≡_ {A = ℕ} 0 1 = cc in absurd (omega arith)
       by (made new ss) q w =
           let m : length ss ≡ n = cc in
-          let r = run-room c d (length b / 2) new ss q in
-          let t : take n (numbersIn (put b 0 (inBytes ss))) ≡ ss = ap (λ (k : ℕ). take k (numbersIn (put b 0 (inBytes ss)))) (sym m) ∙ put-back b ss (omega (arith, r .fits)) in
+          let r = ran-room a d (length b / 2) new ss q in
+          let t : take n (numbersIn (put b 0 (inBytes ss))) ≡ ss = ap (λ (k : ℕ). take k (numbersIn (put b 0 (inBytes ss)))) (sym m) ∙ put-back b ss (omega (arith, r .1)) in
           subst (P new) (sym t) (h new ss q)
 
-  -- whatever change, disk and list: where the call answers how many, the first so many numbers of the list at return are its
-  -- sectors, and the image at return is the new disk
-  pub crash-bytes : (n f : ℕ) → changing c d b .outcome ≡ done n f → Safe (finds c) d (changing c d b .image) (take n (numbersIn (changing c d b .list)))
-  crash-bytes = call-of (Safe (finds c) d) (λ new ss q. crash c d (length b / 2) new ss (run-room c d (length b / 2) new ss q .accepted) q)
+  -- whatever is asked, whatever disk and list: where the call answers how many, the first so many numbers of the list at return are
+  -- its sectors, and the image at return is the new disk
+  pub crash-bytes : (n f : ℕ) → asking a d b .outcome ≡ done n f → EachSafe a d (asking a d b .image) (take n (numbersIn (asking a d b .list)))
+  crash-bytes = call-of (EachSafe a d) (λ new ss q. crash a d (length b / 2) new ss (ran-room a d (length b / 2) new ss q .0) q)
 
-  -- and where the release check accepted the disk, it accepts every cut of the change
-  pub released-bytes : checkRelease d ≡ none → (n f : ℕ) → changing c d b .outcome ≡ done n f
-      → (k : ℕ) → k ≤ length (take n (numbersIn (changing c d b .list))) → checkRelease (cut d (changing c d b .image) (take n (numbersIn (changing c d b .list))) k) ≡ none
+  -- and where the release check accepted the disk, it accepts every cut
+  pub released-bytes : checkRelease d ≡ none → (n f : ℕ) → asking a d b .outcome ≡ done n f
+      → (k : ℕ) → k ≤ length (take n (numbersIn (asking a d b .list))) → checkRelease (cut d (asking a d b .image) (take n (numbersIn (asking a d b .list))) k) ≡ none
   released-bytes ok =
-      call-of (λ (new ss : List ℕ). (k : ℕ) → k ≤ length ss → checkRelease (cut d new ss k) ≡ none) (λ new ss q. cut-released d ok (length b / 2) new ss c q)
+      call-of (λ (new ss : List ℕ). (k : ℕ) → k ≤ length ss → checkRelease (cut d new ss k) ≡ none) (λ new ss q. ask-released a d ok (length b / 2) new ss q)
 
   -- a refused call changes neither
-  pub refused-bytes : (r : Refusal) → changing c d b .outcome ≡ refused r → (changing c d b .image ≡ d) × (changing c d b .list ≡ b)
-  unfolding changing
-  refused-bytes r e = by (run c d (length b / 2)) e
+  pub refused-bytes : (r : Refusal) → asking a d b .outcome ≡ refused r → (asking a d b .image ≡ d) × (asking a d b .list ≡ b)
+  refused-bytes r e =
+      subst (λ (x : Changed). (x .image ≡ d) × (x .list ≡ b)) (sym (asking-is a d b)) (by (ran a d (length b / 2)) (sym (ap (λ (x : Changed). x .outcome) (asking-is a d b)) ∙ e))
     where
       by : (x : Result) → changingBy x d b .outcome ≡ refused r → (changingBy x d b .image ≡ d) × (changingBy x d b .list ≡ b)
       by (stopped q) w = (refl, refl)
       by (made new ss) w = let z : _≡_ {A = ℕ} 0 1 = cc in absurd (omega arith)
+
+-- nor, of a handful, the answers
+pub refused-answers : (d ns abuf b : List ℕ) (r : Refusal) → erasing d ns abuf b .outcome ≡ refused r → erasing d ns abuf b .answers ≡ abuf
+unfolding erasing
+refused-answers d ns abuf b r e = by (runMany ns d (length abuf) (length b / 2)) e
+  where
+    by : (x : Result) → erasingBy x d ns abuf b .outcome ≡ refused r → erasingBy x d ns abuf b .answers ≡ abuf
+    by (stopped q) w = refl
+    by (made new ss) w = let z : _≡_ {A = ℕ} 0 1 = cc in absurd (omega arith)

@@ -14,6 +14,8 @@ ghost use Rattle.saves.specs.Write.{wish};
 ghost use Rattle.gathers.specs.Call.{sectorsOf, Placed};
 ghost use Rattle.bytelists.specs.Lists.{inBytes, Returns, Counted};
 ghost use Rattle.bytelists.specs.Trees.{treeingBytes};
+ghost use Rattle.handfuls.specs.Handful.{erased};
+ghost use Rattle.bytelists.specs.Handfuls.{erasing};
 use changes::Marking;
 use gathers::Gathered;
 use gathers::Move;
@@ -171,4 +173,15 @@ pub fn gather(image: &mut [u8], name: &[u8], list: &mut [u8]) -> Answer
             Answer::Done(to.count + 1, 0)
         }
     }
+}
+
+// Erases a handful of files, their names of ten bytes each laid end to end: how many sectors, an answer to each name, and the
+// numbers of the sectors to the front of the list.
+pub fn erase_many(image: &mut [u8], names: &[u8], answers: &mut [u8], list: &mut [u8]) -> Answer
+    ensures { λ r. ⌜ erased (outcomeOf r) (now (image .exit)) (now (answers .exit)) (now (list .exit)) ≡ erasing (now (image .entry)) (now (names .entry)) (now (answers .entry)) (now (list .entry)) ⌝ }
+{
+    let mut numbers = [0u16; wipes::DIR_SECTORS];
+    let room = buffers::lesser(list.len() / 2, wipes::DIR_SECTORS);
+    let emptied = batches::erase_many(image, names, answers, &mut numbers[..room]);
+    put_counted(emptied, &numbers, list)
 }

@@ -11,7 +11,7 @@ use Rattle.buffers.proofs.Tests.{and-both}
 use Rattle.refusals.specs.Order.{Refusal, Row, FirstRow, SlotRow, FirstOf, bare, risesFrom, rises, Applies, Lowest}
 use Rattle.refusals.specs.Answers.{numberOf}
 use Rattle.refusals.specs.declared.Reason.{Reason}
-use Rattle.refusals.specs.declared.Reason.the-variants.{NotAnImage, KindUnknown, NameMissing, CountOutOfRange, BitsDiffer, FirstNotOwn, LengthTooGreat, SectorShared, NameTwice, ChainBroken, HeaderDiffers, NameNotUsable, WrongKind, StartOutOfRange, NameNotFound, NameTaken, FileProtected, NoFreeSlot, TooFewSectors, BufferTooShort, NoSuchSector, WasteSectors, TracksOutOfRange, BodyTooLong, CodeNotOwn, NoSuchDirectory, InsideItself, DirectoryNotEmpty, ReportFull, NoFreeRun}
+use Rattle.refusals.specs.declared.Reason.the-variants.{NotAnImage, KindUnknown, NameMissing, CountOutOfRange, BitsDiffer, FirstNotOwn, LengthTooGreat, SectorShared, NameTwice, ChainBroken, HeaderDiffers, NameNotUsable, WrongKind, StartOutOfRange, NameNotFound, NameTaken, FileProtected, NoFreeSlot, TooFewSectors, BufferTooShort, NoSuchSector, WasteSectors, NamesNotTens, TracksOutOfRange, BodyTooLong, CodeNotOwn, NoSuchDirectory, InsideItself, DirectoryNotEmpty, ReportFull, NoFreeRun}
 
 -- ---- the lowest that applies is the first that holds
 
@@ -87,6 +87,7 @@ positive TooFewSectors = λ e. omega arith
 positive BufferTooShort = λ e. omega arith
 positive NoSuchSector = λ e. omega arith
 positive WasteSectors = λ e. omega arith
+positive NamesNotTens = λ e. omega arith
 positive TracksOutOfRange = λ e. omega arith
 positive BodyTooLong = λ e. omega arith
 positive CodeNotOwn = λ e. omega arith

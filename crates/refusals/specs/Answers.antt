@@ -5,7 +5,7 @@ use mathlib.Core.Option.{none, some}
 use Rattle.buffers.specs.Bytes.{put}
 use Rattle.refusals.specs.Order.{Refusal, Reply, refuse}
 use Rattle.refusals.specs.declared.Reason.{Reason}
-use Rattle.refusals.specs.declared.Reason.the-variants.{NotAnImage, KindUnknown, NameMissing, CountOutOfRange, BitsDiffer, FirstNotOwn, LengthTooGreat, SectorShared, NameTwice, ChainBroken, HeaderDiffers, NameNotUsable, WrongKind, StartOutOfRange, NameNotFound, NameTaken, FileProtected, NoFreeSlot, TooFewSectors, BufferTooShort, NoSuchSector, WasteSectors, TracksOutOfRange, BodyTooLong, CodeNotOwn, NoSuchDirectory, InsideItself, DirectoryNotEmpty, ReportFull, NoFreeRun}
+use Rattle.refusals.specs.declared.Reason.the-variants.{NotAnImage, KindUnknown, NameMissing, CountOutOfRange, BitsDiffer, FirstNotOwn, LengthTooGreat, SectorShared, NameTwice, ChainBroken, HeaderDiffers, NameNotUsable, WrongKind, StartOutOfRange, NameNotFound, NameTaken, FileProtected, NoFreeSlot, TooFewSectors, BufferTooShort, NoSuchSector, WasteSectors, NamesNotTens, TracksOutOfRange, BodyTooLong, CodeNotOwn, NoSuchDirectory, InsideItself, DirectoryNotEmpty, ReportFull, NoFreeRun}
 use Rattle.refusals.specs.declared.Refused.{Refused}
 use Rattle.refusals.specs.declared.Verdict.{Verdict}
 use Rattle.refusals.specs.declared.Verdict.the-variants.{Sound, Unsound}
@@ -58,6 +58,8 @@ numberOf BufferTooShort = 20
 numberOf NoSuchSector = 21
 -- a carried kind whose count is above the least that its length needs (the release check alone)
 numberOf WasteSectors = 22
+-- names laid end to end that are not a whole number of tens (erase many)
+numberOf NamesNotTens = 23
 -- the number of directory tracks beyond four is 36 to 254 (in the listing program above 0)
 numberOf TracksOutOfRange = 24
 -- kind 1 to 4, and 510 × count is below 9 + length

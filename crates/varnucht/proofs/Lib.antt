@@ -3,3 +3,4 @@ pub mod Replies
 pub mod Reading
 pub mod Reports
 pub mod Trees
+pub mod Handfuls

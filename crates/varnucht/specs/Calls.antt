@@ -12,6 +12,7 @@ use Rattle.drives.specs.Raw.{rawRefusal}
 use Rattle.disk.specs.Check.{checkDisk, checkRelease}
 use Rattle.plans.specs.Change.{Change}
 use Rattle.bytelists.specs.Lists.{changing}
+use Rattle.bytelists.specs.Handfuls.{erasing}
 
 -- the check as an outcome
 abbrev pub checking : List ℕ → Outcome
@@ -28,3 +29,8 @@ sectorPlace one two d t s = cond (eqb (rawRefusal one two d t s) 0) (done (place
 -- answer, image and list at return are those of the change
 abbrev pub Returns : Change → List ℕ → List ℕ → ℕ → List ℕ → List ℕ → Type 0
 Returns c d b r d′ b′ = (r ≡ packed (changing c d b .outcome)) × (d′ ≡ changing c d b .image) × (b′ ≡ changing c d b .list)
+
+-- answer, image, answers and list at return are those of a handful of erases
+abbrev pub ReturnsMany : List ℕ → List ℕ → List ℕ → List ℕ → ℕ → List ℕ → List ℕ → List ℕ → Type 0
+ReturnsMany d ns abuf b r d′ a′ b′ =
+    (r ≡ packed (erasing d ns abuf b .outcome)) × (d′ ≡ erasing d ns abuf b .image) × (a′ ≡ erasing d ns abuf b .answers) × (b′ ≡ erasing d ns abuf b .list)

@@ -11,7 +11,7 @@ ghost use Rattle.changes.specs.Marks.{markOf};
 ghost use Rattle.saves.specs.Write.{wish};
 ghost use Rattle.bytelists.specs.Trees.{treeingBytes};
 ghost use Rattle.bytereports.specs.Bytes.{addingBytes, joiningBytes};
-ghost use Rattle.varnucht.specs.Calls.{checking, releasing, sectorPlace, Returns};
+ghost use Rattle.varnucht.specs.Calls.{checking, releasing, sectorPlace, Returns, ReturnsMany};
 ghost use Rattle.varnucht.specs.Reading.{packedBegin, packedPiece};
 use changes::Marking;
 use geometry::Spot;
@@ -237,4 +237,19 @@ pub extern "C" fn varnucht_gather(image: &mut [u8], name: &[u8], list: &mut [u8]
 {
     let gathered = bytelists::gather(image, name, list);
     packing::pack(gathered)
+}
+
+// Erases a handful of files, their names of ten bytes each laid end to end: how many sectors, an answer of one byte to each name,
+// 0 for done, and the numbers of the sectors, rising, to the front of `list`.
+#[no_mangle]
+pub extern "C" fn varnucht_erase_many(
+    image: &mut [u8],
+    names: &[u8],
+    answers: &mut [u8],
+    list: &mut [u8],
+) -> u64
+    ensures { λ r. ⌜ ReturnsMany (now (image .entry)) (now (names .entry)) (now (answers .entry)) (now (list .entry)) r (now (image .exit)) (now (answers .exit)) (now (list .exit)) ⌝ }
+{
+    let emptied = bytelists::erase_many(image, names, answers, list);
+    packing::pack(emptied)
 }

@@ -1,7 +1,7 @@
 //! The disks of the benchmark, made by `paper::save` and `paper::erase`; in two the sectors of the file are then shuffled, in
 //! one the last file is made one of the Spectrum, and in two some files are made directories.
 
-use crate::geometry::{address, bit_place, slot_place};
+use crate::geometry::{address, bit_place, extra, slot_place, slots};
 use crate::random::Random;
 use paper::Wish;
 use std::rc::Rc;
@@ -14,12 +14,25 @@ const SECTORS: usize = 1_560;
 /// Room for the numbers of the longest list.
 pub const LIST_BYTES: usize = 2 * 1_562;
 
+/// Room for the numbers of every directory sector, as an erase of many names them.
+pub const ERASE_LIST_BYTES: usize = 778;
+
 /// A disk, what the table calls it, and the name of its last file (of any name, if it has none).
 #[derive(Clone)]
 pub struct Disk {
     pub title: &'static str,
     pub image: Rc<[u8]>,
     pub last: Vec<u8>,
+}
+
+impl Disk {
+    /// The names of all its files, by rising slot, laid end to end.
+    pub fn names(&self) -> Vec<u8> {
+        let last = slots(extra(&self.image));
+        let slots = (1..=last).map(|slot| &self.image[slot_place(slot)..][..256]);
+        let live = slots.take_while(|slot| slot[1] != 0).filter(|slot| slot[0] != 0);
+        live.flat_map(|slot| slot[1..11].to_vec()).collect()
+    }
 }
 
 pub fn blank() -> Disk {

@@ -1,6 +1,6 @@
 //! What is measured: a call, a disk, and the refusal that the call must give there (0: accepted).
 
-use crate::disks::{self, Disk, LIST_BYTES, LONGEST};
+use crate::disks::{self, Disk, ERASE_LIST_BYTES, LIST_BYTES, LONGEST};
 use crate::sides::{Side, reader, value};
 use paper::{REPORT_BYTES, Reader};
 
@@ -21,6 +21,8 @@ pub enum Work {
     Save(Vec<u8>),
     /// Erases the disk's last file.
     Erase,
+    /// Erases the files of these names by one call.
+    EraseMany(Vec<u8>),
     /// Gathers the disk's last file, which moves or not.
     Gather(bool),
     /// Adds the disk to a report that has no disk yet.
@@ -66,6 +68,8 @@ pub fn all() -> Vec<Row> {
     rows.extend([&three, &three_and_old, &last].map(|disk| row(disk, Work::Save(disks::body(900)), 0)));
     rows.extend(disks.map(|disk| row(disk, Work::Erase, if disk.title == blank.title { 15 } else { 0 })));
     rows.push(row(&biggest, Work::Erase, 0));
+    rows.extend([&eighty, &biggest, &biggest_alike].map(|disk| row(disk, Work::EraseMany(disk.names()), 0)));
+    rows.extend([&eighty, &biggest].map(|disk| row(disk, Work::EraseMany(disk.last.clone()), 0)));
     rows.extend([&disks::half_scattered(), &disks::holes()].map(|disk| row(disk, Work::Gather(true), 0)));
     rows.extend([&eighty, &one].map(|disk| row(disk, Work::Gather(false), 0)));
     rows.push(row(&scattered, Work::Gather(false), 32));
@@ -133,6 +137,7 @@ impl Row {
             Work::Tree => "tree".into(),
             Work::Save(body) => format!("save {}", body.len()),
             Work::Erase => "erase".into(),
+            Work::EraseMany(names) => format!("erase many {}", names.len() / 10),
             Work::Gather(_) => "gather".into(),
             Work::Report => "report add".into(),
         }
@@ -140,17 +145,22 @@ impl Row {
 
     /// Whether the image changes. Then it is put back after every call.
     pub fn changes(&self) -> bool {
-        self.refusal == 0 && matches!(self.work, Work::Save(_) | Work::Erase | Work::Gather(true))
+        self.refusal == 0
+            && matches!(
+                self.work,
+                Work::Save(_) | Work::Erase | Work::EraseMany(_) | Work::Gather(true)
+            )
     }
 
     /// How long the lent output buffer is. The list of a change is two bytes for each sector named.
     pub fn buffer_bytes(&self) -> usize {
-        match self.work {
+        match &self.work {
             Work::Check | Work::CheckRelease | Work::Open => 0,
             Work::List => 778 * 258,
             Work::Read | Work::Pieces(..) => LONGEST,
             Work::Tree => 2 * 778,
             Work::Save(_) | Work::Erase | Work::Gather(_) => LIST_BYTES,
+            Work::EraseMany(names) => ERASE_LIST_BYTES + names.len() / 10,
             Work::Report => REPORT_BYTES,
         }
     }
@@ -167,6 +177,10 @@ impl Row {
             Work::Tree => (side.tree)(image, &[], buffer),
             Work::Save(body) => (side.save)(image, &disks::wish(Row::NEW, body), buffer),
             Work::Erase => (side.erase)(image, &self.disk.last, buffer),
+            Work::EraseMany(names) => {
+                let (list, answers) = buffer.split_at_mut(ERASE_LIST_BYTES);
+                (side.erase_many)(image, names, answers, list)
+            }
             Work::Gather(_) => (side.gather)(image, &self.disk.last, buffer),
             Work::Report => {
                 // The numbers that count disks begin at 0 again, so that the report is never full.

@@ -29,9 +29,10 @@ pub fn print_head(timer: Duration) {
     println!(
         "in the last. gather: files of 795,591 and 900 bytes lie in a row; 'scattered', 'holes': the last file does not."
     );
+    println!("erase many: so many names by one call, all that the disk has or its last alone.");
     println!();
     println!(
-        "{:<13} {:<22} {:<10} {:>10} {:>10} {:>10} {:>10} {:>7} {:>7} {:>6}",
+        "{:<14} {:<22} {:<10} {:>10} {:>10} {:>10} {:>10} {:>7} {:>7} {:>6}",
         "call", "disk", "answer", "ours best", "median", "paper best", "median", "ratio", "median", "rounds"
     );
 }
@@ -44,7 +45,7 @@ pub fn print_row(row: &Row, measured: &Measured) {
     };
     let (ours, theirs) = (&measured.ours, &measured.theirs);
     println!(
-        "{:<13} {:<22} {:<10} {:>10.3} {:>10.3} {:>10.3} {:>10.3} {:>7.2} {:>7.2} {:>6}",
+        "{:<14} {:<22} {:<10} {:>10.3} {:>10.3} {:>10.3} {:>10.3} {:>7.2} {:>7.2} {:>6}",
         row.call(),
         row.disk.title,
         answer,

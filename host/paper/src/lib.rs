@@ -16,6 +16,7 @@
 //! - `tree`: subdirectories
 //! - `save`: the change that takes slots and sectors
 //! - `changes`: the changes of one directory byte or name
+//! - `erase_many`: a handful of files erased at once
 //! - `gather`: a scattered file moved to consecutive sectors
 //! - `report`: a shelf of disks in numbers
 //! - `refusal`: the numbers of refusal
@@ -23,6 +24,7 @@
 mod calls;
 mod changes;
 mod check;
+mod erase_many;
 mod extent;
 mod gather;
 mod geometry;
@@ -39,6 +41,7 @@ mod tree;
 
 pub use calls::{Listed, check, check_release, list, read, sector, start};
 pub use changes::{erase, hide, protect, release, rename, show};
+pub use erase_many::erase_many;
 pub use gather::gather;
 pub use pieces::{Reader, next, open};
 pub use refusal::Refused;

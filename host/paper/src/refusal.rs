@@ -33,6 +33,7 @@ pub enum Reason {
     BufferTooShort = 20,
     NoSuchSector = 21,
     WasteSectors = 22,
+    NamesNotTens = 23,
     TracksOutOfRange = 24,
     BodyTooLong = 25,
     CodeNotOwn = 26,

@@ -9,7 +9,7 @@ use crate::refusal::{Reason, Refused};
 use crate::slot::{Slot, live_slots};
 
 /// The code of the root, which no directory has.
-const ROOT: u8 = 0;
+pub const ROOT: u8 = 0;
 
 /// Fills the buffer with the slots beneath the directory of this name, or beneath the root where it is empty, and answers how
 /// many they are: two bytes to a number, low byte first.

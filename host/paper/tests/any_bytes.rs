@@ -56,9 +56,19 @@ fn rename(image: &mut [u8], name: &[u8], list: &mut [u8]) -> Result<usize, Refus
     paper::rename(image, name, b"NEWER", list)
 }
 
+/// The name, C, and the name once more; with no name some bytes are left over.
+fn erase_many(image: &mut [u8], name: &[u8], list: &mut [u8]) -> Result<usize, Refused> {
+    let mut names = [[32; 10]; 3];
+    names[0][..name.len()].copy_from_slice(name);
+    names[1][0] = b'C';
+    names[2] = names[0];
+    let over = if name.is_empty() { 1 } else { 0 };
+    paper::erase_many(image, &names.concat()[over..], &mut [9; 3], list)
+}
+
 #[test]
 fn calls_hold_on_damaged_disks() {
-    let calls: [Call; 8] = [
+    let calls: [Call; 9] = [
         save,
         rename,
         paper::erase,
@@ -67,6 +77,7 @@ fn calls_hold_on_damaged_disks() {
         paper::protect,
         paper::release,
         paper::gather,
+        erase_many,
     ];
     let mut disk = blank();
     for (name, length) in [(&b"A"[..], 900), (b"B", 1_500), (b"C", 0)] {
@@ -84,7 +95,7 @@ fn calls_hold_on_damaged_disks() {
         let checked = paper::check(&image);
         let name = [&b"A"[..], b"B", b"NEW", b"", b"\xff"][numbers.below(5)];
         let mut list = [7; 7];
-        let answer = calls[numbers.below(8)](&mut image, name, &mut list);
+        let answer = calls[numbers.below(calls.len())](&mut image, name, &mut list);
         let number = answer.map_or_else(|refused| refused.number, |_| 0);
         *seen.entry(number).or_default() += 1;
         match (checked, answer) {
@@ -100,7 +111,7 @@ fn calls_hold_on_damaged_disks() {
         image.copy_from_slice(&disk);
     }
     println!("answers by number: {seen:?}");
-    for number in [0, 2, 4, 5, 6, 7, 8, 9, 10, 11, 12, 15, 16, 24] {
+    for number in [0, 2, 4, 5, 6, 7, 8, 9, 10, 11, 12, 15, 16, 23, 24] {
         assert!(seen.contains_key(&number), "no disk gave {number}");
     }
     assert!(!seen.contains_key(&3), "3 is given no more");

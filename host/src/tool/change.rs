@@ -6,7 +6,7 @@ use super::source::{self, Held};
 use super::system::Hold;
 use super::values::AskedName;
 use super::words::Given;
-use varnucht::{Change, Disk, Name, Refusal, Refused, SectorNumber};
+use varnucht::{Change, Disk, Name, Refusal, Refused, SectorNumber, Sectors};
 
 /// Makes the change that `change` gives, or prints what it would write. The disk is opened before the change is asked for,
 /// so that refusals come in the order of document 01: the disk's first.
@@ -30,16 +30,20 @@ pub fn perform<'a>(given: &Given, done: &str, what: &str, change: impl FnOnce() 
 /// Makes a change of the disk in the file that is held, and writes its sectors there. Gives how many they were.
 pub fn make(given: &Given, held: &mut Held, disk: &mut Disk, what: &str, change: &Change) -> Result<usize, Failure> {
     let refused = |refused| Failure::refused(given.word(0), what, explained(refused));
-    let mut sectors = disk.change(change).map_err(refused)?;
+    let sectors = disk.change(change).map_err(refused)?;
+    let many = stored(given, held, sectors)?;
+    held.holds(disk.image()).map_err(|error| Failure::io(given.word(0), error))?;
+    Ok(many)
+}
+
+/// Writes the sectors of a change to the file that is held. Gives how many they were.
+pub fn stored(given: &Given, held: &mut Held, mut sectors: Sectors) -> Result<usize, Failure> {
     let (hold, mut progress) = (Hold::new(), Progress::new());
     let written = sectors.write_to(held, |written, of| progress.step(written, of));
     drop((progress, hold));
-    let many = sectors.numbers().len();
-    let failed = |error| Failure::io(given.word(0), error);
-    held.still_whole().map_err(failed)?;
+    held.still_whole().map_err(|error| Failure::io(given.word(0), error))?;
     written.map_err(|error| Failure::write(given.word(0), error))?;
-    held.holds(disk.image()).map_err(failed)?;
-    Ok(many)
+    Ok(sectors.numbers().len())
 }
 
 /// What is said of a change that was made. A file that is gathered and lies in a row already has nothing to be written.
@@ -51,7 +55,7 @@ pub fn written(done: &str, what: &str, many: usize) -> String {
 }
 
 /// A refusal; of a directory that is not empty it says too how to see what is in it.
-fn explained(refused: Refused) -> Reason {
+pub fn explained(refused: Refused) -> Reason {
     let not_empty = refused.refusal == Refusal::DirectoryNotEmpty;
     let more = not_empty.then(|| "it is not empty, and `tree` shows what is in it".to_string());
     Reason { refused, more }

@@ -1,7 +1,7 @@
 //! The table of commands.
 use super::failure::Outcome;
 use super::words::Given;
-use super::{blank, change, check, dump, gather, list, map, read, report, save, tree};
+use super::{blank, change, check, dump, erase, gather, list, map, read, report, save, tree};
 
 /// A command of the tool.
 pub struct Command {
@@ -172,6 +172,13 @@ const GATHER_ALL: &str = "With --all each file is a change of its own, made and 
 The files that cannot move are named, and the status is 1. A file that moves
 leaves free sectors, so that another run may move more of them.";
 
+/// What is said of several names that are erased at once.
+const HANDFUL: &str = "Several files are erased in the order of their names: one that is named twice
+is not there the second time, and a directory goes if the names before it have
+emptied it. Of each that is refused a line is printed, the rest is done, and
+the status is 1. Each of their sectors is then a change of its own: cut short,
+IMAGE has lost the files whose sector was written, and holds all others.";
+
 /// What is said of numbers.
 const NUMBERS: &str = "A number may be written as 0x and hexadecimal digits.";
 
@@ -266,7 +273,14 @@ scattered: `gather` puts a file's sectors in a row.",
         more: &[START, NUMBERS, SLOT, SAFE, NAMES],
         run: save::run,
     },
-    on_name("erase", "erase a file", change::erase),
+    Command {
+        name: "erase",
+        places: &["IMAGE", "NAME..."],
+        options: &[&DRY_RUN, &NO_WAIT],
+        brief: "erase a file, or several",
+        more: &[SAFE, HANDFUL, NAMES],
+        run: erase::run,
+    },
     Command {
         name: "rename",
         places: &["IMAGE", "NAME", "NEW"],

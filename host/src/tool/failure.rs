@@ -76,6 +76,13 @@ impl Failure {
                 );
                 Failure::io(path, io::Error::other(words))
             }
+            WriteError::Partly { written, of, error } if error.kind() == ErrorKind::Interrupted => {
+                let words = format!(
+                    "{written} of {of} sectors were written when {error}. The files erased in those are gone, and all others \
+                     are still there."
+                );
+                Failure::io(path, io::Error::other(words))
+            }
             error => Failure::Write(shown_file(path), error),
         }
     }

@@ -8,6 +8,7 @@ mod check;
 mod colour;
 mod commands;
 mod dump;
+mod erase;
 mod failure;
 mod forms;
 mod gather;

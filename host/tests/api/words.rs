@@ -65,6 +65,9 @@ fn provoked() -> Vec<(u8, u16, Refused)> {
     ));
     all.push((21, 0, Track::new(80).unwrap_err()));
     all.push((22, 2, shortened(501).check_release().unwrap_err()));
+    let mut image = Image::blank();
+    let nine = calls::erase_many(image.as_bytes_mut(), &[b'A'; 9], &mut [0], &mut [0; 2]);
+    all.push((23, 0, nine.decode().unwrap_err()));
     let mut tracks = Image::blank();
     tracks.as_bytes_mut()[255] = 36;
     all.push((24, 0, Disk::open(tracks).unwrap_err().into()));

@@ -4,7 +4,8 @@
 
 use crate::support::asking::Asked;
 use crate::support::calls::{
-    self, BODY, CALLS, Call, EXEC, IMAGE, INFO, NAME, NEW, NOTHING, OUT, ROLES, Request, TWO, ask_c, ask_paper,
+    self, ANSWERS, BODY, CALLS, Call, EXEC, IMAGE, INFO, NAME, NAMES, NEW, NOTHING, OUT, ROLES, Request, SLICES, TWO, ask_c,
+    ask_paper,
 };
 use crate::support::compare::{self, Lend};
 use crate::support::disks::Disk;
@@ -51,12 +52,14 @@ const HUGEST: [usize; 10] = [
 
 /// The refusal that such a length alone brings about, where it does. Of a report the front is enough, and an image of any
 /// length is counted.
-fn refusal(call: Call, role: usize) -> Option<u64> {
+fn refusal(call: Call, role: usize, length: usize) -> Option<u64> {
     match role {
         _ if call.is_report() => None,
         IMAGE | TWO => Some(1),
         NAME | NEW => Some(12),
         BODY => Some(19),
+        // More names than there are answers, or no whole number of them.
+        NAMES => Some(if length % 10 == 0 { 20 } else { 23 }),
         _ => None,
     }
 }
@@ -90,6 +93,7 @@ fn accepted(call: Call, disk: &Disk, i: usize) -> Asked {
                 ..asked.with(EXEC, [1, 2, 3]).with(INFO, [4; 11])
             }
         }
+        Call::EraseMany => asked.with(NAMES, file.name).with(ANSWERS, [0x5c]).with(OUT, [0x5c; 2]),
         Call::Rename => asked.with(NAME, file.name).with(NEW, b"unlike all").with(OUT, [0x5c; 2]),
         Call::Gather => asked.with(NAME, file.name).with(OUT, vec![0x5c; 2 * (file.chain.len() + 1)]),
         Call::ReportAdd => asked.with(OUT, report(9)),
@@ -114,16 +118,16 @@ fn ask(request: &Request, roles: &[usize], length: usize) {
         false => *request,
     };
     let mut lender = Guarded::new(Flush::End, Empty::Closed);
-    let mut parts = [NOTHING; 8];
+    let mut parts = [NOTHING; SLICES];
     let refused = roles
         .iter()
-        .filter_map(|&role| refusal(request.call, role))
+        .filter_map(|&role| refusal(request.call, role, length))
         .min()
         .map(|number| match request.call {
             Call::Next => request.call.answer_to_no_image(),
             _ => number,
         });
-    let there = |role: usize| match roles.contains(&role) && refusal(request.call, role).is_some() {
+    let there = |role: usize| match roles.contains(&role) && refusal(request.call, role, length).is_some() {
         true => &[],
         false => request.slices[role],
     };
@@ -145,6 +149,7 @@ fn ask(request: &Request, roles: &[usize], length: usize) {
     for &role in request.call.takes() {
         let left = match role {
             OUT if refused.is_none() => &paper.out,
+            ANSWERS if refused.is_none() => &paper.answers,
             IMAGE if refused.is_none() => paper.image.as_deref().unwrap_or(there(role)),
             _ => there(role),
         };
@@ -183,10 +188,16 @@ fn names() {
     each(&[NAME, NEW], &[&HUGE[..], &HUGEST].concat());
 }
 
-/// Execution bytes and information are read at their front alone, a listing, a body and a list written there alone.
+/// Of a handful neither a whole number of tens nor any other is looked at.
+#[test]
+fn names_of_a_handful() {
+    each(&[NAMES], &[&HUGE[..], &HUGEST, &[(1 << 63) + 2, below(6)]].concat());
+}
+
+/// Execution bytes and information are read at their front alone, a listing, a body, a list and answers written there alone.
 #[test]
 fn what_may_be_longer_than_is_needed() {
-    each(&[EXEC, INFO, OUT], &[&HUGE[..], &HUGEST].concat());
+    each(&[EXEC, INFO, OUT, ANSWERS], &[&HUGE[..], &HUGEST].concat());
 }
 
 #[test]

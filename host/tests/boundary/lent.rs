@@ -1,7 +1,7 @@
 //! Every call with every slice between closed pages, compared with `paper` as in the differential tests.
 
 use crate::support::asking::{self, Asked};
-use crate::support::calls::{self, BODY, CALLS, Call, NAME, NOTHING, OUT, Request, ask_c};
+use crate::support::calls::{self, BODY, CALLS, Call, NAME, NOTHING, OUT, Request, SLICES, ask_c};
 use crate::support::compare::{self, Lend};
 use crate::support::damage;
 use crate::support::disks;
@@ -129,7 +129,7 @@ fn pieces_of_files() {
                 continue;
             };
             let mut lender = Guarded::new(flush, empty);
-            let mut parts = [NOTHING; 8];
+            let mut parts = [NOTHING; SLICES];
             parts[calls::IMAGE] = lender.lend(calls::IMAGE, &disk.image, false);
             for _ in 0..40 {
                 let room = readers::room(reader.left as usize, random);

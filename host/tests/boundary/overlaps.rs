@@ -1,7 +1,9 @@
 //! Slices that a call only reads may overlap each other: a name that stands in the image itself, one image for both drives,
 //! one slice for all that a save is given.
 
-use crate::support::calls::{self, BODY, Call, EXEC, IMAGE, INFO, NAME, NOTHING, OUT, Part, Request, TWO, ask_c, ask_paper};
+use crate::support::calls::{
+    self, BODY, Call, EXEC, IMAGE, INFO, NAME, NOTHING, OUT, Part, Request, SLICES, TWO, ask_c, ask_paper,
+};
 use crate::support::compare::{self, Lend};
 use crate::support::disks;
 use crate::support::fields;
@@ -20,7 +22,7 @@ fn a_name_inside_the_image() {
         let disk = disks::draw(&mut Random::new(seed));
         for file in &disk.files {
             let mut lender = guarded();
-            let mut parts = [NOTHING; 8];
+            let mut parts = [NOTHING; SLICES];
             parts[IMAGE] = lender.lend(IMAGE, &disk.image, false);
             // Safety: the name lies in the image.
             let front = unsafe { parts[IMAGE].front.add(slot_place(file.slot) + fields::NAME) };
@@ -51,7 +53,7 @@ fn a_name_inside_the_image() {
 fn one_image_in_both_drives() {
     let disk = disks::draw(&mut Random::new(15_000_000));
     let mut lender = guarded();
-    let mut parts = [NOTHING; 8];
+    let mut parts = [NOTHING; SLICES];
     parts[IMAGE] = lender.lend(IMAGE, &disk.image, false);
     parts[TWO] = parts[IMAGE];
     for numbers in [
@@ -78,7 +80,7 @@ fn one_slice_for_all_that_is_saved() {
     let image = vec![0; crate::support::geometry::IMAGE];
     let bytes: Vec<u8> = b"overlapped".iter().copied().cycle().take(3_000).collect();
     let mut lender = guarded();
-    let mut parts = [NOTHING; 8];
+    let mut parts = [NOTHING; SLICES];
     parts[IMAGE] = lender.lend(IMAGE, &image, true);
     parts[BODY] = lender.lend(BODY, &bytes, false);
     parts[OUT] = lender.lend(OUT, &[0x5c; 20], true);

@@ -1,7 +1,9 @@
 //! Slices longer than 32 bits can count: the low 32 bits of such a length are a length that would do. The pages take no memory
 //! until they are touched, so a call that answers at once costs nothing.
 
-use crate::support::calls::{self, BODY, Call, EXEC, IMAGE, INFO, NAME, NEW, NOTHING, OUT, Part, TWO, ask_c, value};
+use crate::support::calls::{
+    self, ANSWERS, BODY, Call, EXEC, IMAGE, INFO, NAME, NAMES, NEW, NOTHING, OUT, Part, SLICES, TWO, ask_c, value,
+};
 use crate::support::compare::Lend;
 use crate::support::disks::{self, Disk};
 use crate::support::facts::Facts;
@@ -43,16 +45,16 @@ impl Wide {
 /// Slices of usual length for every role, between closed pages.
 struct Usual {
     lender: Guarded,
-    parts: [Part; 8],
+    parts: [Part; SLICES],
 }
 
 impl Usual {
     fn new(disk: &Disk, name: &[u8]) -> Usual {
         let mut usual = Usual {
             lender: Guarded::new(Flush::End, Empty::Closed),
-            parts: [NOTHING; 8],
+            parts: [NOTHING; SLICES],
         };
-        let slices: [&[u8]; 8] = [
+        let slices: [&[u8]; SLICES] = [
             &disk.image,
             &disk.image,
             name,
@@ -61,9 +63,11 @@ impl Usual {
             &[4; 11],
             &[5; 600],
             &vec![0x5c; geometry::IMAGE],
+            name,
+            &[0x5c; 16],
         ];
         for (role, bytes) in slices.into_iter().enumerate() {
-            usual.parts[role] = usual.lender.lend(role, bytes, role == IMAGE || role == OUT);
+            usual.parts[role] = usual.lender.lend(role, bytes, matches!(role, IMAGE | OUT | ANSWERS));
         }
         usual
     }
@@ -166,6 +170,27 @@ fn output_buffers() {
     assert_eq!(out.front(4)[2..], [0, 0]);
 }
 
+/// Names whose low 32 bits are a whole number of tens are not, and of more names than there are answers nothing is looked at;
+/// answers and a list whose low 32 bits are too few are long enough.
+#[test]
+fn handfuls() {
+    let (disk, i) = disk();
+    let file = &disk.files[i];
+    let usual = Usual::new(&disk, &file.name);
+    let names = Wide::new(&file.name);
+    assert_eq!(usual.ask(Call::EraseMany, [0; 3], NAMES, names.part(10)), 23);
+    assert_eq!(WIDE % 10, 6);
+    assert_eq!(usual.ask(Call::EraseMany, [0; 3], NAMES, names.part(14)), 20);
+    assert!(usual.lender.bytes(IMAGE) == disk.image && usual.lender.bytes(ANSWERS) == [0x5c; 16]);
+    for role in [ANSWERS, OUT] {
+        let (usual, wide) = (Usual::new(&disk, &file.name), Wide::new(&[0x5c; 4]));
+        assert_eq!(usual.ask(Call::EraseMany, [0; 3], role, wide.part(0)), 1 << 24);
+        assert_eq!(usual.lender.bytes(IMAGE)[geometry::slot_place(file.slot)], 0);
+        let done = if role == ANSWERS { 1 } else { 2 };
+        assert_eq!(wide.front(4)[done..], [0x5c; 4][done..]);
+    }
+}
+
 /// Execution bytes and information beyond 3 and 11 are ignored; a body that long has no room.
 #[test]
 fn what_is_saved() {
@@ -197,7 +222,7 @@ fn reports() {
     };
     let counted = |report: &[u8]| [0, 1, 98].map(|at| reports::number(report, at) as usize);
     let ask = |call: Call, image: Part, two: Part, out: Part| {
-        let mut parts = [NOTHING; 8];
+        let mut parts = [NOTHING; SLICES];
         (parts[IMAGE], parts[TWO], parts[OUT]) = (image, two, out);
         // Safety: the slices stand apart from each other, and the report may be written.
         unsafe { ask_c(call, [0; 3], &parts) }

@@ -6,6 +6,7 @@
 //! - `change`: the drawn change, the sectors it names, and what it leaves.
 //! - `after`: what a change must leave, once more from document 01.
 //! - `gathering`: gathers cut after every sector.
+//! - `handful`: names erased at once, where each sector counts as a change of its own.
 //! - `answers`: the questions, and the answers on the old disk and on a cut one.
 //!
 //! `VARNUCHT_SEED` and `VARNUCHT_ROUNDS` draw other tests, or a single one again.
@@ -17,6 +18,7 @@ mod after;
 mod answers;
 mod change;
 mod gathering;
+mod handful;
 
 use answers::Answers;
 use change::Change;

@@ -182,7 +182,11 @@ fn histories(run: &mut Run) -> bool {
             disks::draw(random).image
         };
         for _ in 0..40 {
-            let call = if random.coin() { Call::Save } else { random.pick(&CHANGES) };
+            let call = match random.below(16) {
+                0..8 => Call::Save,
+                8 => Call::EraseMany,
+                _ => random.pick(&CHANGES),
+            };
             let asked = asking::draw(call, &Facts::of(&image), random);
             let left = run.ask(&asked.on(&image));
             image = left.image.unwrap_or(image);

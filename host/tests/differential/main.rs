@@ -7,6 +7,7 @@
 //! - `sectors`: every drive, track and sector of the raw sector call.
 //! - `gathers`: every file of drawn disks gathered, alone and one after the other.
 //! - `pieces`: readers, however the asking is cut, and readers of any three numbers.
+//! - `handfuls`: names erased at once, and one after the other.
 //! - `reports`: shelves in numbers, and reports of any bytes.
 //! - `ticks`: marks in either order, marks of two phones merged, and renames taken back.
 //!
@@ -20,6 +21,7 @@ mod drawn;
 mod draws;
 mod edges;
 mod gathers;
+mod handfuls;
 mod pieces;
 mod reports;
 mod sectors;

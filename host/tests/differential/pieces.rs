@@ -2,7 +2,7 @@
 //! cannot be wrong together. The image is lent once for many pieces, each of which has a buffer of its own.
 
 use crate::support::asking::WRONG_LENGTHS;
-use crate::support::calls::{self, Call, NAME, NOTHING, NOTHING_COMES, OUT, Part, Request, ask_c};
+use crate::support::calls::{self, Call, NAME, NOTHING, NOTHING_COMES, OUT, Part, Request, SLICES, ask_c};
 use crate::support::compare::{self, Lend};
 use crate::support::damage;
 use crate::support::disks::{self, Disk, File};
@@ -38,7 +38,7 @@ impl<'a> Lent<'a> {
     /// Asks for the next piece; both sides give one answer, and leave one buffer. Gives what came, and where the next stands.
     fn next(&mut self, numbers: [u32; 3], room: usize) -> (Vec<u8>, Spot) {
         let rubbish = 0x5c ^ self.pieces as u8;
-        let mut parts = [NOTHING; 8];
+        let mut parts = [NOTHING; SLICES];
         parts[calls::IMAGE] = self.part;
         parts[OUT] = self.lender.lend(OUT, &vec![rubbish; room], true);
         // Safety: the image is only read, and the output buffer stands alone.

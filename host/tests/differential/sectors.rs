@@ -1,7 +1,7 @@
 //! The raw sector call: every track and sector of both drives, what lies beside them, and images of wrong lengths.
 
 use crate::support::asking::WRONG_LENGTHS;
-use crate::support::calls::{self, Call, Request, TWO, ask_c, ask_paper};
+use crate::support::calls::{self, Call, Request, SLICES, TWO, ask_c, ask_paper};
 use crate::support::compare::{self, Lend};
 use crate::support::geometry::{IMAGE, is_track, place};
 use crate::support::margins::Margins;
@@ -14,7 +14,7 @@ fn every_drive_track_and_sector() {
     let mut random = Random::new(7_000_000);
     let (one, two) = (random.bytes(IMAGE), random.bytes(IMAGE));
     let mut lender = Margins::default();
-    let mut parts = [lender.nothing(); 8];
+    let mut parts = [lender.nothing(); SLICES];
     parts[calls::IMAGE] = lender.lend(calls::IMAGE, &one, false);
     parts[TWO] = lender.lend(TWO, &two, false);
     let mut places = 0;

@@ -26,9 +26,10 @@ static void check_reasons(void) {
         VARNUCHT_BUFFER_TOO_SHORT,
         VARNUCHT_NO_SUCH_SECTOR,
         VARNUCHT_WASTE_SECTORS,
+        VARNUCHT_NAMES_NOT_TENS,
     };
-    expect(sizeof reasons / sizeof reasons[0] == 23, "how many refusals", 23);
-    for (int number = 0; number < 23; number++) {
+    expect(sizeof reasons / sizeof reasons[0] == 24, "how many refusals", 24);
+    for (int number = 0; number < 24; number++) {
         expect(reasons[number] == number, "the number of a refusal", (unsigned long)number);
     }
     expect(VARNUCHT_TRACKS_OUT_OF_RANGE == 24, "the number of a refusal", 24);
@@ -55,6 +56,7 @@ static void check_sizes(void) {
     expect(VARNUCHT_BODY_BYTES == 510 * 1560 - 9, "bytes of a body", 0);
     expect(VARNUCHT_SAVE_LIST_BYTES == 2 * (1560 + 2), "bytes of a save's list", 0);
     expect(VARNUCHT_GATHER_LIST_BYTES == 2 * (1560 / 2 + 1), "bytes of a gather's list", 0);
+    expect(VARNUCHT_ERASE_LIST_BYTES == 2 * (39 * 10 - 1), "bytes of the list of an erase of many", 0);
     expect(VARNUCHT_CHANGE_LIST_BYTES == 2, "bytes of another list", 0);
     expect(VARNUCHT_REPORT_BYTES == 4 * 124, "bytes of a report", 0);
 }

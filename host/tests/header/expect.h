@@ -21,5 +21,6 @@ void check_reports(void);
 void check_bigger(void);
 void check_trees(void);
 void check_gathering(void);
+void check_handfuls(void);
 
 #endif

@@ -12,6 +12,7 @@ typedef uint64_t save_call(uint8_t *, size_t, uint32_t, const uint8_t *, size_t,
                            const uint8_t *, size_t, const uint8_t *, size_t, uint8_t *, size_t);
 typedef uint64_t change_call(uint8_t *, size_t, const uint8_t *, size_t, uint8_t *, size_t);
 typedef uint64_t join_call(uint8_t *, size_t, const uint8_t *, size_t);
+typedef uint64_t many_call(uint8_t *, size_t, const uint8_t *, size_t, uint8_t *, size_t, uint8_t *, size_t);
 typedef uint64_t rename_call(uint8_t *, size_t, const uint8_t *, size_t, const uint8_t *, size_t, uint8_t *, size_t);
 
 static image_call *const volatile check = varnucht_check;
@@ -24,6 +25,7 @@ static next_call *const volatile next = varnucht_next;
 static start_call *const volatile start = varnucht_start;
 static sector_call *const volatile sector = varnucht_sector;
 static save_call *const volatile save = varnucht_save;
+static many_call *const volatile erasing = varnucht_erase_many;
 static rename_call *const volatile renaming = varnucht_rename;
 static list_call *const volatile adding = varnucht_report_add;
 static join_call *const volatile joining = varnucht_report_join;
@@ -43,6 +45,7 @@ void check_prototypes(void) {
     expect(start(NULL, 0, NULL, 0) == 1, "start of nothing", 0);
     expect(sector(NULL, 0, NULL, 0, 0, 0, 0) == 1, "sector of nothing", 0);
     expect(save(NULL, 0, 0, NULL, 0, 0, 0, NULL, 0, NULL, 0, NULL, 0, NULL, 0) == 1, "save of nothing", 0);
+    expect(erasing(NULL, 0, NULL, 0, NULL, 0, NULL, 0) == 1, "erase of many of nothing", 0);
     expect(renaming(NULL, 0, NULL, 0, NULL, 0, NULL, 0) == 1, "rename of nothing", 0);
     expect(adding(NULL, 0, NULL, 0) == 20, "a disk added to nothing", 0);
     expect(joining(NULL, 0, NULL, 0) == 20, "nothing joined to nothing", 0);

@@ -3,7 +3,8 @@
  * and there 255 subdirectories, each in the one before, with files in the last; and for both checks the greatest file with its
  * last link but one leading back to its first sector, which is refused 10 where that comes again. For the save also a disk
  * whose directory ends at slot 2, with an old name behind it in another sector; for the gather the greatest file that can move,
- * which has half of the data sectors, falling. */
+ * which has half of the data sectors, falling; for the erase of many every name of the crowded disks, with a list that always
+ * suffices and with one that just does. */
 #define _XOPEN_SOURCE 700
 #include <stdio.h>
 #include <string.h>
@@ -23,6 +24,7 @@ static uint8_t image[VARNUCHT_IMAGE_BYTES];
 static uint8_t body[VARNUCHT_BODY_BYTES], list[VARNUCHT_SAVE_LIST_BYTES];
 static uint8_t report[VARNUCHT_REPORT_BYTES], shelf[VARNUCHT_REPORT_BYTES];
 static const uint8_t name[] = {'A', '0'}, other[] = {'T', 'U', 'N', 'E', 'S'};
+static uint8_t names[VARNUCHT_NAME_BYTES * VARNUCHT_SLOTS], answers[VARNUCHT_SLOTS];
 static unsigned refusal;
 
 static uint64_t save(uint8_t *to, const uint8_t *as, size_t as_len, size_t len) {
@@ -45,6 +47,15 @@ static void saving(void) { refusal = varnucht_refusal(save(image, other, 5, 510 
 static void saving_on(void) { refusal = varnucht_refusal(save(image, other, 5, 510 * 1559 - 9)); }
 static void saving_last(void) { refusal = varnucht_refusal(save(image, other, 5, 510 * 1480 - 9)); }
 static void saving_778th(void) { refusal = varnucht_refusal(save(image, other, 5, 510 * (1211 - 777) - 9)); }
+static void erase_many(void) {
+    refusal = varnucht_refusal(varnucht_erase_many(image, sizeof image, names, sizeof names, answers, sizeof answers, list,
+                                                   VARNUCHT_ERASE_LIST_BYTES));
+}
+/* All but the first two, which share a sector. */
+static void erase_most(void) {
+    refusal = varnucht_refusal(varnucht_erase_many(image, sizeof image, names + 20, sizeof names - 20, answers, sizeof answers,
+                                                   list, VARNUCHT_ERASE_LIST_BYTES - 2));
+}
 static void erase(void) { refusal = varnucht_refusal(varnucht_erase(image, sizeof image, name, 2, list, 2)); }
 static void renaming(void) { refusal = varnucht_refusal(varnucht_rename(image, sizeof image, name, 2, other, 5, list, 2)); }
 static void hide(void) { refusal = varnucht_refusal(varnucht_hide(image, sizeof image, name, 2, list, 2)); }
@@ -76,6 +87,15 @@ static void say(const char *call, void (*run)(void), const uint8_t *disk) {
     refusal = 0;
     size_t without = used_by(nothing), with = used_by(run);
     printf("%s %lu refused %u\n", call, (unsigned long)(with - without), refusal);
+}
+
+/* The names of the files on a crowded disk, whether all are there or not. */
+static void make_names(void) {
+    memset(names, 32, sizeof names);
+    for (unsigned i = 0; i < VARNUCHT_SLOTS; i++) {
+        names[VARNUCHT_NAME_BYTES * i] = (uint8_t)('A' + i / 40);
+        names[VARNUCHT_NAME_BYTES * i + 1] = (uint8_t)('0' + i % 40);
+    }
 }
 
 /* Files of one sector in every slot but the last, which is erased. */
@@ -147,6 +167,7 @@ static void make_disks(void) {
 
 int main(void) {
     make_disks();
+    make_names();
     const uint8_t *const disks[] = {full, crowded, biggest, deep};
     for (int i = 0; i < 4; i++) {
         say("check", check, disks[i]);
@@ -159,6 +180,8 @@ int main(void) {
         say("start", start, disks[i]);
         say("sector", sector, disks[i]);
         say("erase", erase, disks[i]);
+        say("erase_many", erase_many, disks[i]);
+        say("erase_many", erase_most, disks[i]);
         say("rename", renaming, disks[i]);
         say("hide", hide, disks[i]);
         say("show", show, disks[i]);

@@ -1,9 +1,10 @@
 //! Drawn requests around the boundaries: names that are and are not there, buffers that just do and just do not suffice.
 
-use super::calls::{Call, IMAGE, NAME, NEW, OUT, Request, TWO};
+use super::calls::{Call, IMAGE, NAME, NEW, OUT, Request, SLICES, TWO};
 use super::facts::Facts;
 use super::folders;
 use super::geometry;
+use super::handfuls;
 use super::names;
 use super::random::Random;
 use super::readers;
@@ -14,7 +15,7 @@ use super::wishes;
 pub struct Asked {
     pub call: Call,
     pub numbers: [u32; 3],
-    pub slices: [Vec<u8>; 8],
+    pub slices: [Vec<u8>; SLICES],
 }
 
 impl Asked {
@@ -61,6 +62,7 @@ pub fn draw(call: Call, facts: &Facts, random: &mut Random) -> Asked {
         Call::Sector => sector(random),
         Call::ReportAdd | Call::ReportJoin => reports::draw(call, random),
         Call::Save => wishes::draw(facts, random),
+        Call::EraseMany => handfuls::draw(facts, random),
         Call::Rename => {
             let name = asked_name(facts, random);
             let new = match random.below(8) {

@@ -1,7 +1,7 @@
 //! The same request to the C layer and to `paper`, each with copies of its own of all buffers: equal answers, and every buffer
 //! equal at return, those too that are only read.
 
-use super::calls::{self, Answer, BODY, Call, IMAGE, OUT, Part, ROLES, Request, ask_c, ask_paper};
+use super::calls::{self, ANSWERS, Answer, BODY, Call, IMAGE, OUT, Part, ROLES, Request, SLICES, ask_c, ask_paper};
 
 /// A way to lend buffers to the C layer.
 pub trait Lend {
@@ -21,6 +21,7 @@ pub struct Left {
     /// None: unchanged, or the call does not change it.
     pub image: Option<Vec<u8>>,
     pub out: Vec<u8>,
+    pub answers: Vec<u8>,
 }
 
 /// Asks both and fails where they differ.
@@ -54,12 +55,13 @@ pub fn ask(request: &Request, lender: &mut impl Lend) -> Left {
         answer,
         image,
         out: paper.out,
+        answers: paper.answers,
     }
 }
 
 /// Asks the C layer alone, on lent copies.
 pub fn ask_lent(request: &Request, lender: &mut impl Lend) -> u64 {
-    let mut parts = [lender.nothing(); 8];
+    let mut parts = [lender.nothing(); SLICES];
     for &role in request.call.takes() {
         parts[role] = lender.lend(role, request.slices[role], request.call.changes(role));
     }
@@ -70,6 +72,7 @@ pub fn ask_lent(request: &Request, lender: &mut impl Lend) -> u64 {
 fn left<'a>(paper: &'a Answer, role: usize, old: &'a [u8]) -> &'a [u8] {
     match role {
         OUT => &paper.out,
+        ANSWERS => &paper.answers,
         IMAGE => paper.image.as_deref().unwrap_or(old),
         _ => old,
     }

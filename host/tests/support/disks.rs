@@ -82,6 +82,13 @@ impl Disk {
         &mut self.image[slot_place(slot)..][..SLOT]
     }
 
+    /// Takes every file's protection away.
+    pub fn release_all(&mut self) {
+        for slot in self.files.iter().map(|file| slot_place(file.slot)) {
+            self.image[slot] &= !fields::PROTECTED;
+        }
+    }
+
     pub fn sector_mut(&mut self, bit: usize) -> &mut [u8] {
         &mut self.image[bit_place(bit)..][..SECTOR]
     }

@@ -4,7 +4,7 @@
 //!
 //! A fault is not caught: it ends the test program by a signal, and that fails the test. Linux on x86-64 alone.
 
-use super::calls::{NOTHING, Part};
+use super::calls::{NOTHING, Part, SLICES};
 use super::compare::Lend;
 use std::ffi::{c_int, c_void};
 use std::ptr;
@@ -102,7 +102,7 @@ impl Drop for Pages {
 pub struct Guarded {
     flush: Flush,
     empty: Empty,
-    lent: [Option<(Pages, usize)>; 8],
+    lent: [Option<(Pages, usize)>; SLICES],
 }
 
 impl Guarded {

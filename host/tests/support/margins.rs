@@ -1,6 +1,6 @@
 //! Buffers lent to the C layer at an odd address, with known bytes on both sides that must stay.
 
-use super::calls::{NOTHING, Part};
+use super::calls::{NOTHING, Part, SLICES};
 use super::compare::Lend;
 
 const MARGIN: usize = 48;
@@ -9,7 +9,7 @@ const CANARY: u8 = 0xa7;
 /// One buffer for each role of a request, used again and again.
 #[derive(Default)]
 pub struct Margins {
-    buffers: [Buffer; 8],
+    buffers: [Buffer; SLICES],
     turn: usize,
 }
 

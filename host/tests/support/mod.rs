@@ -11,6 +11,7 @@
 //! - `margins`, `guarded`: two ways to lend the buffers to the C layer.
 //! - `folders`: codes of directories, and what lies beneath them.
 //! - `gathers`: where a scattered file goes.
+//! - `handfuls`: names that are erased at once, and what becomes of them.
 //! - `facts`, `asking`, `wishes`, `readers`: drawn requests that fit a disk.
 //! - `reports`: drawn reports, and what is counted of a disk.
 //! - `tally`: how often each call gave each refusal.
@@ -29,6 +30,7 @@ pub mod folders;
 pub mod gathers;
 pub mod geometry;
 pub mod guarded;
+pub mod handfuls;
 pub mod margins;
 pub mod names;
 pub mod random;

@@ -1,7 +1,7 @@
 /// The words of document 01's table by number, copied from it; and those of the rows that document 02 moves or adds. Numbers
 /// between them belong to requests that have not landed.
 #[rustfmt::skip]
-pub const TABLE: [(u8, &str); 30] = [
+pub const TABLE: [(u8, &str); 31] = [
     (1, "the image is not 819,200 bytes"),
     (2, "the kind is not known"),
     (3, "the first name byte is 0 (given no more)"),
@@ -24,6 +24,7 @@ pub const TABLE: [(u8, &str); 30] = [
     (20, "a lent output buffer is too short"),
     (21, "no such drive, track or sector"),
     (22, "carried kind, and the count is above the least that its length needs (waste sectors behind the file)"),
+    (23, "the names are not a whole number of tens (erase many)"),
     (24, "the number of directory tracks beyond four, byte 255 of slot 1, is 36 to 254"),
     (25, "kind 1 to 4, and 510 × count is below 9 + the length in the header"),
     (26, "a directory with code 0 or an earlier directory's code (tree)"),

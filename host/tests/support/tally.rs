@@ -23,6 +23,7 @@ pub fn possible(call: Call) -> Vec<u8> {
         Call::ReportAdd | Call::ReportJoin => return vec![0, 20, 31],
         Call::Save => &[12, 13, 14, 16, 18, 19, 20],
         Call::Erase => &[12, 15, 17, 29, 20],
+        Call::EraseMany => &[23, 20],
         Call::Rename => &[12, 15, 16, 17, 20],
         Call::Hide | Call::Show | Call::Protect | Call::Release => &[12, 15, 20],
         Call::Gather => &[12, 13, 15, 32, 20],

@@ -40,7 +40,7 @@ fn each_sector_is_flushed_before_the_next() {
     let image = folder.image(&disk(&[("OLD", 3_000), ("KEPT", 600)]));
     let file = folder.file("file", &body(20_000));
     let file = file.to_str().expect("a path in text");
-    let changes: [(&str, &[&str]); 9] = [
+    let changes: [(&str, &[&str]); 10] = [
         ("save", &["TUNES", file]),
         ("hide", &["TUNES"]),
         ("show", &["TUNES"]),
@@ -51,11 +51,16 @@ fn each_sector_is_flushed_before_the_next() {
         // Into the sectors of OLD, and behind all others.
         ("save", &["MORE", file]),
         ("gather", &["MORE"]),
+        ("erase", &["KEPT", "SONGS"]),
     ];
     for (command, words) in changes {
         let planned = on(command, &image, words.iter().copied().chain(["--dry-run"]));
         let sectors = named(planned.done());
-        let many = if ["save", "gather"].contains(&command) { 41 } else { 1 };
+        let many = match words {
+            _ if ["save", "gather"].contains(&command) => 41,
+            ["KEPT", "SONGS"] => 2,
+            _ => 1,
+        };
         assert_eq!(sectors.len(), many, "{command}");
         let words: Vec<&str> = [command, "disk.mgt"].into_iter().chain(words.iter().copied()).collect();
         let (run, noted) = watched(&folder, &watch, &words);

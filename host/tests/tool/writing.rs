@@ -13,6 +13,7 @@ fn changes(body: &Path) -> Vec<Vec<String>> {
     let save = vec!["save".into(), "NEW".into(), body.to_str().expect("a plain path").into()];
     let others = [
         "erase ONE",
+        "erase TWO ONE",
         "rename ONE NEW",
         "hide ONE",
         "show ONE",

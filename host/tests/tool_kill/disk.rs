@@ -129,6 +129,44 @@ pub fn change(old: &[u8], name: &[u8], change: &Change) -> (Vec<u8>, Vec<usize>)
     (image, numbers(&list, many))
 }
 
+/// The disk after an erase of several files, and the sectors named. Every one of the names is there.
+pub fn erase_many(old: &[u8], names: &[Vec<u8>]) -> (Vec<u8>, Vec<usize>) {
+    let names: Vec<u8> = names.iter().flat_map(|name| filled(name)).collect();
+    let (mut image, mut answers, mut list) = (old.to_vec(), vec![99; names.len() / 10], vec![0; 778]);
+    let answer = unsafe {
+        raw::varnucht_erase_many(
+            image.as_mut_ptr(),
+            image.len(),
+            names.as_ptr(),
+            names.len(),
+            answers.as_mut_ptr(),
+            answers.len(),
+            list.as_mut_ptr(),
+            list.len(),
+        )
+    };
+    let many = value("an erase of many", answer);
+    assert!(answers.iter().all(|answer| *answer == 0), "{answers:?}");
+    (image, numbers(&list, many))
+}
+
+/// A name with the spaces that fill it.
+fn filled(name: &[u8]) -> [u8; 10] {
+    let mut ten = [32; 10];
+    ten[..name.len()].copy_from_slice(name);
+    ten
+}
+
+/// The directory's sector that has a file's slot.
+pub fn sector_of(image: &[u8], name: &[u8]) -> usize {
+    let (listing, _) = list(image);
+    let mut entries = listing.chunks(258);
+    let entry = entries.find(|entry| entry[3..13] == filled(name)).expect("a file");
+    let slot = usize::from(entry[0]) + 256 * usize::from(entry[1]);
+    let past = if slot > 80 { slot + 1 } else { slot - 1 };
+    past / 20 * 20 + past % 20 / 2
+}
+
 /// The disk after a gather, and the sectors named; none where the file is left or cannot move.
 pub fn gather(old: &[u8], name: &[u8]) -> Option<(Vec<u8>, Vec<usize>)> {
     let (mut image, mut list) = (old.to_vec(), vec![0; 1562]);

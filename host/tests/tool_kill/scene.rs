@@ -1,4 +1,7 @@
 //! A disk in a file, what is known to be on it, and the rounds: a change by the tool, killed, judged, and made again.
+#[path = "handful.rs"]
+mod handful;
+
 use crate::disk::{self, Change, Wish};
 use crate::draw::Draw;
 use crate::pace::Pace;

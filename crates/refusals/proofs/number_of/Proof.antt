@@ -101,6 +101,9 @@ enum-told-29 c = search needs
 enum-told-30 : tie.Need-enum-told-30
 enum-told-30 c = search needs
 
+enum-told-31 : tie.Need-enum-told-31
+enum-told-31 c = search needs
+
 returns : tie.Need-returns
 returns c = told (c .enum-told .given .1) refl (omega arith)
 
@@ -191,6 +194,9 @@ returns-29 c = told (c .enum-told29 .given .1) refl (omega arith)
 returns-30 : tie.Need-returns-30
 returns-30 c = told (c .enum-told30 .given .1) refl (omega arith)
 
+returns-31 : tie.Need-returns-31
+returns-31 c = told (c .enum-told31 .given .1) refl (omega arith)
+
 pub number-of-spec : {M : Type 1} → statement M
 number-of-spec =
     tie.close
@@ -225,6 +231,7 @@ number-of-spec =
     enum-told-28
     enum-told-29
     enum-told-30
+    enum-told-31
     returns
     returns-2
     returns-3
@@ -254,4 +261,5 @@ number-of-spec =
     returns-27
     returns-28
     returns-29
-    returns-30)
+    returns-30
+    returns-31)

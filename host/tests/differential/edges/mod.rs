@@ -7,6 +7,7 @@ mod bodies;
 mod buffers;
 mod ends;
 mod gather;
+mod handful;
 mod letters;
 mod names;
 mod order;

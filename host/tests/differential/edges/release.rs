@@ -188,6 +188,10 @@ fn other_calls_accept_them() {
             Call::Open | Call::Start => Asked::new(call).with(NAME, file.name),
             Call::ReportAdd => Asked::new(call).with(OUT, [0; reports::REPORT]),
             Call::Save => super::save(vec![7; 10]),
+            Call::EraseMany => Asked::new(call)
+                .with(calls::NAMES, file.name)
+                .with(calls::ANSWERS, [0])
+                .with(OUT, [0; 2]),
             Call::Rename => Asked::new(call)
                 .with(NAME, file.name)
                 .with(calls::NEW, *b"other")

@@ -1,32 +1,35 @@
 //! A request to `paper`, on copies of what a call may change.
 
 use super::packed::{Parts, pack};
-use super::{Call, IMAGE, OUT, Request};
+use super::{ANSWERS, Call, IMAGE, NAMES, OUT, Request};
 use paper::{Reader, Refused, Wish};
 
-/// What `paper` answers, and what it leaves of the two slices that a call may change.
+/// What `paper` answers, and what it leaves of the slices that a call may change.
 pub struct Answer {
     pub packed: u64,
     /// None: the call does not change it.
     pub image: Option<Vec<u8>>,
     pub out: Vec<u8>,
+    pub answers: Vec<u8>,
 }
 
 pub fn ask_paper(request: &Request) -> Answer {
-    let mut out = request.slices[OUT].to_vec();
+    let [mut out, mut answers] = [OUT, ANSWERS].map(|role| request.slices[role].to_vec());
     if request.call.is_change() {
         let mut image = request.slices[IMAGE].to_vec();
-        let packed = pack(change(request, &mut image, &mut out).map(|sectors| [0, sectors, 0]));
+        let sectors = change(request, &mut image, &mut answers, &mut out);
         return Answer {
-            packed,
+            packed: pack(sectors.map(|sectors| [0, sectors, 0])),
             image: Some(image),
             out,
+            answers,
         };
     }
     Answer {
         packed: pack(look(request, &mut out)),
         image: None,
         out,
+        answers,
     }
 }
 
@@ -61,8 +64,8 @@ fn at(reader: Reader, value: usize) -> Parts {
 }
 
 /// The changes: how many sectors.
-fn change(request: &Request, image: &mut [u8], list: &mut [u8]) -> Result<usize, Refused> {
-    let [_, _, name, new, exec, info, body, _] = request.slices;
+fn change(request: &Request, image: &mut [u8], answers: &mut [u8], list: &mut [u8]) -> Result<usize, Refused> {
+    let [_, _, name, new, exec, info, body, ..] = request.slices;
     let [kind, page, offset] = request.numbers;
     match request.call {
         Call::Save => paper::save(
@@ -79,6 +82,7 @@ fn change(request: &Request, image: &mut [u8], list: &mut [u8]) -> Result<usize,
             list,
         ),
         Call::Erase => paper::erase(image, name, list),
+        Call::EraseMany => paper::erase_many(image, request.slices[NAMES], answers, list),
         Call::Rename => paper::rename(image, name, new, list),
         Call::Hide => paper::hide(image, name, list),
         Call::Show => paper::show(image, name, list),

@@ -1,6 +1,6 @@
 //! A request to the C layer: numbers, and slices as pointers and lengths.
 
-use super::Call;
+use super::{Call, SLICES};
 use varnucht::raw;
 
 /// A slice as the C layer takes it.
@@ -20,8 +20,8 @@ pub const NOTHING: Part = Part {
 /// # Safety
 ///
 /// Every part is readable over its length; those that the call changes are writable too and overlap no other.
-pub unsafe fn ask_c(call: Call, numbers: [u32; 3], parts: &[Part; 8]) -> u64 {
-    let [image, two, name, new, exec, info, body, out] = *parts;
+pub unsafe fn ask_c(call: Call, numbers: [u32; 3], parts: &[Part; SLICES]) -> u64 {
+    let [image, two, name, new, exec, info, body, out, names, answers] = *parts;
     let [a, b, c] = numbers;
     let (i, il, n, nl, o, ol) = (image.front, image.length, name.front, name.length, out.front, out.length);
     // Safety: the caller's promise is the one that every call asks.
@@ -54,6 +54,9 @@ pub unsafe fn ask_c(call: Call, numbers: [u32; 3], parts: &[Part; 8]) -> u64 {
                 ol,
             ),
             Call::Erase => raw::varnucht_erase(i, il, n, nl, o, ol),
+            Call::EraseMany => {
+                raw::varnucht_erase_many(i, il, names.front, names.length, answers.front, answers.length, o, ol)
+            }
             Call::Rename => raw::varnucht_rename(i, il, n, nl, new.front, new.length, o, ol),
             Call::Hide => raw::varnucht_hide(i, il, n, nl, o, ol),
             Call::Show => raw::varnucht_show(i, il, n, nl, o, ol),

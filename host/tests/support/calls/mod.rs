@@ -25,6 +25,7 @@ pub enum Call {
     Sector,
     Save,
     Erase,
+    EraseMany,
     Rename,
     Hide,
     Show,
@@ -35,7 +36,7 @@ pub enum Call {
     ReportJoin,
 }
 
-pub const CALLS: [Call; 19] = [
+pub const CALLS: [Call; 20] = [
     Call::Check,
     Call::CheckRelease,
     Call::List,
@@ -47,6 +48,7 @@ pub const CALLS: [Call; 19] = [
     Call::Sector,
     Call::Save,
     Call::Erase,
+    Call::EraseMany,
     Call::Rename,
     Call::Hide,
     Call::Show,
@@ -57,6 +59,7 @@ pub const CALLS: [Call; 19] = [
     Call::ReportJoin,
 ];
 
+/// The changes that count as one, whole or not at all. Of a handful that is erased each sector does.
 pub const CHANGES: [Call; 8] = [
     Call::Save,
     Call::Erase,
@@ -79,7 +82,12 @@ pub const INFO: usize = 5;
 pub const BODY: usize = 6;
 /// The output buffer of list, read, next and tree, the list of sector numbers of a change, the report that is added or joined to.
 pub const OUT: usize = 7;
-pub const ROLES: [&str; 8] = [
+/// The names of a handful that is erased, and the answers to them.
+pub const NAMES: usize = 8;
+pub const ANSWERS: usize = 9;
+/// How many slices there are.
+pub const SLICES: usize = 10;
+pub const ROLES: [&str; SLICES] = [
     "image",
     "second image or report",
     "name",
@@ -88,11 +96,13 @@ pub const ROLES: [&str; 8] = [
     "information",
     "body",
     "output",
+    "names",
+    "answers",
 ];
 
 impl Call {
     pub fn is_change(self) -> bool {
-        CHANGES.contains(&self)
+        CHANGES.contains(&self) || self == Call::EraseMany
     }
 
     /// Whether this call refuses no directory: what a damaged one holds makes no difference to its refusal.
@@ -126,6 +136,7 @@ impl Call {
             Call::Sector => &[IMAGE, TWO],
             Call::Save => &[IMAGE, NAME, EXEC, INFO, BODY, OUT],
             Call::Rename => &[IMAGE, NAME, NEW, OUT],
+            Call::EraseMany => &[IMAGE, NAMES, ANSWERS, OUT],
             Call::ReportAdd => &[IMAGE, OUT],
             Call::ReportJoin => &[TWO, OUT],
             _ => &[IMAGE, NAME, OUT],
@@ -134,7 +145,7 @@ impl Call {
 
     /// Whether this call may change that slice.
     pub fn changes(self, role: usize) -> bool {
-        role == OUT || role == IMAGE && self.is_change()
+        matches!(role, OUT | ANSWERS) || role == IMAGE && self.is_change()
     }
 }
 
@@ -144,12 +155,12 @@ pub struct Request<'a> {
     pub call: Call,
     /// Save: kind, start page, offset. Sector: drive, track, sector. Next: sector, offset, left.
     pub numbers: [u32; 3],
-    pub slices: [&'a [u8]; 8],
+    pub slices: [&'a [u8]; SLICES],
 }
 
 impl<'a> Request<'a> {
     pub fn new(call: Call, image: &'a [u8]) -> Request<'a> {
-        let mut slices: [&[u8]; 8] = [&[]; 8];
+        let mut slices: [&[u8]; SLICES] = [&[]; SLICES];
         slices[IMAGE] = image;
         Request {
             call,

@@ -1,0 +1,4 @@
+pub mod Index
+pub mod Seek
+pub mod Settling
+pub mod Whole

@@ -1,0 +1,15 @@
+-- `batches::bucket_of` meets its contract.
+use Rattle.batches.specs.Index.{bucketOf}
+use borrow.Author.Needs.{needs}
+use Rattle.batches.proofs.bucket_of.Statement.{statement}
+use Rattle.batches.proofs.bucket_of.Tie as tie
+
+key-of-requires : tie.Need-key-of-requires
+key-of-requires c κs = search needs
+
+returns : tie.Need-returns
+unfolding bucketOf
+returns c = search needs
+
+pub bucket-of-spec : {M : Type 1} → statement M
+bucket-of-spec = tie.close (tie.spec key-of-requires returns)

@@ -1,0 +1,88 @@
+-- Demand 3, the whole claim: every accepted disk, everything that can be asked for with its whole list, every part, every cut.
+use Prim.Native.Nat.{ℕ, zero, suc, _+_, _≤_, _<_}
+use mathlib.Core.Path.{_≡_, refl, sym, ap, _∙_, subst, subst₂}
+use mathlib.Core.List.{List, [], _∷_}
+use mathlib.Core.Option.{none}
+use native.Mathlib.Omega.{arith}
+use lib.ListN.{length, getD, take}
+use Rattle.buffers.specs.Bytes.{part, put}
+use Rattle.buffers.proofs.Lists.{part-put}
+use Rattle.refusals.specs.Answers.{done}
+use Rattle.disk.specs.Check.{checkDisk}
+use Rattle.steps.specs.Sectors.{cut}
+use Rattle.steps.proofs.Sectors.{cut-none}
+use Rattle.plans.specs.Plan.{Result, stopped, made}
+use Rattle.plans.specs.Safe.{Safe}
+use Rattle.plans.proofs.Demand3.{crash as crash-single, crash-call as crash-call-single, run-room}
+use Rattle.plans.proofs.Unread.{unread-stays}
+use Rattle.handfuls.specs.Handful.{erasedAll, sectorsOfAll, runMany, erasedBy, eraseMany}
+use Rattle.handfuls.specs.Parts.{Ask, single, handful, ran, call, PartsJoin, EachSafe, EveryCut}
+use Rattle.handfuls.specs.Left.{CutLeaves}
+use Rattle.handfuls.proofs.Left.{handful-fewer, handful-cut, cut-last}
+use Rattle.handfuls.proofs.Crash.{sector-safe}
+use Rattle.handfuls.proofs.Refused.{run-grants}
+
+-- a change is one part, and its own theorem says it; of a handful each sector is one
+pub crash : (a : Ask) (old : List ℕ) (room : ℕ) (new ss : List ℕ) → checkDisk old ≡ none → ran a old room ≡ made new ss → EachSafe a old new ss
+crash (single c) old room new ss ok e = λ k h. crash-single c old room new ss ok e
+crash (handful ns abuf) old room new ss ok e =
+    let g = run-grants old ns (length abuf) room new ss e in
+    subst₂ (EachSafe (handful ns abuf) old) (g .1) (g .2) (λ k h. sector-safe old ok (erasedAll old ns) (handful-fewer old ok ns) k h)
+
+-- the parts are the change
+pub parts-join : (a : Ask) (old : List ℕ) (room : ℕ) (new ss : List ℕ) → checkDisk old ≡ none → ran a old room ≡ made new ss → PartsJoin a old new ss
+parts-join (single c) old room new ss ok e = record {
+  first = λ h. refl;
+  next = λ k h. absurd (omega arith);
+  last = λ k h. refl;
+  empty = λ h. absurd (omega arith);
+}
+parts-join (handful ns abuf) old room new ss ok e =
+    let g = run-grants old ns (length abuf) room new ss e in
+    let w : cut old new ss (length ss) ≡ new = subst₂ (λ (x s : List ℕ). cut old x s (length s) ≡ x) (g .1) (g .2) (cut-last old ok (erasedAll old ns) (handful-fewer old ok ns)) in
+    record {
+      first = λ h. cut-none old new ss;
+      next = λ k h. refl;
+      last = λ k h. ap (cut old new ss) h ∙ w;
+      empty = λ h. sym w ∙ ap (cut old new ss) h ∙ cut-none old new ss;
+    }
+
+-- cut anywhere in its whole list
+pub every-cut : (a : Ask) (old : List ℕ) (room : ℕ) (new ss : List ℕ) → checkDisk old ≡ none → ran a old room ≡ made new ss
+    → (k : ℕ) → k ≤ length ss → EveryCut a old new ss k
+every-cut (single c) old room new ss ok e k h =
+    let s = crash-single c old room new ss ok e in
+    record { accepted = s .accepts k h; label = s .label k h; unread = λ j q n. unread-stays c old room new ss ok e .stays k h j q n }
+every-cut (handful ns abuf) old room new ss ok e k h =
+    let g = run-grants old ns (length abuf) room new ss e in
+    let w = subst₂ (λ (x s : List ℕ). CutLeaves old x s k) (g .1) (g .2) (handful-cut old ok ns k) in
+    record { accepted = w .accepted; label = w .label; unread = λ j q n. w .unread j ∙ q }
+
+-- ---- in the words of the contracts
+
+-- what is accepted has an accepted disk, and a list with room for the sectors named
+pub ran-room : (a : Ask) (d : List ℕ) (room : ℕ) (new ss : List ℕ) → ran a d room ≡ made new ss → (checkDisk d ≡ none) × (length ss ≤ room)
+ran-room (single c) d room new ss e = let r = run-room c d room new ss e in (r .accepted, r .fits)
+ran-room (handful ns abuf) d room new ss e =
+    let g = run-grants d ns (length abuf) room new ss e in
+    (g .0 .disk, subst (λ (l : List ℕ). length l ≤ room) (g .2) (g .0 .list))
+
+many-call : (ns abuf d buf : List ℕ) (n f : ℕ) → eraseMany d ns abuf buf .outcome ≡ done n f
+    → EachSafe (handful ns abuf) d (eraseMany d ns abuf buf .image) (take n (eraseMany d ns abuf buf .list))
+unfolding eraseMany part
+many-call ns abuf d buf n f e = by (runMany ns d (length abuf) (length buf)) refl e
+  where
+    by : (x : Result) → runMany ns d (length abuf) (length buf) ≡ x → erasedBy x d ns abuf buf .outcome ≡ done n f
+        → EachSafe (handful ns abuf) d (erasedBy x d ns abuf buf .image) (take n (erasedBy x d ns abuf buf .list))
+    by (stopped r) q w = let z : _≡_ {A = ℕ} 0 1 = cc in absurd (omega arith)
+    by (made new ss) q w =
+        let m : length ss ≡ n = cc in
+        let r = ran-room (handful ns abuf) d (length buf) new ss q in
+        let t : take n (put buf 0 ss) ≡ ss = ap (λ (k : ℕ). take k (put buf 0 ss)) (sym m) ∙ part-put buf 0 ss (omega (arith, r .1)) in
+        subst (EachSafe (handful ns abuf) d new) (sym t) (crash (handful ns abuf) d (length buf) new ss (r .0) q)
+
+-- whatever is asked, whatever disk and list: where the call answers how many, those first numbers of the list at return are its
+-- sectors, and the image at return is the new disk
+pub crash-call : (a : Ask) (d buf : List ℕ) (n f : ℕ) → call a d buf .outcome ≡ done n f → EachSafe a d (call a d buf .image) (take n (call a d buf .list))
+crash-call (single c) d buf n f e = λ k h. crash-call-single c d buf n f e
+crash-call (handful ns abuf) d buf n f e = many-call ns abuf d buf n f e

@@ -1,0 +1,10 @@
+pub mod Wiped
+pub mod Listed
+pub mod Meaning
+pub mod Settled
+pub mod Left
+pub mod Crash
+pub mod Refused
+pub mod Demand3
+pub mod Names
+pub mod Likewise

@@ -1,0 +1,4 @@
+pub mod Handful
+pub mod Parts
+pub mod Left
+pub mod Ticked
