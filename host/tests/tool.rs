@@ -27,6 +27,8 @@ mod messages;
 mod names;
 #[path = "tool/report.rs"]
 mod report;
+#[path = "tool/salvage.rs"]
+mod salvage;
 #[path = "tool/saving.rs"]
 mod saving;
 #[path = "tool/standard.rs"]

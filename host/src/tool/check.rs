@@ -1,5 +1,6 @@
 //! `check`: whether disks are sound, and fit to go out.
 use super::failure::{Failure, Outcome, Reason};
+use super::faults::{self, Faults};
 use super::output::{self, counted};
 use super::source;
 use super::words::Given;
@@ -36,8 +37,18 @@ fn check(given: &Given, path: &OsStr) -> Result<String, Failure> {
     };
     match checked.and_then(|()| image.directory()) {
         Ok(directory) => Ok(format!("accepted, {}", output::tracks(directory))),
-        Err(refused) => Err(Failure::unsound(path, explained(image, refused))),
+        Err(refused) => Err(match given.has("--all") {
+            true => all(given, path, image, refused),
+            false => Failure::unsound(path, explained(image, refused)),
+        }),
     }
+}
+
+/// Says every fault of a disk that is refused, and not the first alone. Where its slots cannot be found that is its fault.
+fn all(given: &Given, path: &OsStr, image: Image, refused: Refused) -> Failure {
+    let faults = Faults::of(&image).ok();
+    let said = faults.and_then(|faults| faults::say(path, &faults, given.has("--release")));
+    said.unwrap_or_else(|| Failure::unsound(path, explained(image, refused)))
 }
 
 /// A refusal; of waste sectors it says too whose they are, where the disk can be listed.

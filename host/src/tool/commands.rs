@@ -1,7 +1,7 @@
 //! The table of commands.
 use super::failure::Outcome;
 use super::words::Given;
-use super::{blank, change, check, dump, erase, gather, list, map, read, report, save, tree};
+use super::{blank, change, check, dump, erase, gather, list, map, read, report, salvage, save, tree};
 
 /// A command of the tool.
 pub struct Command {
@@ -65,6 +65,15 @@ const RELEASE: Choice = flag(
     "refuse waste sectors too: more sectors behind a file
 than its length needs (kinds 16 to 20)",
 );
+const EVERY: Choice = flag(&["--all"], "name every fault of a refused disk, not the first");
+const COPY: Choice = valued(&["-o", "--output"], "NEW", "write the copy to NEW (`-`: standard output)");
+const KEEP: Choice = valued(
+    &["--keep"],
+    "SLOTS",
+    "of two that do not go together keep the one in this
+slot, and leave the other out; several by commas",
+);
+const FORCE_NEW: Choice = flag(&["--force"], "let NEW take the place of an older file");
 const ALL: Choice = flag(&["--all"], "gather each file in turn, the lowest slot first");
 const COLOR: Choice = valued(
     &["--color"],
@@ -136,6 +145,24 @@ as it was. Setuid, setgid and sticky are not kept.";
 const PIPE: &str = "IMAGE may be a pipe, read to its end: one that nobody writes to is waited for.
 `-` is standard input.";
 
+/// What is said of every fault of a disk.
+const FAULTS: &str = "With --all every slot is tried by itself, on a copy in which it is the only
+live one, and two slots together where they share a sector or a name (8, 9):
+both are doubtful then. The check of the library judges each copy. Where slot 1
+does not say how large the directory is (24), that is the one fault.";
+
+/// What is said of a rescue: what the copy is, what is left out, and what becomes of directories.
+const SALVAGE: &str = "Makes NEW, a copy of IMAGE in which byte 0 of each bad slot is 0, so that the
+slot is free. Nothing else of the disk is changed, and IMAGE is never written.
+NEW is made only where the library accepts it. A file of a wrong length (1), or
+a disk that does not say how large its directory is (24), cannot be salvaged.";
+const LEFT_OUT: &str = "What is left out is named with its refusal, and the status is then 1. Of two
+that share a sector or a name both are named, and the later slot is left out,
+unless --keep asks for it. `check --all` says the same beforehand, and `sector`
+shows what a bad file's sectors hold.";
+const SALVAGE_TREE: &str = "Where a directory is left out what was in it stays, is named, and is found by
+every command but `tree`, which refuses the copy (27).";
+
 /// What is said of a report: what it counts; what is taken in folders and lists; what cannot be read; the names in JSON.
 const SHELF: &str = "Prints how many disks are accepted and how many refused, by number; and of the
 accepted ones the files by kind, the sectors of the files, the free sectors,
@@ -199,7 +226,7 @@ pub const COMMANDS: &[Command] = &[
     Command {
         name: "check",
         places: &["IMAGE..."],
-        options: &[&RELEASE, &NO_WAIT],
+        options: &[&RELEASE, &EVERY, &NO_WAIT],
         brief: "tell whether a disk is sound, and fit to go out",
         more: &[
             "Prints `accepted` and how many tracks the directory has, or says which slot is
@@ -207,9 +234,18 @@ wrong and why. Of several images each gets its line, with its name in front,
 and the greatest status is given.",
             "The directory ends at its first slot without a name, and what stands behind is
 not looked at.",
+            FAULTS,
             PIPE,
         ],
         run: check::run,
+    },
+    Command {
+        name: "salvage",
+        places: &["IMAGE"],
+        options: &[&COPY, &KEEP, &FORCE_NEW, &NO_WAIT],
+        brief: "copy what is sound of a disk that is refused",
+        more: &[SALVAGE, LEFT_OUT, SALVAGE_TREE, PIPE],
+        run: salvage::run,
     },
     Command {
         name: "list",

@@ -1,4 +1,5 @@
-//! The tool: one command for each thing that the library does, and `map`, `blank` and `help`.
+//! The tool: one command for each thing that the library does, and those that are made of several: `map`, `salvage`, `blank`
+//! and `help`.
 //!
 //! `commands` is the table of commands; `words` reads the command line by it, and `help` prints it. Each command has a file of
 //! its own. What a command cannot do is a `Failure`, which knows its words and its exit status.
@@ -10,6 +11,7 @@ mod commands;
 mod dump;
 mod erase;
 mod failure;
+mod faults;
 mod forms;
 mod gather;
 mod help;
@@ -21,6 +23,7 @@ mod output;
 mod progress;
 mod read;
 mod report;
+mod salvage;
 mod save;
 mod shelf;
 mod source;

@@ -28,7 +28,7 @@ pub fn run(given: &Given) -> Outcome {
 }
 
 /// Whether a file's path and an image's lead to one file.
-fn same(file: &OsStr, image: &OsStr) -> bool {
+pub fn same(file: &OsStr, image: &OsStr) -> bool {
     let image = if image == STANDARD { "/dev/stdin".as_ref() } else { image };
     match (fs::canonicalize(file), fs::canonicalize(image)) {
         (Ok(file), Ok(image)) => file == image,
