@@ -1,6 +1,8 @@
 //! The tool, run as a process, by subject. `tool/support.rs` is what the subjects share.
 #[path = "tool/bigger.rs"]
 mod bigger;
+#[path = "tool/carrying.rs"]
+mod carrying;
 #[path = "tool/commands.rs"]
 mod commands;
 #[path = "tool/flushes.rs"]

@@ -1,7 +1,7 @@
 //! The table of commands.
 use super::failure::Outcome;
 use super::words::Given;
-use super::{blank, change, check, dump, erase, gather, list, map, read, report, salvage, save, tree};
+use super::{add, blank, change, check, dump, erase, extract, gather, list, map, read, report, salvage, save, tree};
 
 /// A command of the tool.
 pub struct Command {
@@ -91,6 +91,7 @@ const FORCE: Choice = flag(
     "let FILE take the place of an older one, with its
 permissions; other hard links keep the older bytes",
 );
+const FORCE_ALL: Choice = flag(&["--force"], "let the files take the place of older ones");
 const KIND: Choice = valued(
     &["--kind"],
     "KIND",
@@ -162,6 +163,28 @@ unless --keep asks for it. `check --all` says the same beforehand, and `sector`
 shows what a bad file's sectors hold.";
 const SALVAGE_TREE: &str = "Where a directory is left out what was in it stays, is named, and is found by
 every command but `tree`, which refuses the copy (27).";
+
+/// What is said of files that go to a folder and come back from there.
+const PATTERNS: &str = r"In a NAME `*` stands for any bytes and `?` for one; `\x2a` and `\x3f` are these
+two themselves. Without a NAME all files are extracted. DIR is made where it is
+not there. Directories have no body, and all files go to DIR itself.";
+const SAFE_NAMES: &str = r"On the host a file is called as `list` prints its name, with a slash as `\x2f`
+and a dot at the front as `\x2e`: it is never a path. Where a file is there
+already nothing is extracted (status 3), unless --force is given. A file that
+cannot be read from the disk (13) is named, the rest is done, and the status
+is 1.";
+const INDEX: &str = "DIR/varnucht.index has a line for each file, with its names on the host and on
+the disk, kind, page, offset, execution bytes, kind information and marks, by
+tabs. Lines of files that were extracted there before stay. `add` takes them.";
+const ADD: &str = r"Saves each FILE in turn, a change of its own. Where `varnucht.index` in its
+folder has a line for it, it gets the name, the kind, the start, the other
+bytes and the marks that stand there; else the name that it has on the host,
+in which `\xHH` stands for a byte. An option goes before the index, and the
+index itself is passed over. What is refused or cannot be read is named, the
+others go on, and the greatest status is given.";
+const ADD_MARKS: &str = "A mark is set after the file is saved, by a change of its own: cut short in
+between, the file is there without it. All files go to the root. A save writes
+no date.";
 
 /// What is said of a report: what it counts; what is taken in folders and lists; what cannot be read; the names in JSON.
 const SHELF: &str = "Prints how many disks are accepted and how many refused, by number; and of the
@@ -300,6 +323,22 @@ scattered: `gather` puts a file's sectors in a row.",
         brief: "give a file's body",
         more: &[WHOLE, PIPE, NAMES],
         run: read::run,
+    },
+    Command {
+        name: "extract",
+        places: &["IMAGE", "DIR", "[NAME...]"],
+        options: &[&FORCE_ALL, &NO_WAIT],
+        brief: "write files to a folder, with an index",
+        more: &[PATTERNS, SAFE_NAMES, INDEX, PIPE, NAMES],
+        run: extract::run,
+    },
+    Command {
+        name: "add",
+        places: &["IMAGE", "FILE..."],
+        options: &[&KIND, &PAGE, &OFFSET, &EXEC, &INFO, &DRY_RUN, &NO_WAIT],
+        brief: "save files under their own names, or by an index",
+        more: &[ADD, ADD_MARKS, START, NUMBERS, SAFE],
+        run: add::run,
     },
     Command {
         name: "save",

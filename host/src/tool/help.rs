@@ -35,7 +35,7 @@ Exit status:
 
 /// The help on all commands.
 fn all() -> String {
-    let line = |called: &str, brief: &str| format!("  {called:<26} {brief}\n");
+    let line = |called: &str, brief: &str| format!("  {called:<27} {brief}\n");
     let lines: String = COMMANDS.iter().map(|command| line(&called(command), command.brief)).collect();
     let more = line("help [COMMAND]", "this, or more on a command") + &line("--version", "the version");
     format!("{HEAD}{lines}{more}{FOOT}")

@@ -1,8 +1,9 @@
-//! The tool: one command for each thing that the library does, and those that are made of several: `map`, `salvage`, `blank`
-//! and `help`.
+//! The tool: one command for each thing that the library does, and those that are made of several: `map`, `salvage`,
+//! `extract`, `add`, `blank` and `help`.
 //!
 //! `commands` is the table of commands; `words` reads the command line by it, and `help` prints it. Each command has a file of
 //! its own. What a command cannot do is a `Failure`, which knows its words and its exit status.
+mod add;
 mod blank;
 mod change;
 mod check;
@@ -10,16 +11,19 @@ mod colour;
 mod commands;
 mod dump;
 mod erase;
+mod extract;
 mod failure;
 mod faults;
 mod forms;
 mod gather;
 mod help;
+mod index;
 mod list;
 mod make;
 mod map;
 mod numbers;
 mod output;
+mod pattern;
 mod progress;
 mod read;
 mod report;

@@ -43,7 +43,7 @@ pub fn run(given: &Given) -> Outcome {
 
 /// The bytes of a file, or of standard input for `-`. No more is read than shows that the body fits on no disk: the library
 /// refuses such a body just as it refuses a longer one.
-fn body(path: &OsStr) -> Result<Vec<u8>, Failure> {
+pub fn body(path: &OsStr) -> Result<Vec<u8>, Failure> {
     let front = match path == STANDARD {
         true => source::front(&mut *source::standard_input()?, LONGEST_BODY),
         false => File::open(path).and_then(|mut file| source::front(&mut file, LONGEST_BODY)),
