@@ -33,6 +33,8 @@ mod report;
 mod salvage;
 #[path = "tool/saving.rs"]
 mod saving;
+#[path = "tool/scripts.rs"]
+mod scripts;
 #[path = "tool/standard.rs"]
 mod standard;
 #[path = "tool/support.rs"]

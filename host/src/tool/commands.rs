@@ -113,6 +113,17 @@ const FILES_FROM: Choice = valued(
 names, one to a line; `-` is standard input",
 );
 const JSON: Choice = flag(&["--json"], "print one JSON object, on one line");
+const JSONS: Choice = flag(&["--json"], "print a JSON object for each image, on one line");
+const NUL_IMAGES: Choice = flag(
+    &["-0", "--null"],
+    "print the images that are accepted, with a byte 0
+behind each, for `xargs -0`",
+);
+const NUL_NAMES: Choice = flag(
+    &["-0", "--null"],
+    "print the names alone, with a byte 0 behind each, for
+`xargs -0`; of several images IMAGE, 0, NAME, 0",
+);
 const THREADS: Choice = valued(
     &["--threads"],
     "N",
@@ -205,6 +216,19 @@ const FIELDS: &str = "JSON: disks, accepted, refused (an array of number, words,
 files, kinds (of kind, words, files), file_sectors, free_sectors, classes (of
 from, to, files; the last `to` is null).";
 
+/// The names in JSON of a check, of a list and of a map, and where an image is refused.
+const CHECK_FIELDS: &str = "JSON: image, accepted, directory_tracks; with --all faults (an array of slot,
+with, name, name_bytes, refusal, words): `with` is the earlier slot that it does
+not go together with, or null.";
+const LIST_FIELDS: &str = "JSON: image, accepted, name, name_bytes (of the disk; null for none),
+directory_tracks, slots, free_slots, free_sectors, room, files (an array of
+slot, name, name_bytes, kind, kind_words, hidden, protected, sectors, length,
+start, execution, information, code, in, in_code). `name` has escapes, and
+`name_bytes` is an array of numbers.";
+const MAP_FIELDS: &str = "JSON: image, accepted, directory and free (arrays of sector numbers), files (an
+array of slot, name, name_bytes, scattered, sectors, in the file's order).";
+const REFUSED_FIELDS: &str = "JSON of an image that is refused: image, accepted, refusal, slot, words, more.";
+
 /// What is said of a save.
 const START: &str = "The usual start, page 1 and offset 32768, is address 32768.";
 
@@ -249,7 +273,7 @@ pub const COMMANDS: &[Command] = &[
     Command {
         name: "check",
         places: &["IMAGE..."],
-        options: &[&RELEASE, &EVERY, &NO_WAIT],
+        options: &[&RELEASE, &EVERY, &JSONS, &NUL_IMAGES, &NO_WAIT],
         brief: "tell whether a disk is sound, and fit to go out",
         more: &[
             "Prints `accepted` and how many tracks the directory has, or says which slot is
@@ -258,6 +282,8 @@ and the greatest status is given.",
             "The directory ends at its first slot without a name, and what stands behind is
 not looked at.",
             FAULTS,
+            CHECK_FIELDS,
+            REFUSED_FIELDS,
             PIPE,
         ],
         run: check::run,
@@ -272,8 +298,8 @@ not looked at.",
     },
     Command {
         name: "list",
-        places: &["IMAGE"],
-        options: &[&NO_WAIT],
+        places: &["IMAGE..."],
+        options: &[&JSONS, &NUL_NAMES, &NO_WAIT],
         brief: "list the files, hidden ones too",
         more: &[
             "The disk's name stands above the files, where it has one; how many tracks the
@@ -282,6 +308,10 @@ directory has, and how many of its slots are free, below them.",
 kinds that have them: 16 to 20, and 1 to 4 of the Spectrum, which can be read
 and not saved. Where the disk has directories the last column says which one a
 file is in; those in the root have none there.",
+            "Of several images each is named above its table; one that fails is named on
+standard error, the others go on, and the greatest status is given.",
+            LIST_FIELDS,
+            REFUSED_FIELDS,
             PIPE,
         ],
         run: list::run,
@@ -304,7 +334,7 @@ the files all the same, and which directory each is in.",
     Command {
         name: "map",
         places: &["IMAGE"],
-        options: &[&COLOR, &NO_WAIT],
+        options: &[&COLOR, &JSONS, &NO_WAIT],
         brief: "draw the 1,600 sectors and whose they are",
         more: &[
             "A column is a track and a row a sector, 1 to 10; the first side is above the
@@ -312,6 +342,8 @@ second. Each file has a sign, and the signs are named below. There are 80:
 with more files they come again, in other colours. Files whose sectors do not
 follow each other in the order of their bytes are named once more, as
 scattered: `gather` puts a file's sectors in a row.",
+            MAP_FIELDS,
+            REFUSED_FIELDS,
             PIPE,
         ],
         run: map::run,

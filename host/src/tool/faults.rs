@@ -1,6 +1,7 @@
 //! Every fault of a disk, as the library finds them: each slot is tried by itself, and two slots together, on copies in which
 //! no other is live. No rule of a disk stands here but where its slots are.
 use super::failure::{Failure, Reason};
+use super::json;
 use super::output;
 use std::ffi::OsStr;
 use varnucht::calls;
@@ -68,6 +69,25 @@ impl Faults {
             };
             marked[other].then(|| (&self.found[other], clash.refused))
         })
+    }
+
+    /// Every fault as JSON: what is wrong with a slot by itself, and with which earlier one it does not go together.
+    pub fn json(&self, release: bool) -> String {
+        let fault = |found: &Found, with: Option<Slot>, refused: Refused| {
+            let name = found.name().map(|name| json::named(&name)).into_iter().flatten();
+            let fields = [("slot", found.slot.to_string()), ("with", json::or_null(with))];
+            let [number, _, words, _] = json::refused(&refused.into());
+            json::object(fields.into_iter().chain(name).chain([number, words]))
+        };
+        let alone = self.found.iter().filter_map(|found| {
+            let refused = found.alone.or(found.waste.filter(|_| release))?;
+            Some(fault(found, None, refused))
+        });
+        let pairs = self.clashes.iter().map(|clash| {
+            let (earlier, later) = (&self.found[clash.earlier], &self.found[clash.later]);
+            fault(later, Some(earlier.slot), clash.refused)
+        });
+        json::listed(alone.chain(pairs))
     }
 
     /// Whether nothing is wrong but waste sectors.
