@@ -27,6 +27,8 @@ mod map;
 mod messages;
 #[path = "tool/names.rs"]
 mod names;
+#[path = "tool/replacing.rs"]
+mod replacing;
 #[path = "tool/report.rs"]
 mod report;
 #[path = "tool/salvage.rs"]

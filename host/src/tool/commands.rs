@@ -136,6 +136,11 @@ const TRACKS: Choice = valued(
     "how many tracks the directory has, 4 to 39 (4); more
 than 4 are for MasterDOS",
 );
+const REPLACE: Choice = flag(
+    &["--replace"],
+    "where a file has that name, let the new one take its
+place; it has no marks then, and lies in the root",
+);
 const INFO: Choice = valued(&["--info"], "HEX", "up to 11 bytes of kind information (all zero)");
 
 /// What is said of names wherever a command takes one.
@@ -235,6 +240,16 @@ const START: &str = "The usual start, page 1 and offset 32768, is address 32768.
 /// What is said of the slot that a save takes.
 const SLOT: &str = "It takes the lowest free slot. Where that is the directory's end and an old
 name stands in the next slot, that name is cleared with it.";
+
+/// What is said of a file that takes the place of another.
+const REPLACED: &str = "With --replace the new file is saved under a free name, NEW~1 or the next that
+is free; then the older one is erased, and then the new one is renamed: three
+changes, all of them tried in memory before the first is written. It is refused
+where there is no room for both (18, 19), where the older one is protected (17)
+or a directory (13).";
+const REPLACED_CUT: &str = "Cut short anywhere, the older file or the new one is there, whole. Where `list`
+shows a file NEW~1 that is the new one: `rename IMAGE NEW~1 NAME` ends the work
+if NAME is gone, and `erase IMAGE NEW~1` takes it back if NAME is there.";
 
 /// What is said of scattered files, and of gathering them all.
 const GATHER: &str = "Moves the file to the lowest run of free sectors that is as long as the file,
@@ -375,9 +390,9 @@ scattered: `gather` puts a file's sectors in a row.",
     Command {
         name: "save",
         places: &["IMAGE", "NAME", "FILE"],
-        options: &[&KIND, &PAGE, &OFFSET, &EXEC, &INFO, &DRY_RUN, &NO_WAIT],
+        options: &[&KIND, &PAGE, &OFFSET, &EXEC, &INFO, &REPLACE, &DRY_RUN, &NO_WAIT],
         brief: "save FILE (`-`: standard input) under a new name",
-        more: &[START, NUMBERS, SLOT, SAFE, NAMES],
+        more: &[START, NUMBERS, SLOT, REPLACED, REPLACED_CUT, SAFE, NAMES],
         run: save::run,
     },
     Command {

@@ -28,6 +28,7 @@ mod output;
 mod pattern;
 mod progress;
 mod read;
+mod replace;
 mod report;
 mod salvage;
 mod save;
