@@ -13,6 +13,8 @@ mod gathering;
 mod handful;
 #[path = "tool/input.rs"]
 mod input;
+#[path = "tool/libdsk.rs"]
+mod libdsk;
 #[path = "tool/lock.rs"]
 mod lock;
 #[path = "tool/looking.rs"]
@@ -37,6 +39,8 @@ mod salvage;
 mod saving;
 #[path = "tool/scripts.rs"]
 mod scripts;
+#[path = "tool/seeing.rs"]
+mod seeing;
 #[path = "tool/standard.rs"]
 mod standard;
 #[path = "tool/support.rs"]

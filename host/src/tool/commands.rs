@@ -1,7 +1,7 @@
 //! The table of commands.
 use super::failure::Outcome;
 use super::words::Given;
-use super::{add, blank, change, check, dump, erase, extract, gather, list, map, read, report, salvage, save, tree};
+use super::{add, blank, change, check, dump, erase, extract, gather, list, map, read, report, salvage, save, sector, tree};
 
 /// A command of the tool.
 pub struct Command {
@@ -91,6 +91,13 @@ const FORCE: Choice = flag(
     "let FILE take the place of an older one, with its
 permissions; other hard links keep the older bytes",
 );
+const SVG: Choice = valued(
+    &["--svg"],
+    "FILE",
+    "write the picture to FILE as SVG (`-`: standard
+output)",
+);
+const FORCE_SVG: Choice = flag(&["--force"], "let FILE take the place of an older file");
 const FORCE_ALL: Choice = flag(&["--force"], "let the files take the place of older ones");
 const KIND: Choice = valued(
     &["--kind"],
@@ -157,6 +164,10 @@ replaced or cut short all the same, the change fails (status 3).";
 /// What is said of files that are made.
 const WHOLE: &str = "FILE gets its name when it is whole: a failure or a signal leaves an older one
 as it was. Setuid, setgid and sticky are not kept.";
+
+/// What is said of bodies on a terminal.
+const TERMINAL: &str = "To a terminal no body goes that holds other bytes than letters, tabs and ends of
+lines, since they give orders to it, unless `-o -` asks for that.";
 
 /// What is said of IMAGE where it is only read.
 const PIPE: &str = "IMAGE may be a pipe, read to its end: one that nobody writes to is waited for.
@@ -349,7 +360,7 @@ the files all the same, and which directory each is in.",
     Command {
         name: "map",
         places: &["IMAGE"],
-        options: &[&COLOR, &JSONS, &NO_WAIT],
+        options: &[&COLOR, &JSONS, &SVG, &FORCE_SVG, &NO_WAIT],
         brief: "draw the 1,600 sectors and whose they are",
         more: &[
             "A column is a track and a row a sector, 1 to 10; the first side is above the
@@ -368,8 +379,32 @@ scattered: `gather` puts a file's sectors in a row.",
         places: &["IMAGE", "NAME"],
         options: &[&OUTPUT, &FORCE, &NO_WAIT],
         brief: "give a file's body",
-        more: &[WHOLE, PIPE, NAMES],
+        more: &[TERMINAL, WHOLE, PIPE, NAMES],
         run: read::run,
+    },
+    Command {
+        name: "dump",
+        places: &["IMAGE", "NAME"],
+        options: &[&NO_WAIT],
+        brief: "dump a file's body in hexadecimal",
+        more: &[
+            "Above the bytes stand the file's kind, length and start address.",
+            PIPE,
+            NAMES,
+        ],
+        run: dump::run,
+    },
+    Command {
+        name: "start",
+        places: &["IMAGE", "NAME"],
+        options: &[&NO_WAIT],
+        brief: "print a file's start address",
+        more: &[
+            "Of a Spectrum file, kind 1 to 4, it is the start that its header says.",
+            PIPE,
+            NAMES,
+        ],
+        run: dump::start,
     },
     Command {
         name: "extract",
@@ -429,7 +464,7 @@ scattered: `gather` puts a file's sectors in a row.",
         options: &[&NO_WAIT],
         brief: "dump one raw sector; no directory is checked",
         more: &["Tracks are 0 to 79 and 128 to 207, sectors 1 to 10.", NUMBERS, PIPE],
-        run: dump::run,
+        run: sector::run,
     },
     Command {
         name: "report",
@@ -456,7 +491,18 @@ gives 20 slots more, but the fifth 18, and takes 10 sectors, but the fifth 9:
     },
 ];
 
-/// The command of this name.
+/// What some commands are called too, by those who come from elsewhere.
+pub const ALIASES: &[(&str, &str)] = &[
+    ("ls", "list"),
+    ("cat", "read"),
+    ("get", "read"),
+    ("rm", "erase"),
+    ("mv", "rename"),
+];
+
+/// The command of this name, or that is called so too.
 pub fn find(name: &str) -> Option<&'static Command> {
+    let alias = ALIASES.iter().find(|(alias, _)| *alias == name);
+    let name = alias.map_or(name, |(_, name)| *name);
     COMMANDS.iter().find(|command| command.name == name)
 }

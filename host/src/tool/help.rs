@@ -1,8 +1,9 @@
 //! `help`: what the tool does, and what each command does.
-use super::commands::{self, COMMANDS, Choice, Command};
+use super::commands::{self, ALIASES, COMMANDS, Choice, Command};
 use super::failure::{Failure, Outcome};
+use super::near;
 use super::output;
-use std::ffi::OsString;
+use std::ffi::{OsStr, OsString};
 
 /// Prints the help on a command, or on all.
 pub fn run(words: Vec<OsString>) -> Outcome {
@@ -11,10 +12,18 @@ pub fn run(words: Vec<OsString>) -> Outcome {
         [word] if word == "help" => output::print(all()),
         [word] => match word.to_str().and_then(commands::find) {
             Some(command) => print(command),
-            None => Err(Failure::usage(format!("there is no command `{}`", output::shown(word)), None)),
+            None => Err(no_command(word)),
         },
         _ => Err(Failure::usage("`help` takes one command", None)),
     }
+}
+
+/// There is no command of this name; the nearest is named.
+pub fn no_command(word: &OsStr) -> Failure {
+    let others = ALIASES.iter().map(|(alias, _)| *alias).chain(["help"]);
+    let known = COMMANDS.iter().map(|command| command.name).chain(others);
+    let hint = near::hint(&word.to_string_lossy(), known);
+    Failure::usage(format!("there is no command `{}`{hint}", output::shown(word)), None)
 }
 
 /// Prints the help on a command.
@@ -37,7 +46,11 @@ Exit status:
 fn all() -> String {
     let line = |called: &str, brief: &str| format!("  {called:<27} {brief}\n");
     let lines: String = COMMANDS.iter().map(|command| line(&called(command), command.brief)).collect();
-    let more = line("help [COMMAND]", "this, or more on a command") + &line("--version", "the version");
+    let others: String = ALIASES
+        .iter()
+        .map(|(alias, name)| line(alias, &format!("the same as `{name}`")))
+        .collect();
+    let more = others + &line("help [COMMAND]", "this, or more on a command") + &line("--version", "the version");
     format!("{HEAD}{lines}{more}{FOOT}")
 }
 
@@ -47,7 +60,17 @@ fn one(command: &Command) -> String {
     let head = format!("varnucht {}{options}\n\n{}\n\n", called(command), sentence(command.brief));
     let choices: String = command.options.iter().map(|choice| described(choice)).collect();
     let gap = if choices.is_empty() { "" } else { "\n" };
-    format!("{head}{choices}{gap}{}\n{FOOT}", command.more.join("\n"))
+    let others = ALIASES
+        .iter()
+        .filter(|(_, name)| *name == command.name)
+        .map(|(alias, _)| format!("`{alias}`"));
+    let others = others.collect::<Vec<_>>().join(" and ");
+    let also = if others.is_empty() {
+        others
+    } else {
+        format!("It is also called {others}.\n")
+    };
+    format!("{head}{choices}{gap}{}\n{also}{FOOT}", command.more.join("\n"))
 }
 
 /// A command's name and what it takes.

@@ -3,14 +3,22 @@ use super::colour::{self, Paint, Painted};
 use super::each;
 use super::failure::Outcome;
 use super::json::{self, Field};
-use super::output::counted;
-use super::source;
+use super::make::make;
+use super::output::{self, counted};
+use super::source::{self, STANDARD};
+use super::svg;
 use super::words::Given;
+use std::ffi::OsStr;
 use varnucht::{Disk, Entry, Listing, SECTORS, SectorNumber};
 
 /// Prints the picture, or whose the sectors are as JSON.
 pub fn run(given: &Given) -> Outcome {
     let colour = colour::wanted(given)?;
+    match given.value("--svg") {
+        Some(file) if !given.has("--force") || file != STANDARD => return draw(given, file),
+        _ if given.has("--force") => return Err(given.usage("`--force` goes with `--svg FILE`")),
+        _ => {}
+    }
     each::print(given, |path| {
         let disk = source::disk_at(given, path);
         match given.has("--json") {
@@ -18,6 +26,18 @@ pub fn run(given: &Given) -> Outcome {
             false => Ok((picture(&disk?, colour).into(), 0)),
         }
     })
+}
+
+/// Writes the picture as SVG, to a file or to standard output.
+fn draw(given: &Given, file: &OsStr) -> Outcome {
+    if given.has("--json") {
+        return Err(given.usage("`--json` and `--svg` are two forms, and one is printed"));
+    }
+    let picture = svg::picture(&source::disk(given)?);
+    match file == STANDARD {
+        true => output::print(picture),
+        false => make(file, picture.as_bytes(), given.has("--force")),
+    }
 }
 
 /// What JSON says of the sectors: the numbers of those of the directory, of the free ones, and of each file's in the order of

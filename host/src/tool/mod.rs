@@ -18,11 +18,13 @@ mod faults;
 mod forms;
 mod gather;
 mod help;
+mod hex;
 mod index;
 mod json;
 mod list;
 mod make;
 mod map;
+mod near;
 mod numbers;
 mod output;
 mod pattern;
@@ -32,8 +34,10 @@ mod replace;
 mod report;
 mod salvage;
 mod save;
+mod sector;
 mod shelf;
 mod source;
+mod svg;
 mod system;
 mod tree;
 mod values;
@@ -68,9 +72,6 @@ fn obey(words: Vec<OsString>) -> Outcome {
             Some(given) => (command.run)(&given),
             None => help::print(command),
         },
-        _ => Err(Failure::usage(
-            format!("there is no command `{}`", output::shown(&first)),
-            None,
-        )),
+        _ => Err(help::no_command(&first)),
     }
 }
