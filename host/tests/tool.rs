@@ -29,6 +29,8 @@ mod map;
 mod messages;
 #[path = "tool/names.rs"]
 mod names;
+#[path = "tool/packaging.rs"]
+mod packaging;
 #[path = "tool/replacing.rs"]
 mod replacing;
 #[path = "tool/report.rs"]

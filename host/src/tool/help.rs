@@ -3,6 +3,7 @@ use super::commands::{self, ALIASES, COMMANDS, Choice, Command};
 use super::failure::{Failure, Outcome};
 use super::near;
 use super::output;
+use super::pages;
 use std::ffi::{OsStr, OsString};
 
 /// Prints the help on a command, or on all.
@@ -10,6 +11,7 @@ pub fn run(words: Vec<OsString>) -> Outcome {
     match words.as_slice() {
         [] => output::print(all()),
         [word] if word == "help" => output::print(all()),
+        [word] if let Some(page) = word.to_str().and_then(pages::form) => output::print(page),
         [word] => match word.to_str().and_then(commands::find) {
             Some(command) => print(command),
             None => Err(no_command(word)),
@@ -33,7 +35,7 @@ pub fn print(command: &Command) -> Outcome {
 
 /// What stands above and below the commands.
 const HEAD: &str = "varnucht: disks of the SAM Coupé in image files of 819,200 bytes\n\n";
-const FOOT: &str = "
+pub const FOOT: &str = "
 Exit status:
   0  done
   1  refused: the disk or the request is against the rules; the number and the
@@ -50,7 +52,10 @@ fn all() -> String {
         .iter()
         .map(|(alias, name)| line(alias, &format!("the same as `{name}`")))
         .collect();
-    let more = others + &line("help [COMMAND]", "this, or more on a command") + &line("--version", "the version");
+    let more = others
+        + &line("help [COMMAND]", "this, or more on a command")
+        + &line("help --man", "a man page; --bash, --zsh, --fish: completions")
+        + &line("--version", "the version");
     format!("{HEAD}{lines}{more}{FOOT}")
 }
 
@@ -74,12 +79,12 @@ fn one(command: &Command) -> String {
 }
 
 /// A command's name and what it takes.
-fn called(command: &Command) -> String {
+pub fn called(command: &Command) -> String {
     format!("{} {}", command.name, command.places.join(" "))
 }
 
 /// Words with a capital and a full stop.
-fn sentence(words: &str) -> String {
+pub fn sentence(words: &str) -> String {
     let mut letters = words.chars();
     letters
         .next()

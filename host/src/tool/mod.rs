@@ -27,6 +27,7 @@ mod map;
 mod near;
 mod numbers;
 mod output;
+mod pages;
 mod pattern;
 mod progress;
 mod read;
