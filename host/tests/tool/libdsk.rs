@@ -17,8 +17,11 @@ fn turned(from: (&str, &Path), to: (&str, &Path)) -> Option<()> {
     Some(())
 }
 
-/// The sectors of an EDSK image: cylinder, head and number of each, and its bytes.
-fn sectors(edsk: &[u8]) -> Vec<((u8, u8, u8), &[u8])> {
+/// A sector of an EDSK image: its cylinder, head and number, and its bytes.
+type Found<'a> = ((u8, u8, u8), &'a [u8]);
+
+/// All sectors of an EDSK image.
+fn sectors(edsk: &[u8]) -> Vec<Found<'_>> {
     assert!(edsk.starts_with(b"EXTENDED CPC DSK"));
     let tracks = usize::from(edsk[0x30]) * usize::from(edsk[0x31]);
     let mut sectors = Vec::new();
