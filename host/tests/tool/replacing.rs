@@ -3,6 +3,8 @@ use crate::support::*;
 use crate::writing::limited;
 use std::fs;
 use std::path::Path;
+use std::process::{Command, Stdio};
+use std::time::Duration;
 use varnucht::{CarriedKind, Change, Disk, Entry, Name, NewFile, NewName, SECTOR_LENGTH, Start};
 
 /// The words of a replacement of TUNES.
@@ -197,4 +199,59 @@ fn a_replacement_that_fails() {
     assert!(held(&image).listing() == old.listing());
     assert_eq!(on("read", &image, ["TUNES"]).out, body(2_000));
     assert_eq!(replace(&image, &file, &[]).done(), "replaced TUNES: 396 sectors written\n");
+}
+
+/// Killed or asked to end at any moment, the older file or the new one is there, and the other files are. Each flush takes a
+/// while here, so that the moments fall between all writes.
+#[test]
+fn killed_at_any_moment() {
+    let folder = Folder::new();
+    let slow = library(&folder, "terminal.c");
+    let old = disk(&[("ONE", 700), ("TUNES", 900)]);
+    let file = folder.file("body", &body(300));
+    let (before, new) = (body(900), body(300));
+    let mut seen = std::collections::BTreeMap::new();
+    for (round, signal) in (0..36).zip(["KILL", "TERM", "INT"].into_iter().cycle()) {
+        let image = folder.image(&old);
+        let words = ["save", image.to_str().unwrap(), "TUNES", file.to_str().unwrap(), "--replace"];
+        let mut command = tool(words);
+        heeding(&mut command)
+            .env("LD_PRELOAD", &slow)
+            .stderr(Stdio::piped())
+            .stdout(Stdio::null());
+        let child = command.spawn().expect("the tool runs");
+        std::thread::sleep(Duration::from_millis(5 * round));
+        // It may have ended before; then nobody is there to be told.
+        let kill = format!("kill -{signal} {} 2>/dev/null || true", child.id());
+        Command::new("sh").args(["-c", &kill]).status().expect("the shell runs");
+        let output = child.wait_with_output().expect("the tool ends");
+        let said = String::from_utf8(output.stderr).expect("messages are text");
+        let left = held(&image);
+        let read = |name: &str| found(&left, name).map(|entry| left.read(&entry.name()).unwrap());
+        assert_eq!(read("ONE"), Some(body(700)), "{signal} {round}");
+        let state = match (read("TUNES"), read("NEW~1")) {
+            (Some(tunes), None) if tunes == before => "older",
+            (Some(tunes), Some(beside)) if tunes == before && beside == new => "both",
+            (None, Some(beside)) if beside == new => "beside",
+            (Some(tunes), None) if tunes == new => "new",
+            other => panic!("{signal} {round}: {other:?}"),
+        };
+        // What a tool says that was asked to end is so.
+        for (words, states) in [
+            ("the older TUNES is there as it was", &["older"][..]),
+            (
+                "the new file is there as NEW~1, and the older TUNES may be there still",
+                &["both", "beside"],
+            ),
+            ("the new file is there as NEW~1 or as TUNES", &["beside", "new"]),
+        ] {
+            assert!(
+                !said.contains(words) || states.contains(&state),
+                "{signal} {round}, {state}: {said}"
+            );
+        }
+        *seen.entry(state).or_insert(0) += 1;
+    }
+    println!("{seen:?}");
+    assert!(seen.len() >= 2, "all moments fell together: {seen:?}");
 }
