@@ -58,6 +58,11 @@
 #include <stddef.h>
 #include <stdint.h>
 
+/* The version of header, archive and tool: `varnucht --version` prints the same. As a number it is
+ * 10000 * major + 100 * minor + patch. */
+#define VARNUCHT_VERSION "0.1.0"
+#define VARNUCHT_VERSION_NUMBER 100
+
 #ifdef __cplusplus
 extern "C" {
 #endif

@@ -33,6 +33,10 @@ impl Answer {
 
     /// What was answered: accepted with its values, or refused with the reason and the slot.
     ///
+    /// # Errors
+    ///
+    /// The refusal and its slot, where the call was refused.
+    ///
     /// ```
     /// use varnucht::Answer;
     ///

@@ -2,8 +2,8 @@
 use crate::escape::escape;
 use crate::image::Image;
 use crate::name::NAME_LENGTH;
-use crate::place::{DATA_SECTORS, SECTORS, SectorNumber};
-use crate::refusal::{Refusal, Refused};
+use crate::place::{DATA_SECTORS, SECTOR_LENGTH, SECTORS, SectorNumber};
+use crate::refusal::{Refusal, Refused, Slot};
 use std::fmt;
 
 /// Where slot 1 has the disk's name, and the number of its directory tracks beyond four.
@@ -79,6 +79,23 @@ impl Directory {
             4 => DATA_SECTORS,
             tracks => SECTORS + 1 - 10 * tracks,
         }
+    }
+
+    /// Its slots, by rising number, each with the place of its 256 bytes in an image. There are two to a sector.
+    ///
+    /// ```
+    /// use varnucht::Directory;
+    ///
+    /// let places: Vec<_> = Directory::new(5).unwrap().places().map(|(slot, place)| (slot.number(), place)).collect();
+    /// assert_eq!(places[..3], [(1, 0), (2, 256), (3, 512)]);
+    /// assert_eq!(places[80], (81, 41_472)); // track 4, sector 2
+    /// assert_eq!(places.len(), 98);
+    /// ```
+    pub fn places(self) -> impl Iterator<Item = (Slot, usize)> {
+        let sectors = (0..SECTORS as u16).filter_map(SectorNumber::new);
+        let places = sectors.filter(move |number| self.holds(*number)).map(SectorNumber::place);
+        let halves = places.flat_map(|place| [place, place + SECTOR_LENGTH / 2]);
+        (1..).filter_map(Slot::new).zip(halves)
     }
 
     /// Whether a sector is one of its own.

@@ -39,10 +39,13 @@ impl PartialEq for Disk {
 impl Eq for Disk {}
 
 impl Disk {
-    /// Opens a disk: checks the image and lists it. Refused 24, or 2 to 11 and 25 with the slot; the error hands the
-    /// image back.
+    /// Opens a disk: checks the image and lists it.
     ///
     /// Every slot before the directory's end is looked at, and every sector of every file. The image is not copied.
+    ///
+    /// # Errors
+    ///
+    /// Refused 24, or 2 to 11 and 25 with the slot; the error hands the image back.
     ///
     /// ```
     /// use varnucht::{Disk, Image};
@@ -91,7 +94,11 @@ impl Disk {
     }
 
     /// Whether no file of a carried kind has more sectors than its length needs ([`Entry::least_sectors`]), which is where
-    /// old texts hide: refused 22 with the lowest such slot. No other call is.
+    /// old texts hide. No other call asks that.
+    ///
+    /// # Errors
+    ///
+    /// Refused 22 with the lowest such slot.
     ///
     /// ```
     /// use varnucht::{CarriedKind, Disk, Image, NewFile, NewName, Start};
@@ -117,10 +124,14 @@ impl Disk {
         self.image.check_release()
     }
 
-    /// A file's body. Refused 15 where there is no such file, 13 with the slot where its kind cannot be read: it is neither
-    /// carried nor [one of the Spectrum's](crate::Kind::is_spectrum).
+    /// A file's body.
     ///
     /// The whole disk is looked at, and the body is copied into a new vector of its length.
+    ///
+    /// # Errors
+    ///
+    /// Refused 15 where there is no such file, 13 with the slot where its kind cannot be read: it is neither carried nor
+    /// [one of the Spectrum's](crate::Kind::is_spectrum).
     pub fn read(&self, name: &Name) -> Result<Vec<u8>, Refused> {
         // The listing gives the room that is needed, but for kinds that have their length elsewhere.
         let listed = self.listing.find(name).and_then(Entry::length);
@@ -131,44 +142,67 @@ impl Disk {
         Ok(body)
     }
 
-    /// A reader of a file's body, at its first byte. Refused as [`read`](Disk::read) is.
+    /// A reader of a file's body, at its first byte.
     ///
     /// The whole disk is looked at, once; a piece then costs no more than its own bytes.
+    ///
+    /// # Errors
+    ///
+    /// Refused as [`read`](Disk::read) is.
     pub fn reader(&self, name: &Name) -> Result<Reader<'_>, Refused> {
         Reader::open(&self.image, name)
     }
 
-    /// The length of a file's body, of every kind that can be read. Refused as [`read`](Disk::read) is. [`Entry::length`]
-    /// gives it too, but not for the kinds of the Spectrum, whose length stands in the file itself.
+    /// The length of a file's body, of every kind that can be read. [`Entry::length`] gives it too, but not for the kinds of
+    /// the Spectrum, whose length stands in the file itself.
+    ///
+    /// # Errors
+    ///
+    /// Refused as [`read`](Disk::read) is.
     pub fn length(&self, name: &Name) -> Result<u32, Refused> {
         let found = calls::open(self.image.as_bytes(), name.as_bytes()).decode()?;
         Ok(found.value)
     }
 
-    /// A file's start address; of a Spectrum kind, 1 to 4, the start in its header as it stands, 0 to 65,535. Refused 15
-    /// where there is no such file; with the slot 13 where its kind cannot be read, and 14 where a carried kind's offset is
-    /// out of range.
+    /// A file's start address; of a Spectrum kind, 1 to 4, the start in its header as it stands, 0 to 65,535.
+    ///
+    /// # Errors
+    ///
+    /// Refused 15 where there is no such file; with the slot 13 where its kind cannot be read, and 14 where a carried kind's
+    /// offset is out of range.
     pub fn start(&self, name: &Name) -> Result<u32, Refused> {
         calls::start(self.image.as_bytes(), name.as_bytes())
             .decode()
             .map(|done| done.value)
     }
 
-    /// A file's sectors in the order in which its bytes lie in them, 510 to a sector; none of a directory. Refused 15.
+    /// A file's sectors in the order in which its bytes lie in them, 510 to a sector; none of a directory.
+    ///
+    /// # Errors
+    ///
+    /// Refused 15 where there is no such file.
     pub fn chain(&self, name: &Name) -> Result<Vec<SectorNumber>, Refused> {
         let found = self.listing.find(name).ok_or(Refusal::NotFound)?;
         Ok(chain::chain(&self.image, found))
     }
 
     /// Whether a file lies scattered: its sectors are not those of consecutive map bits, in rising order.
-    /// [`gather`](Disk::gather) moves such a file and leaves any other. Refused 15.
+    /// [`gather`](Disk::gather) moves such a file and leaves any other.
+    ///
+    /// # Errors
+    ///
+    /// Refused 15 where there is no such file.
     pub fn is_scattered(&self, name: &Name) -> Result<bool, Refused> {
         Ok(!chain::is_run(&self.chain(name)?))
     }
 
     /// What lies beneath a directory, or beneath the root where no name is given: the files and directories in it, those in
-    /// these, and so on. Refused with the slot 26, 27 and 28 where the directories of the disk do not fit together, and 13
-    /// where the name is that of a file; and 15 where there is no such name.
+    /// these, and so on.
+    ///
+    /// # Errors
+    ///
+    /// Refused with the slot 26, 27 and 28 where the directories of the disk do not fit together, and 13 where the name is
+    /// that of a file; and 15 where there is no such name.
     ///
     /// ```
     /// use varnucht::{Disk, Image, Name};
@@ -192,10 +226,13 @@ impl Disk {
         Tree::of(&self.image, &self.listing, directory)
     }
 
-    /// Makes a change in memory and gives the sectors that are to be written. Refused as the [`Change`] says; then nothing
-    /// has changed.
+    /// Makes a change in memory and gives the sectors that are to be written.
     ///
     /// The disk is looked at twice: once to make the change, once to list it anew.
+    ///
+    /// # Errors
+    ///
+    /// Refused as the [`Change`] says; then nothing has changed.
     pub fn change(&mut self, change: &Change) -> Result<Sectors<'_>, Refused> {
         let mut list = [0; LIST_LENGTH];
         let done = change.make(&mut self.image, &mut list).decode()?;
@@ -205,8 +242,11 @@ impl Disk {
         Ok(Sectors::new(&self.image, &mut self.written, &list, done.value))
     }
 
-    /// Makes a change on a copy, and tells which sectors it would write. This disk stays as it is. Refused as the
-    /// [`Change`] says. The image is copied.
+    /// Makes a change on a copy, and tells which sectors it would write. This disk stays as it is. The image is copied.
+    ///
+    /// # Errors
+    ///
+    /// Refused as the [`Change`] says.
     ///
     /// ```
     /// use varnucht::{Change, Disk, Image, Name};
@@ -220,12 +260,20 @@ impl Disk {
         Ok(self.clone().change(change)?.into_numbers())
     }
 
-    /// Saves a file: [`Change::Save`]. Refused 16 with the slot that has the name, 18 and 19.
+    /// Saves a file: [`Change::Save`].
+    ///
+    /// # Errors
+    ///
+    /// Refused 16 with the slot that has the name, 18 and 19.
     pub fn save(&mut self, file: &NewFile) -> Result<Sectors<'_>, Refused> {
         self.change(&Change::Save(*file))
     }
 
-    /// Erases a file, or a directory that nothing is in: [`Change::Erase`]. Refused 15, and 17 and 29 with the slot.
+    /// Erases a file, or a directory that nothing is in: [`Change::Erase`].
+    ///
+    /// # Errors
+    ///
+    /// Refused 15, and 17 and 29 with the slot.
     pub fn erase(&mut self, name: &Name) -> Result<Sectors<'_>, Refused> {
         self.change(&Change::Erase(*name))
     }
@@ -235,9 +283,14 @@ impl Disk {
     /// there (15), and a directory that the names before it emptied is erased too. The disk is looked at twice, however many
     /// they are.
     ///
-    /// The directory's sectors that changed are named once each, rising, and each is a change of its own: cut short, the files
-    /// erased in the sectors written are gone, and all others are still there. Where a directory stands in one of them, and
-    /// what was in it in a later one, [`tree`](Disk::tree) refuses what is left (27); the same names again do the rest.
+    /// The directory's sectors that changed are named once each, rising, and each is a change of its own: cut short, the
+    /// files erased in the sectors written are gone, and all others are still there. Where a directory stands in one of
+    /// them, and what was in it in a later one, [`tree`](Disk::tree) refuses what is left (27); the same names again do the
+    /// rest.
+    ///
+    /// # Errors
+    ///
+    /// No name refuses the whole, and the types rule out the rest; the answer is the library's all the same.
     ///
     /// ```
     /// use varnucht::{CarriedKind, Disk, Image, Name, NewFile, NewName, Refusal, Start};
@@ -264,7 +317,11 @@ impl Disk {
         })
     }
 
-    /// Gives a file another name: [`Change::Rename`]. Refused 15, and 16 and 17 with the slot.
+    /// Gives a file another name: [`Change::Rename`].
+    ///
+    /// # Errors
+    ///
+    /// Refused 15, and 16 and 17 with the slot.
     ///
     /// ```
     /// use varnucht::{CarriedKind, Disk, Image, Name, NewFile, NewName, Start};
@@ -281,28 +338,48 @@ impl Disk {
         self.change(&Change::Rename(*name, *new))
     }
 
-    /// Hides a file: [`Change::Hide`]. Refused 15.
+    /// Hides a file: [`Change::Hide`].
+    ///
+    /// # Errors
+    ///
+    /// Refused 15 where there is no such file.
     pub fn hide(&mut self, name: &Name) -> Result<Sectors<'_>, Refused> {
         self.change(&Change::Hide(*name))
     }
 
-    /// Shows a hidden file: [`Change::Show`]. Refused 15.
+    /// Shows a hidden file: [`Change::Show`].
+    ///
+    /// # Errors
+    ///
+    /// Refused 15 where there is no such file.
     pub fn show(&mut self, name: &Name) -> Result<Sectors<'_>, Refused> {
         self.change(&Change::Show(*name))
     }
 
-    /// Protects a file: [`Change::Protect`]. Refused 15.
+    /// Protects a file: [`Change::Protect`].
+    ///
+    /// # Errors
+    ///
+    /// Refused 15 where there is no such file.
     pub fn protect(&mut self, name: &Name) -> Result<Sectors<'_>, Refused> {
         self.change(&Change::Protect(*name))
     }
 
-    /// Takes a file's protection away: [`Change::Release`]. Refused 15.
+    /// Takes a file's protection away: [`Change::Release`].
+    ///
+    /// # Errors
+    ///
+    /// Refused 15 where there is no such file.
     pub fn release(&mut self, name: &Name) -> Result<Sectors<'_>, Refused> {
         self.change(&Change::Release(*name))
     }
 
     /// Gathers a scattered file: [`Change::Gather`]. Its body, its start address and all that its entry says stay, but where
-    /// its sectors are. What it leaves is free. Refused 15, 13 with the slot where it is a directory, and 32.
+    /// its sectors are. What it leaves is free.
+    ///
+    /// # Errors
+    ///
+    /// Refused 15, 13 with the slot where it is a directory, and 32.
     ///
     /// ```
     /// use varnucht::{CarriedKind, Disk, Image, NewFile, NewName, Start};

@@ -26,6 +26,8 @@ pub struct Drives<'a> {
 impl<'a> Drives<'a> {
     /// One raw sector of the chosen drive's image, not copied. No directory is checked.
     ///
+    /// # Errors
+    ///
     /// Its types rule out every refusal; the answer is the library's all the same.
     pub fn sector(self, drive: Drive, track: Track, sector: Sector) -> Result<&'a [u8; SECTOR_LENGTH], Refused> {
         let (one, two) = (self.one.as_bytes(), self.two.as_bytes());

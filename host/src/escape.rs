@@ -25,6 +25,10 @@ pub fn escape(bytes: &[u8]) -> String {
 
 /// The bytes that a text with escapes stands for. The text is bytes too, since an argument of a command need not be Unicode.
 ///
+/// # Errors
+///
+/// The place of a backslash that begins no escape.
+///
 /// ```
 /// use varnucht::escape::unescape;
 ///

@@ -39,8 +39,11 @@ impl Image {
         image
     }
 
-    /// The image with these bytes, which are not copied where the vector has no more room than it needs. Refused 1 where
-    /// they are not 819,200; the error hands the bytes back.
+    /// The image with these bytes, which are not copied where the vector has no more room than it needs.
+    ///
+    /// # Errors
+    ///
+    /// Refused 1 where they are not 819,200; the error hands the bytes back.
     ///
     /// ```
     /// use varnucht::Image;
@@ -69,7 +72,11 @@ impl Image {
         bytes.into_vec()
     }
 
-    /// How large its directory is, as slot 1 says, whatever else the image holds. Refused 24 where that is no size.
+    /// How large its directory is, as slot 1 says, whatever else the image holds.
+    ///
+    /// # Errors
+    ///
+    /// Refused 24 where that is no size.
     pub fn directory(&self) -> Result<Directory, Refused> {
         Directory::of(self)
     }
@@ -79,21 +86,29 @@ impl Image {
         DiskName::of(self)
     }
 
-    /// Whether the image is an accepted disk: refused 24, or 2 to 11 and 25 with the slot.
-    /// [`Disk::open`](crate::Disk::open) asks the same and keeps the answer in the type. Every slot before the directory's
-    /// end is looked at, and every sector of every file.
+    /// Whether the image is an accepted disk. [`Disk::open`](crate::Disk::open) asks the same and keeps the answer in the
+    /// type. Every slot before the directory's end is looked at, and every sector of every file.
+    ///
+    /// # Errors
+    ///
+    /// Refused 24, or 2 to 11 and 25 with the slot.
     pub fn check(&self) -> Result<(), Refused> {
         calls::check(self.as_bytes()).decode().map(|_| ())
     }
 
-    /// Whether the image is an accepted disk without waste sectors, before it goes out: refused as [`check`](Image::check)
-    /// is, and 22 with the slot where a file of a carried kind has more sectors than its length needs. Every other call
-    /// accepts such a disk.
+    /// Whether the image is an accepted disk without waste sectors, before it goes out.
+    ///
+    /// # Errors
+    ///
+    /// Refused as [`check`](Image::check) is, and 22 with the slot where a file of a carried kind has more sectors than its
+    /// length needs. Every other call accepts such a disk.
     pub fn check_release(&self) -> Result<(), Refused> {
         calls::check_release(self.as_bytes()).decode().map(|_| ())
     }
 
     /// One raw sector, not copied. No directory is checked, so any image will do.
+    ///
+    /// # Errors
     ///
     /// Its types rule out every refusal; the answer is the library's all the same.
     ///

@@ -119,7 +119,11 @@ impl CarriedKind {
         CarriedKind::Screen,
     ];
 
-    /// The carried kind with this number. Refused 13 outside 16 to 20.
+    /// The carried kind with this number.
+    ///
+    /// # Errors
+    ///
+    /// Refused 13 outside 16 to 20.
     ///
     /// ```
     /// use varnucht::CarriedKind;

@@ -153,6 +153,9 @@
 //!
 //! # A disk in a file
 //!
+//! A [`DiskFile`] is a disk and the file that it is in, open and locked: it opens by a path, and what it changes is stored for
+//! good when the call returns. Below it stands what it is made of, for other stores than files.
+//!
 //! A change answers with the [`Sectors`] that it altered, in the order in which they are to be written. Wherever that
 //! writing is cut short, the file holds the old disk until the last sector is written, and the new one from then on (of a
 //! handful of files erased at once that holds of each sector): [`Sectors::write_to`] does it, and waits for each sector to reach the disk before it goes on to the next. If a write fails,
@@ -188,17 +191,19 @@
 //! directory's end is its first slot whose first name byte is 0: that slot and all later ones are free, and what stands there
 //! is no file and is not looked at; a save clears the old name that would come back when it takes that slot. Below the
 //! types stand [`calls`], the twenty calls on byte slices, and [`raw`], the C layer itself.
-#![warn(missing_docs)]
+#![warn(missing_docs, clippy::missing_errors_doc)]
 
 mod answer;
 pub mod calls;
 mod chain;
 mod change;
+mod convert;
 mod directory;
 mod disk;
 mod drives;
 mod entry;
 pub mod escape;
+mod file;
 mod handful;
 mod image;
 mod kind;
@@ -217,10 +222,12 @@ mod tree;
 
 pub use answer::{Accepted, Answer};
 pub use change::{Change, NO_EXECUTION, NewFile};
+pub use convert::BadName;
 pub use directory::{Directory, DiskName};
 pub use disk::{Disk, Unsound};
 pub use drives::Drives;
 pub use entry::Entry;
+pub use file::{DiskFile, FileError};
 pub use handful::Erased;
 pub use image::{IMAGE_LENGTH, Image, WrongLength};
 pub use kind::{CarriedKind, Kind};

@@ -31,7 +31,11 @@ pub const NAME_LENGTH: usize = 10;
 pub struct Name([u8; NAME_LENGTH]);
 
 impl Name {
-    /// The name with these bytes. Refused 12 where there is none or are more than ten, or the first is 0.
+    /// The name with these bytes.
+    ///
+    /// # Errors
+    ///
+    /// Refused 12 where there is none or are more than ten, or the first is 0.
     pub fn new(bytes: impl AsRef<[u8]>) -> Result<Name, Refused> {
         let given = bytes.as_ref();
         if Name::unusable(given).is_some() {
@@ -134,8 +138,11 @@ impl fmt::Debug for Name {
 pub struct NewName(Name);
 
 impl NewName {
-    /// The new name with these bytes. Refused 12 where [`Name::new`] refuses them, where one is outside 32 to 126, and
-    /// where the first is a space.
+    /// The new name with these bytes.
+    ///
+    /// # Errors
+    ///
+    /// Refused 12 where [`Name::new`] refuses them, where one is outside 32 to 126, and where the first is a space.
     pub fn new(bytes: impl AsRef<[u8]>) -> Result<NewName, Refused> {
         match NewName::unusable(&bytes) {
             Some(_) => Err(Refusal::UnusableName.into()),

@@ -22,7 +22,11 @@ pub enum Drive {
 }
 
 impl Drive {
-    /// The drive with this number. Refused 21 where it is neither 1 nor 2.
+    /// The drive with this number.
+    ///
+    /// # Errors
+    ///
+    /// Refused 21 where it is neither 1 nor 2.
     pub fn new(number: u32) -> Result<Drive, Refused> {
         match number {
             1 => Ok(Drive::One),
@@ -54,7 +58,11 @@ impl Drive {
 pub struct Track(u8);
 
 impl Track {
-    /// The track with this number. Refused 21 where there is none.
+    /// The track with this number.
+    ///
+    /// # Errors
+    ///
+    /// Refused 21 where there is none.
     pub fn new(number: u32) -> Result<Track, Refused> {
         match u8::try_from(number) {
             Ok(track @ (0..=79 | 128..=207)) => Ok(Track(track)),
@@ -79,7 +87,11 @@ impl fmt::Display for Track {
 pub struct Sector(u8);
 
 impl Sector {
-    /// The sector with this number. Refused 21 where there is none.
+    /// The sector with this number.
+    ///
+    /// # Errors
+    ///
+    /// Refused 21 where there is none.
     pub fn new(number: u32) -> Result<Sector, Refused> {
         match u8::try_from(number) {
             Ok(sector @ 1..=10) => Ok(Sector(sector)),

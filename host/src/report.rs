@@ -75,15 +75,22 @@ impl Report {
     }
 
     /// Adds a disk, accepted or refused: bytes of any length and any content. Gives how many disks the report holds then.
-    /// Refused 31 where it holds 65,535 already, and nothing has changed.
     ///
-    /// The disk is checked once: every slot up to the directory's end is looked at, and every sector of every file. Nothing is
-    /// copied.
+    /// The disk is checked once: every slot up to the directory's end is looked at, and every sector of every file. Nothing
+    /// is copied.
+    ///
+    /// # Errors
+    ///
+    /// Refused 31 where it holds 65,535 already, and nothing has changed.
     pub fn add(&mut self, image: &[u8]) -> Result<u32, Refused> {
         calls::report_add(image, &mut self.0).decode().map(|done| done.value)
     }
 
-    /// Joins another report to this one, which is then the report over the disks of both. Gives how many disks it holds then.
+    /// Joins another report to this one, which is then the report over the disks of both. Gives how many disks it holds
+    /// then.
+    ///
+    /// # Errors
+    ///
     /// Refused 31 where these are more than 65,535, and nothing has changed.
     pub fn join(&mut self, other: &Report) -> Result<u32, Refused> {
         calls::report_join(&mut self.0, &other.0).decode().map(|done| done.value)

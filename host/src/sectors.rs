@@ -112,10 +112,13 @@ impl<'d> Sectors<'d> {
     /// `progress` with how many are written and how many there are.
     ///
     /// A file is a [`Store`]. It must hold the disk as it was before the change; lock it, so that nobody else writes there.
-    /// Where a write fails the rest is not tried: the error says how far it came and what that means. It may be tried again.
     ///
-    /// Where an earlier change of this disk was not written whole, by this function, nothing is written: the store does not
-    /// hold the disk that this change was made on, and its sectors alone could make it one that no call accepts.
+    /// # Errors
+    ///
+    /// Where a write fails the rest is not tried: the error says how far it came and what that means. It may be tried again.
+    /// [`WriteError::Skipped`] where an earlier change of this disk was not written whole, by this function: then nothing is
+    /// written, since the store does not hold the disk that this change was made on, and its sectors alone could make it one
+    /// that no call accepts.
     ///
     /// ```
     /// use varnucht::{Change, Disk, Image, WriteError};

@@ -18,7 +18,11 @@ pub struct Start {
 }
 
 impl Start {
-    /// The start at this page and offset. Refused 14 where one is out of its range.
+    /// The start at this page and offset.
+    ///
+    /// # Errors
+    ///
+    /// Refused 14 where one is out of its range.
     pub fn new(page: u32, offset: u32) -> Result<Start, Refused> {
         match (u8::try_from(page), u16::try_from(offset)) {
             (Ok(page @ 0..=31), Ok(offset @ 32_768..=49_151)) => Ok(Start { page, offset }),

@@ -11,6 +11,10 @@ use std::os::fd::AsRawFd;
 pub trait Store {
     /// Writes the 512 bytes of one sector, whole, at its number × 512, and returns when they are stored for good: the order
     /// of writing is what keeps the old disk readable.
+    ///
+    /// # Errors
+    ///
+    /// Whatever keeps the sector from being stored. It may be written then or not.
     fn write_sector(&mut self, number: SectorNumber, bytes: &[u8; SECTOR_LENGTH]) -> io::Result<()>;
 }
 

@@ -3,6 +3,10 @@
 mod bigger;
 #[path = "api/changing.rs"]
 mod changing;
+#[path = "api/conversions.rs"]
+mod conversions;
+#[path = "api/file.rs"]
+mod file;
 #[path = "api/gathering.rs"]
 mod gathering;
 #[path = "api/handful.rs"]

@@ -1,6 +1,8 @@
 //! The tool, run as a process, by subject. `tool/support.rs` is what the subjects share.
 #[path = "tool/bigger.rs"]
 mod bigger;
+#[path = "tool/carrying.rs"]
+mod carrying;
 #[path = "tool/commands.rs"]
 mod commands;
 #[path = "tool/flushes.rs"]
@@ -11,6 +13,8 @@ mod gathering;
 mod handful;
 #[path = "tool/input.rs"]
 mod input;
+#[path = "tool/libdsk.rs"]
+mod libdsk;
 #[path = "tool/lock.rs"]
 mod lock;
 #[path = "tool/looking.rs"]
@@ -25,10 +29,20 @@ mod map;
 mod messages;
 #[path = "tool/names.rs"]
 mod names;
+#[path = "tool/packaging.rs"]
+mod packaging;
+#[path = "tool/replacing.rs"]
+mod replacing;
 #[path = "tool/report.rs"]
 mod report;
+#[path = "tool/salvage.rs"]
+mod salvage;
 #[path = "tool/saving.rs"]
 mod saving;
+#[path = "tool/scripts.rs"]
+mod scripts;
+#[path = "tool/seeing.rs"]
+mod seeing;
 #[path = "tool/standard.rs"]
 mod standard;
 #[path = "tool/support.rs"]

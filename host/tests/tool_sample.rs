@@ -116,6 +116,17 @@ fn the_readmes_lines_run_as_they_are_printed() {
         assert_eq!((run.status, run.err.as_str()), (0, ""), "{line}");
     }
     assert!(fs::read(folder.path("copy.bin")).expect("the copy is there") == body(10_000));
-    assert_eq!(folder.names(), ["big.mgt", "copy.bin", "new.mgt", "tunes.bin"]);
+    assert!(fs::read(folder.path("files/TUNES")).expect("it is extracted") == body(10_000));
+    let left = [
+        "big.mgt",
+        "copy.bin",
+        "files",
+        "map.svg",
+        "new.mgt",
+        "other.mgt",
+        "rescued.mgt",
+        "tunes.bin",
+    ];
+    assert_eq!(folder.names(), left);
     println!("{} lines", lines.len());
 }

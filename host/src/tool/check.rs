@@ -1,43 +1,75 @@
 //! `check`: whether disks are sound, and fit to go out.
+use super::each;
 use super::failure::{Failure, Outcome, Reason};
+use super::faults::{self, Faults};
+use super::json;
 use super::output::{self, counted};
 use super::source;
 use super::words::Given;
 use std::ffi::OsStr;
-use varnucht::{Disk, Image, Refusal, Refused};
+use varnucht::{Directory, Disk, Image, Refusal, Refused};
 
 /// Prints `accepted`, or fails with the refusal. Of several images each gets its line, and the worst status is given.
 pub fn run(given: &Given) -> Outcome {
-    let paths = given.words();
-    source::standard_once(given, None)?;
-    if let [path] = paths {
-        let accepted = check(given, path)?;
-        return output::print(format!("{accepted}\n"));
-    }
-    let mut worst = 0;
-    for path in paths {
-        match check(given, path) {
-            Ok(accepted) => output::print(format!("{}: {accepted}\n", output::shown_file(path)))?,
-            Err(failure) => {
-                worst = worst.max(failure.status());
-                failure.words().iter().for_each(|words| output::say(words));
-            }
+    each::one_form(given)?;
+    let one = given.words().len() == 1;
+    each::print(given, |path| {
+        if given.has("--json") {
+            return object(given, path);
         }
-    }
-    if worst == 0 { Ok(()) } else { Err(Failure::Said(worst)) }
+        let directory = check(given, path)?;
+        let accepted = format!("accepted, {}\n", output::tracks(directory));
+        let text = match (given.has("-0"), one) {
+            (true, _) => each::ended(path),
+            (false, true) => accepted.into(),
+            (false, false) => format!("{}: {accepted}", output::shown_file(path)).into(),
+        };
+        Ok((text, 0))
+    })
 }
 
-/// Checks one image, by the check that is asked for. Gives what is said of an accepted one.
-fn check(given: &Given, path: &OsStr) -> Result<String, Failure> {
+/// Checks one image, by the check that is asked for. Gives how large the directory of an accepted one is.
+fn check(given: &Given, path: &OsStr) -> Result<Directory, Failure> {
     let image = source::image_at(given, path)?;
-    let checked = match given.has("--release") {
-        true => image.check_release(),
-        false => image.check(),
-    };
-    match checked.and_then(|()| image.directory()) {
-        Ok(directory) => Ok(format!("accepted, {}", output::tracks(directory))),
-        Err(refused) => Err(Failure::unsound(path, explained(image, refused))),
+    checked(given, &image).map_err(|refused| match given.has("--all") {
+        true => all(given, path, image, refused),
+        false => Failure::unsound(path, explained(image, refused)),
+    })
+}
+
+/// What the check that is asked for answers.
+fn checked(given: &Given, image: &Image) -> Result<Directory, Refused> {
+    match given.has("--release") {
+        true => image.check_release()?,
+        false => image.check()?,
     }
+    image.directory()
+}
+
+/// Says every fault of a disk that is refused, and not the first alone. Where its slots cannot be found that is its fault.
+fn all(given: &Given, path: &OsStr, image: Image, refused: Refused) -> Failure {
+    let faults = Faults::of(&image).ok();
+    let said = faults.and_then(|faults| faults::say(path, &faults, given.has("--release")));
+    said.unwrap_or_else(|| Failure::unsound(path, explained(image, refused)))
+}
+
+/// The line of an image as JSON, with all its faults where they are asked for.
+fn object(given: &Given, path: &OsStr) -> Result<(Vec<u8>, u8), Failure> {
+    let image = match source::image_at(given, path) {
+        Err(failure) => return json::line(path, Err(failure)),
+        Ok(image) => image,
+    };
+    let (accepted, mut fields, status) = match checked(given, &image) {
+        Ok(directory) => (true, vec![("directory_tracks", directory.tracks().to_string())], 0),
+        Err(refused) => (false, json::refused(&explained(image.clone(), refused)).into(), 1),
+    };
+    if given.has("--all") {
+        let faults = Faults::of(&image).ok();
+        let faults = faults.map_or("[]".to_string(), |faults| faults.json(given.has("--release")));
+        fields.push(("faults", faults));
+    }
+    let object = json::object(json::front(path, accepted).into_iter().chain(fields));
+    Ok((format!("{object}\n").into(), status))
 }
 
 /// A refusal; of waste sectors it says too whose they are, where the disk can be listed.

@@ -1,7 +1,7 @@
 //! The table of commands.
 use super::failure::Outcome;
 use super::words::Given;
-use super::{blank, change, check, dump, erase, gather, list, map, read, report, save, tree};
+use super::{add, blank, change, check, dump, erase, extract, gather, list, map, read, report, salvage, save, sector, tree};
 
 /// A command of the tool.
 pub struct Command {
@@ -65,6 +65,15 @@ const RELEASE: Choice = flag(
     "refuse waste sectors too: more sectors behind a file
 than its length needs (kinds 16 to 20)",
 );
+const EVERY: Choice = flag(&["--all"], "name every fault of a refused disk, not the first");
+const COPY: Choice = valued(&["-o", "--output"], "NEW", "write the copy to NEW (`-`: standard output)");
+const KEEP: Choice = valued(
+    &["--keep"],
+    "SLOTS",
+    "of two that do not go together keep the one in this
+slot, and leave the other out; several by commas",
+);
+const FORCE_NEW: Choice = flag(&["--force"], "let NEW take the place of an older file");
 const ALL: Choice = flag(&["--all"], "gather each file in turn, the lowest slot first");
 const COLOR: Choice = valued(
     &["--color"],
@@ -82,6 +91,14 @@ const FORCE: Choice = flag(
     "let FILE take the place of an older one, with its
 permissions; other hard links keep the older bytes",
 );
+const SVG: Choice = valued(
+    &["--svg"],
+    "FILE",
+    "write the picture to FILE as SVG (`-`: standard
+output)",
+);
+const FORCE_SVG: Choice = flag(&["--force"], "let FILE take the place of an older file");
+const FORCE_ALL: Choice = flag(&["--force"], "let the files take the place of older ones");
 const KIND: Choice = valued(
     &["--kind"],
     "KIND",
@@ -103,6 +120,17 @@ const FILES_FROM: Choice = valued(
 names, one to a line; `-` is standard input",
 );
 const JSON: Choice = flag(&["--json"], "print one JSON object, on one line");
+const JSONS: Choice = flag(&["--json"], "print a JSON object for each image, on one line");
+const NUL_IMAGES: Choice = flag(
+    &["-0", "--null"],
+    "print the images that are accepted, with a byte 0
+behind each, for `xargs -0`",
+);
+const NUL_NAMES: Choice = flag(
+    &["-0", "--null"],
+    "print the names alone, with a byte 0 behind each, for
+`xargs -0`; of several images IMAGE, 0, NAME, 0",
+);
 const THREADS: Choice = valued(
     &["--threads"],
     "N",
@@ -114,6 +142,11 @@ const TRACKS: Choice = valued(
     "N",
     "how many tracks the directory has, 4 to 39 (4); more
 than 4 are for MasterDOS",
+);
+const REPLACE: Choice = flag(
+    &["--replace"],
+    "where a file has that name, let the new one take its
+place; it has no marks then, and lies in the root",
 );
 const INFO: Choice = valued(&["--info"], "HEX", "up to 11 bytes of kind information (all zero)");
 
@@ -132,9 +165,53 @@ replaced or cut short all the same, the change fails (status 3).";
 const WHOLE: &str = "FILE gets its name when it is whole: a failure or a signal leaves an older one
 as it was. Setuid, setgid and sticky are not kept.";
 
+/// What is said of bodies on a terminal.
+const TERMINAL: &str = "To a terminal no body goes that holds other bytes than letters, tabs and ends of
+lines, since they give orders to it, unless `-o -` asks for that.";
+
 /// What is said of IMAGE where it is only read.
 const PIPE: &str = "IMAGE may be a pipe, read to its end: one that nobody writes to is waited for.
 `-` is standard input.";
+
+/// What is said of every fault of a disk.
+const FAULTS: &str = "With --all every slot is tried by itself, on a copy in which it is the only
+live one, and two slots together where they share a sector or a name (8, 9):
+both are doubtful then. The check of the library judges each copy. Where slot 1
+does not say how large the directory is (24), that is the one fault.";
+
+/// What is said of a rescue: what the copy is, what is left out, and what becomes of directories.
+const SALVAGE: &str = "Makes NEW, a copy of IMAGE in which byte 0 of each bad slot is 0, so that the
+slot is free. Nothing else of the disk is changed, and IMAGE is never written.
+NEW is made only where the library accepts it. A file of a wrong length (1), or
+a disk that does not say how large its directory is (24), cannot be salvaged.";
+const LEFT_OUT: &str = "What is left out is named with its refusal, and the status is then 1. Of two
+that share a sector or a name both are named, and the later slot is left out,
+unless --keep asks for it. `check --all` says the same beforehand, and `sector`
+shows what a bad file's sectors hold.";
+const SALVAGE_TREE: &str = "Where a directory is left out what was in it stays, is named, and is found by
+every command but `tree`, which refuses the copy (27).";
+
+/// What is said of files that go to a folder and come back from there.
+const PATTERNS: &str = r"In a NAME `*` stands for any bytes and `?` for one; `\x2a` and `\x3f` are these
+two themselves. Without a NAME all files are extracted. DIR is made where it is
+not there. Directories have no body, and all files go to DIR itself.";
+const SAFE_NAMES: &str = r"On the host a file is called as `list` prints its name, with a slash as `\x2f`
+and a dot at the front as `\x2e`: it is never a path. Where a file is there
+already nothing is extracted (status 3), unless --force is given. A file that
+cannot be read from the disk (13) is named, the rest is done, and the status
+is 1.";
+const INDEX: &str = "DIR/varnucht.index has a line for each file, with its names on the host and on
+the disk, kind, page, offset, execution bytes, kind information and marks, by
+tabs. Lines of files that were extracted there before stay. `add` takes them.";
+const ADD: &str = r"Saves each FILE in turn, a change of its own. Where `varnucht.index` in its
+folder has a line for it, it gets the name, the kind, the start, the other
+bytes and the marks that stand there; else the name that it has on the host,
+in which `\xHH` stands for a byte. An option goes before the index, and the
+index itself is passed over. What is refused or cannot be read is named, the
+others go on, and the greatest status is given.";
+const ADD_MARKS: &str = "A mark is set after the file is saved, by a change of its own: cut short in
+between, the file is there without it. All files go to the root. A save writes
+no date.";
 
 /// What is said of a report: what it counts; what is taken in folders and lists; what cannot be read; the names in JSON.
 const SHELF: &str = "Prints how many disks are accepted and how many refused, by number; and of the
@@ -155,12 +232,35 @@ const FIELDS: &str = "JSON: disks, accepted, refused (an array of number, words,
 files, kinds (of kind, words, files), file_sectors, free_sectors, classes (of
 from, to, files; the last `to` is null).";
 
+/// The names in JSON of a check, of a list and of a map, and where an image is refused.
+const CHECK_FIELDS: &str = "JSON: image, accepted, directory_tracks; with --all faults (an array of slot,
+with, name, name_bytes, refusal, words): `with` is the earlier slot that it does
+not go together with, or null.";
+const LIST_FIELDS: &str = "JSON: image, accepted, name, name_bytes (of the disk; null for none),
+directory_tracks, slots, free_slots, free_sectors, room, files (an array of
+slot, name, name_bytes, kind, kind_words, hidden, protected, sectors, length,
+start, execution, information, code, in, in_code). `name` has escapes, and
+`name_bytes` is an array of numbers.";
+const MAP_FIELDS: &str = "JSON: image, accepted, directory and free (arrays of sector numbers), files (an
+array of slot, name, name_bytes, scattered, sectors, in the file's order).";
+const REFUSED_FIELDS: &str = "JSON of an image that is refused: image, accepted, refusal, slot, words, more.";
+
 /// What is said of a save.
 const START: &str = "The usual start, page 1 and offset 32768, is address 32768.";
 
 /// What is said of the slot that a save takes.
 const SLOT: &str = "It takes the lowest free slot. Where that is the directory's end and an old
 name stands in the next slot, that name is cleared with it.";
+
+/// What is said of a file that takes the place of another.
+const REPLACED: &str = "With --replace the new file is saved under a free name, NEW~1 or the next that
+is free; then the older one is erased, and then the new one is renamed: three
+changes, all of them tried in memory before the first is written. It is refused
+where there is no room for both (18, 19), where the older one is protected (17)
+or a directory (13).";
+const REPLACED_CUT: &str = "Cut short anywhere, the older file or the new one is there, whole. Where `list`
+shows a file NEW~1 that is the new one: `rename IMAGE NEW~1 NAME` ends the work
+if NAME is gone, and `erase IMAGE NEW~1` takes it back if NAME is there.";
 
 /// What is said of scattered files, and of gathering them all.
 const GATHER: &str = "Moves the file to the lowest run of free sectors that is as long as the file,
@@ -199,7 +299,7 @@ pub const COMMANDS: &[Command] = &[
     Command {
         name: "check",
         places: &["IMAGE..."],
-        options: &[&RELEASE, &NO_WAIT],
+        options: &[&RELEASE, &EVERY, &JSONS, &NUL_IMAGES, &NO_WAIT],
         brief: "tell whether a disk is sound, and fit to go out",
         more: &[
             "Prints `accepted` and how many tracks the directory has, or says which slot is
@@ -207,14 +307,25 @@ wrong and why. Of several images each gets its line, with its name in front,
 and the greatest status is given.",
             "The directory ends at its first slot without a name, and what stands behind is
 not looked at.",
+            FAULTS,
+            CHECK_FIELDS,
+            REFUSED_FIELDS,
             PIPE,
         ],
         run: check::run,
     },
     Command {
-        name: "list",
+        name: "salvage",
         places: &["IMAGE"],
-        options: &[&NO_WAIT],
+        options: &[&COPY, &KEEP, &FORCE_NEW, &NO_WAIT],
+        brief: "copy what is sound of a disk that is refused",
+        more: &[SALVAGE, LEFT_OUT, SALVAGE_TREE, PIPE],
+        run: salvage::run,
+    },
+    Command {
+        name: "list",
+        places: &["IMAGE..."],
+        options: &[&JSONS, &NUL_NAMES, &NO_WAIT],
         brief: "list the files, hidden ones too",
         more: &[
             "The disk's name stands above the files, where it has one; how many tracks the
@@ -223,6 +334,10 @@ directory has, and how many of its slots are free, below them.",
 kinds that have them: 16 to 20, and 1 to 4 of the Spectrum, which can be read
 and not saved. Where the disk has directories the last column says which one a
 file is in; those in the root have none there.",
+            "Of several images each is named above its table; one that fails is named on
+standard error, the others go on, and the greatest status is given.",
+            LIST_FIELDS,
+            REFUSED_FIELDS,
             PIPE,
         ],
         run: list::run,
@@ -245,7 +360,7 @@ the files all the same, and which directory each is in.",
     Command {
         name: "map",
         places: &["IMAGE"],
-        options: &[&COLOR, &NO_WAIT],
+        options: &[&COLOR, &JSONS, &SVG, &FORCE_SVG, &NO_WAIT],
         brief: "draw the 1,600 sectors and whose they are",
         more: &[
             "A column is a track and a row a sector, 1 to 10; the first side is above the
@@ -253,6 +368,8 @@ second. Each file has a sign, and the signs are named below. There are 80:
 with more files they come again, in other colours. Files whose sectors do not
 follow each other in the order of their bytes are named once more, as
 scattered: `gather` puts a file's sectors in a row.",
+            MAP_FIELDS,
+            REFUSED_FIELDS,
             PIPE,
         ],
         run: map::run,
@@ -262,15 +379,55 @@ scattered: `gather` puts a file's sectors in a row.",
         places: &["IMAGE", "NAME"],
         options: &[&OUTPUT, &FORCE, &NO_WAIT],
         brief: "give a file's body",
-        more: &[WHOLE, PIPE, NAMES],
+        more: &[TERMINAL, WHOLE, PIPE, NAMES],
         run: read::run,
+    },
+    Command {
+        name: "dump",
+        places: &["IMAGE", "NAME"],
+        options: &[&NO_WAIT],
+        brief: "dump a file's body in hexadecimal",
+        more: &[
+            "Above the bytes stand the file's kind, length and start address.",
+            PIPE,
+            NAMES,
+        ],
+        run: dump::run,
+    },
+    Command {
+        name: "start",
+        places: &["IMAGE", "NAME"],
+        options: &[&NO_WAIT],
+        brief: "print a file's start address",
+        more: &[
+            "Of a Spectrum file, kind 1 to 4, it is the start that its header says.",
+            PIPE,
+            NAMES,
+        ],
+        run: dump::start,
+    },
+    Command {
+        name: "extract",
+        places: &["IMAGE", "DIR", "[NAME...]"],
+        options: &[&FORCE_ALL, &NO_WAIT],
+        brief: "write files to a folder, with an index",
+        more: &[PATTERNS, SAFE_NAMES, INDEX, PIPE, NAMES],
+        run: extract::run,
+    },
+    Command {
+        name: "add",
+        places: &["IMAGE", "FILE..."],
+        options: &[&KIND, &PAGE, &OFFSET, &EXEC, &INFO, &DRY_RUN, &NO_WAIT],
+        brief: "save files under their own names, or by an index",
+        more: &[ADD, ADD_MARKS, START, NUMBERS, SAFE],
+        run: add::run,
     },
     Command {
         name: "save",
         places: &["IMAGE", "NAME", "FILE"],
-        options: &[&KIND, &PAGE, &OFFSET, &EXEC, &INFO, &DRY_RUN, &NO_WAIT],
+        options: &[&KIND, &PAGE, &OFFSET, &EXEC, &INFO, &REPLACE, &DRY_RUN, &NO_WAIT],
         brief: "save FILE (`-`: standard input) under a new name",
-        more: &[START, NUMBERS, SLOT, SAFE, NAMES],
+        more: &[START, NUMBERS, SLOT, REPLACED, REPLACED_CUT, SAFE, NAMES],
         run: save::run,
     },
     Command {
@@ -307,7 +464,7 @@ scattered: `gather` puts a file's sectors in a row.",
         options: &[&NO_WAIT],
         brief: "dump one raw sector; no directory is checked",
         more: &["Tracks are 0 to 79 and 128 to 207, sectors 1 to 10.", NUMBERS, PIPE],
-        run: dump::run,
+        run: sector::run,
     },
     Command {
         name: "report",
@@ -334,7 +491,18 @@ gives 20 slots more, but the fifth 18, and takes 10 sectors, but the fifth 9:
     },
 ];
 
-/// The command of this name.
+/// What some commands are called too, by those who come from elsewhere.
+pub const ALIASES: &[(&str, &str)] = &[
+    ("ls", "list"),
+    ("cat", "read"),
+    ("get", "read"),
+    ("rm", "erase"),
+    ("mv", "rename"),
+];
+
+/// The command of this name, or that is called so too.
 pub fn find(name: &str) -> Option<&'static Command> {
+    let alias = ALIASES.iter().find(|(alias, _)| *alias == name);
+    let name = alias.map_or(name, |(_, name)| *name);
     COMMANDS.iter().find(|command| command.name == name)
 }

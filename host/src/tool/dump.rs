@@ -1,44 +1,35 @@
-//! `sector`: one raw sector in hexadecimal.
+//! `dump` and `start`: a file's body in hexadecimal, and its start address.
 use super::failure::{Failure, Outcome};
-use super::output::{self, shown};
+use super::hex;
+use super::output::{self, counted};
 use super::source;
-use super::values;
+use super::values::AskedName;
 use super::words::Given;
-use varnucht::{Image, Refused, Sector, SectorNumber, Track};
+use varnucht::{Disk, Name, Refused};
 
-/// Prints the sector.
+/// Prints the body of the file named.
 pub fn run(given: &Given) -> Outcome {
-    let track = values::number(given, given.word(1))?;
-    let sector = values::number(given, given.word(2))?;
-    let image = source::image(given)?;
-    let text = dump(&image, track, sector);
-    // The words as they were typed: a number that is too large counts as another.
-    let what = format!("track {}, sector {}", shown(given.word(1)), shown(given.word(2)));
-    output::print(text.map_err(|refused| Failure::refused(given.word(0), &what, refused))?)
+    of_name(given, |disk, name| {
+        let body = disk.read(name)?;
+        let kind = disk
+            .listing()
+            .find(name)
+            .map_or(String::new(), |entry| format!("{}, ", entry.kind()));
+        let start = disk.start(name).map_or(String::new(), |start| format!(", start {start}"));
+        let length = counted(body.len(), "byte");
+        Ok(format!("{name}: {kind}{length}{start}\n{}", hex::lines(&body, 5)))
+    })
 }
 
-/// Where the sector is, and its bytes, sixteen to a line.
-fn dump(image: &Image, track: u32, sector: u32) -> Result<String, Refused> {
-    let (track, sector) = (Track::new(track)?, Sector::new(sector)?);
-    let bytes = image.sector(track, sector)?;
-    let number = SectorNumber::of(track, sector);
-    let head = format!(
-        "track {track}, sector {sector}: number {number}, byte {} of the image\n",
-        number.place()
-    );
-    let lines = bytes
-        .as_chunks()
-        .0
-        .iter()
-        .zip((0..).step_by(16))
-        .map(|(bytes, place)| line(place, bytes));
-    Ok(head + &lines.collect::<String>())
+/// Prints the start address of the file named.
+pub fn start(given: &Given) -> Outcome {
+    of_name(given, |disk, name| Ok(format!("{}\n", disk.start(name)?)))
 }
 
-/// Sixteen bytes: their place in the sector, in hexadecimal, and as letters where they are any.
-fn line(place: usize, bytes: &[u8; 16]) -> String {
-    let hex = |bytes: &[u8]| bytes.iter().map(|byte| format!(" {byte:02x}")).collect::<String>();
-    let letter = |byte: &u8| if (32..=126).contains(byte) { char::from(*byte) } else { '.' };
-    let letters: String = bytes.iter().map(letter).collect();
-    format!("{place:03x} {} {}  |{letters}|\n", hex(&bytes[..8]), hex(&bytes[8..]))
+/// Prints what is said of the file of a name.
+fn of_name(given: &Given, text: impl FnOnce(&Disk, &Name) -> Result<String, Refused>) -> Outcome {
+    let asked = AskedName::at(given, 1)?;
+    let disk = source::disk(given)?;
+    let text = asked.name("it").and_then(|name| Ok(text(&disk, &name)?));
+    output::print(text.map_err(|reason| Failure::refused(given.word(0), &asked.to_string(), reason))?)
 }

@@ -1,20 +1,31 @@
 //! `help`: what the tool does, and what each command does.
-use super::commands::{self, COMMANDS, Choice, Command};
+use super::commands::{self, ALIASES, COMMANDS, Choice, Command};
 use super::failure::{Failure, Outcome};
+use super::near;
 use super::output;
-use std::ffi::OsString;
+use super::pages;
+use std::ffi::{OsStr, OsString};
 
 /// Prints the help on a command, or on all.
 pub fn run(words: Vec<OsString>) -> Outcome {
     match words.as_slice() {
         [] => output::print(all()),
         [word] if word == "help" => output::print(all()),
+        [word] if let Some(page) = word.to_str().and_then(pages::form) => output::print(page),
         [word] => match word.to_str().and_then(commands::find) {
             Some(command) => print(command),
-            None => Err(Failure::usage(format!("there is no command `{}`", output::shown(word)), None)),
+            None => Err(no_command(word)),
         },
         _ => Err(Failure::usage("`help` takes one command", None)),
     }
+}
+
+/// There is no command of this name; the nearest is named.
+pub fn no_command(word: &OsStr) -> Failure {
+    let others = ALIASES.iter().map(|(alias, _)| *alias).chain(["help"]);
+    let known = COMMANDS.iter().map(|command| command.name).chain(others);
+    let hint = near::hint(&word.to_string_lossy(), known);
+    Failure::usage(format!("there is no command `{}`{hint}", output::shown(word)), None)
 }
 
 /// Prints the help on a command.
@@ -24,7 +35,7 @@ pub fn print(command: &Command) -> Outcome {
 
 /// What stands above and below the commands.
 const HEAD: &str = "varnucht: disks of the SAM Coupé in image files of 819,200 bytes\n\n";
-const FOOT: &str = "
+pub const FOOT: &str = "
 Exit status:
   0  done
   1  refused: the disk or the request is against the rules; the number and the
@@ -35,9 +46,16 @@ Exit status:
 
 /// The help on all commands.
 fn all() -> String {
-    let line = |called: &str, brief: &str| format!("  {called:<26} {brief}\n");
+    let line = |called: &str, brief: &str| format!("  {called:<27} {brief}\n");
     let lines: String = COMMANDS.iter().map(|command| line(&called(command), command.brief)).collect();
-    let more = line("help [COMMAND]", "this, or more on a command") + &line("--version", "the version");
+    let others: String = ALIASES
+        .iter()
+        .map(|(alias, name)| line(alias, &format!("the same as `{name}`")))
+        .collect();
+    let more = others
+        + &line("help [COMMAND]", "this, or more on a command")
+        + &line("help --man", "a man page; --bash, --zsh, --fish: completions")
+        + &line("--version", "the version");
     format!("{HEAD}{lines}{more}{FOOT}")
 }
 
@@ -47,16 +65,26 @@ fn one(command: &Command) -> String {
     let head = format!("varnucht {}{options}\n\n{}\n\n", called(command), sentence(command.brief));
     let choices: String = command.options.iter().map(|choice| described(choice)).collect();
     let gap = if choices.is_empty() { "" } else { "\n" };
-    format!("{head}{choices}{gap}{}\n{FOOT}", command.more.join("\n"))
+    let others = ALIASES
+        .iter()
+        .filter(|(_, name)| *name == command.name)
+        .map(|(alias, _)| format!("`{alias}`"));
+    let others = others.collect::<Vec<_>>().join(" and ");
+    let also = if others.is_empty() {
+        others
+    } else {
+        format!("It is also called {others}.\n")
+    };
+    format!("{head}{choices}{gap}{}\n{also}{FOOT}", command.more.join("\n"))
 }
 
 /// A command's name and what it takes.
-fn called(command: &Command) -> String {
+pub fn called(command: &Command) -> String {
     format!("{} {}", command.name, command.places.join(" "))
 }
 
 /// Words with a capital and a full stop.
-fn sentence(words: &str) -> String {
+pub fn sentence(words: &str) -> String {
     let mut letters = words.chars();
     letters
         .next()

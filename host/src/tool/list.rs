@@ -1,14 +1,91 @@
-//! `list`: a table of the files.
+//! `list`: a table of the files, or JSON, or their names for a script.
+use super::each;
 use super::failure::Outcome;
+use super::json::{self, Field, or_null, quoted};
 use super::output::{self, counted};
 use super::source;
 use super::tree::directories;
 use super::words::Given;
+use std::ffi::OsStr;
 use varnucht::{Disk, Entry, Listing, Within};
 
-/// Prints the table.
+/// Prints the table of each image; or its line as JSON, or its names for a script.
 pub fn run(given: &Given) -> Outcome {
-    output::print(table(&source::disk(given)?))
+    each::one_form(given)?;
+    let one = given.words().len() == 1;
+    each::print(given, |path| {
+        let disk = source::disk_at(given, path);
+        if given.has("--json") {
+            return json::line(path, disk.map(|disk| fields(&disk)));
+        }
+        let disk = disk?;
+        let text = match (given.has("-0"), one) {
+            (true, _) => names(&disk, path, one),
+            (false, true) => table(&disk).into(),
+            (false, false) => format!("{}:\n{}\n", output::shown_file(path), table(&disk)).into(),
+        };
+        Ok((text, 0))
+    })
+}
+
+/// The names, as every command takes them, each with a 0 behind it; of several images each behind its image's.
+fn names(disk: &Disk, path: &OsStr, one: bool) -> Vec<u8> {
+    let image = if one { Vec::new() } else { each::ended(path) };
+    let name = |entry: &Entry| [&image[..], entry.name().to_string().as_bytes(), b"\0"].concat();
+    disk.listing().entries().iter().flat_map(name).collect()
+}
+
+/// What JSON says of a disk.
+fn fields(disk: &Disk) -> Vec<Field> {
+    let listing = disk.listing();
+    let name = disk.name();
+    vec![
+        ("name", name.map_or("null".to_string(), |name| quoted(&name.to_string()))),
+        (
+            "name_bytes",
+            name.map_or("null".to_string(), |name| json::bytes(name.as_bytes())),
+        ),
+        ("directory_tracks", listing.directory().tracks().to_string()),
+        ("slots", listing.directory().slots().to_string()),
+        ("free_slots", listing.free_slots().to_string()),
+        ("free_sectors", listing.free().to_string()),
+        ("room", or_null(listing.room())),
+        ("files", json::listed(listing.entries().iter().map(|entry| file(disk, entry)))),
+    ]
+}
+
+/// What JSON says of a file or of a directory.
+fn file(disk: &Disk, entry: &Entry) -> String {
+    let (length, start) = length_and_start(disk, entry);
+    let within = match disk.listing().within(entry) {
+        Within::Directory(directory) if disk.listing().has_directories() => quoted(&directory.name().to_string()),
+        _ => "null".to_string(),
+    };
+    let fields = [
+        ("kind", entry.kind().number().to_string()),
+        ("kind_words", quoted(&entry.kind().to_string())),
+        ("hidden", entry.hidden().to_string()),
+        ("protected", entry.protected().to_string()),
+        ("sectors", entry.sector_count().to_string()),
+        ("length", or_null(length)),
+        ("start", or_null(start)),
+        ("execution", json::bytes(&entry.execution())),
+        ("information", json::bytes(&entry.information())),
+        ("code", or_null(entry.code())),
+        ("in", within),
+        ("in_code", entry.parent_code().to_string()),
+    ];
+    let slot = [("slot", entry.slot().to_string())];
+    json::object(slot.into_iter().chain(json::named(&entry.name())).chain(fields))
+}
+
+/// The length of a file's body and its start address. Those of a Spectrum file stand in the file itself.
+fn length_and_start(disk: &Disk, entry: &Entry) -> (Option<u32>, Option<u32>) {
+    let name = entry.name();
+    match entry.kind().is_spectrum() {
+        true => (disk.length(&name).ok(), disk.start(&name).ok()),
+        false => (entry.length(), entry.start().map(|start| start.address())),
+    }
 }
 
 /// The columns, and whether each holds numbers.
@@ -39,13 +116,10 @@ fn table(disk: &Disk) -> String {
     name + &lines + &summary(listing) + &directory(listing)
 }
 
-/// What the table says of a file. Length and start of a Spectrum file stand in the file itself.
+/// What the table says of a file.
 fn row(disk: &Disk, entry: &Entry) -> [String; 8] {
     let name = entry.name();
-    let (length, start) = match entry.kind().is_spectrum() {
-        true => (disk.length(&name).ok(), disk.start(&name).ok()),
-        false => (entry.length(), entry.start().map(|start| start.address())),
-    };
+    let (length, start) = length_and_start(disk, entry);
     let or_none = |number: Option<u32>| number.map_or("-".to_string(), |number| number.to_string());
     let mark = |set: bool, letter: char| if set { letter } else { '-' };
     [

@@ -1,16 +1,68 @@
 //! `map`: a picture of the 1,600 sectors.
 use super::colour::{self, Paint, Painted};
+use super::each;
 use super::failure::Outcome;
+use super::json::{self, Field};
+use super::make::make;
 use super::output::{self, counted};
-use super::source;
+use super::source::{self, STANDARD};
+use super::svg;
 use super::words::Given;
+use std::ffi::OsStr;
 use varnucht::{Disk, Entry, Listing, SECTORS, SectorNumber};
 
-/// Prints the picture.
+/// Prints the picture, or whose the sectors are as JSON.
 pub fn run(given: &Given) -> Outcome {
     let colour = colour::wanted(given)?;
-    let disk = source::disk(given)?;
-    output::print(picture(&disk, colour))
+    match given.value("--svg") {
+        Some(file) if !given.has("--force") || file != STANDARD => return draw(given, file),
+        _ if given.has("--force") => return Err(given.usage("`--force` goes with `--svg FILE`")),
+        _ => {}
+    }
+    each::print(given, |path| {
+        let disk = source::disk_at(given, path);
+        match given.has("--json") {
+            true => json::line(path, disk.map(|disk| fields(&disk))),
+            false => Ok((picture(&disk?, colour).into(), 0)),
+        }
+    })
+}
+
+/// Writes the picture as SVG, to a file or to standard output.
+fn draw(given: &Given, file: &OsStr) -> Outcome {
+    if given.has("--json") {
+        return Err(given.usage("`--json` and `--svg` are two forms, and one is printed"));
+    }
+    let picture = svg::picture(&source::disk(given)?);
+    match file == STANDARD {
+        true => output::print(picture),
+        false => make(file, picture.as_bytes(), given.has("--force")),
+    }
+}
+
+/// What JSON says of the sectors: the numbers of those of the directory, of the free ones, and of each file's in the order of
+/// its bytes.
+fn fields(disk: &Disk) -> Vec<Field> {
+    let owners = owners(disk.listing());
+    let numbers = |owner: Sign| {
+        let owned = (0..).zip(&owners).filter(move |(_, sign)| **sign == owner);
+        json::listed(owned.map(|(number, _): (usize, _)| number.to_string()))
+    };
+    let file = |entry: &Entry| {
+        let chain = disk.chain(&entry.name()).unwrap_or_default();
+        let scattered = disk.is_scattered(&entry.name()) == Ok(true);
+        let fields = [
+            ("scattered", scattered.to_string()),
+            ("sectors", json::listed(chain.iter().map(SectorNumber::to_string))),
+        ];
+        let slot = [("slot", entry.slot().to_string())];
+        json::object(slot.into_iter().chain(json::named(&entry.name())).chain(fields))
+    };
+    vec![
+        ("directory", numbers(DIRECTORY)),
+        ("free", numbers(FREE)),
+        ("files", json::listed(files(disk.listing()).map(file))),
+    ]
 }
 
 /// A sector's sign and its colour.

@@ -1,29 +1,44 @@
-//! The tool: one command for each thing that the library does, and `map`, `blank` and `help`.
+//! The tool: one command for each thing that the library does, and those that are made of several: `map`, `salvage`,
+//! `extract`, `add`, `blank` and `help`.
 //!
 //! `commands` is the table of commands; `words` reads the command line by it, and `help` prints it. Each command has a file of
 //! its own. What a command cannot do is a `Failure`, which knows its words and its exit status.
+mod add;
 mod blank;
 mod change;
 mod check;
 mod colour;
 mod commands;
 mod dump;
+mod each;
 mod erase;
+mod extract;
 mod failure;
+mod faults;
 mod forms;
 mod gather;
 mod help;
+mod hex;
+mod index;
+mod json;
 mod list;
 mod make;
 mod map;
+mod near;
 mod numbers;
 mod output;
+mod pages;
+mod pattern;
 mod progress;
 mod read;
+mod replace;
 mod report;
+mod salvage;
 mod save;
+mod sector;
 mod shelf;
 mod source;
+mod svg;
 mod system;
 mod tree;
 mod values;
@@ -58,9 +73,6 @@ fn obey(words: Vec<OsString>) -> Outcome {
             Some(given) => (command.run)(&given),
             None => help::print(command),
         },
-        _ => Err(Failure::usage(
-            format!("there is no command `{}`", output::shown(&first)),
-            None,
-        )),
+        _ => Err(help::no_command(&first)),
     }
 }

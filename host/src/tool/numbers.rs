@@ -1,5 +1,6 @@
 //! The numbers of a report: a table with a picture of the classes, and JSON.
 use super::colour::{Paint, Painted};
+use super::json::{listed, object, quoted};
 use varnucht::Report;
 
 /// The widths of the table: what a line is about, its number, and the longest bar, which ends in column 80.
@@ -81,21 +82,5 @@ pub fn json(report: &Report, unread: usize) -> String {
         ("free_sectors", report.free_sectors().to_string()),
         ("classes", listed(classes)),
     ];
-    let fields = fields.map(|(name, value)| format!("{}:{value}", quoted(name)));
-    format!("{{{}}}\n", fields.join(","))
-}
-
-/// Values as a JSON array.
-fn listed(values: impl Iterator<Item = String>) -> String {
-    format!("[{}]", values.collect::<Vec<_>>().join(","))
-}
-
-/// Words as a JSON string.
-fn quoted(words: &str) -> String {
-    let letter = |letter: char| match letter {
-        '"' | '\\' => format!("\\{letter}"),
-        _ if letter.is_control() => format!("\\u{:04x}", u32::from(letter)),
-        _ => letter.to_string(),
-    };
-    format!("\"{}\"", words.chars().map(letter).collect::<String>())
+    object(fields) + "\n"
 }

@@ -1,6 +1,7 @@
 //! `save`: a file or standard input, under a new name.
 use super::change::perform;
 use super::failure::{Failure, Outcome};
+use super::replace;
 use super::source::{self, STANDARD};
 use super::values::{self, AskedName};
 use super::words::Given;
@@ -29,21 +30,25 @@ pub fn run(given: &Given) -> Outcome {
     }
     // The body comes first, since standard input can take its time; the image is not locked meanwhile.
     let body = body(given.word(2))?;
-    perform(given, "saved", &name.to_string(), || {
+    let file = || {
         // In the order of their refusals: 12, 13, 14.
         let (name, kind) = (name.new_name("it")?, CarriedKind::from_number(kind)?);
         let file = NewFile::new(kind, name, Start::new(page, offset)?, &body);
-        Ok(Change::Save(NewFile {
+        Ok(NewFile {
             execution,
             information,
             ..file
-        }))
-    })
+        })
+    };
+    match given.has("--replace") {
+        true => replace::perform(given, &name.to_string(), file),
+        false => perform(given, "saved", &name.to_string(), || file().map(Change::Save)),
+    }
 }
 
 /// The bytes of a file, or of standard input for `-`. No more is read than shows that the body fits on no disk: the library
 /// refuses such a body just as it refuses a longer one.
-fn body(path: &OsStr) -> Result<Vec<u8>, Failure> {
+pub fn body(path: &OsStr) -> Result<Vec<u8>, Failure> {
     let front = match path == STANDARD {
         true => source::front(&mut *source::standard_input()?, LONGEST_BODY),
         false => File::open(path).and_then(|mut file| source::front(&mut file, LONGEST_BODY)),

@@ -88,7 +88,12 @@ pub fn not_standard(given: &Given) -> Outcome {
 
 /// The disk in the file at the first place.
 pub fn disk(given: &Given) -> Result<Disk, Failure> {
-    Disk::open(image(given)?).map_err(|unsound| Failure::unsound(given.word(0), unsound))
+    disk_at(given, given.word(0))
+}
+
+/// The disk in this file of the command line.
+pub fn disk_at(given: &Given, path: &OsStr) -> Result<Disk, Failure> {
+    Disk::open(image_at(given, path)?).map_err(|unsound| Failure::unsound(path, unsound))
 }
 
 /// The disk in the file at the first place, to be changed. The file is locked for this process alone as long as it is held.

@@ -20,6 +20,11 @@ impl AskedName {
             .map_err(|bad| given.usage(format!("`{}`: {bad}", shown(word))))
     }
 
+    /// The name with these bytes, whatever they are.
+    pub fn of(bytes: Vec<u8>) -> AskedName {
+        AskedName(bytes)
+    }
+
     /// Whether no byte of a name is given.
     pub fn is_empty(&self) -> bool {
         self.0.is_empty()

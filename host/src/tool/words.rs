@@ -1,6 +1,7 @@
 //! The words of a command line, read by the table of commands.
 use super::commands::{Choice, Command};
 use super::failure::Failure;
+use super::near;
 use super::output::shown;
 use std::ffi::{OsStr, OsString};
 use std::os::unix::ffi::OsStrExt;
@@ -67,7 +68,9 @@ pub fn read(command: &'static Command, words: Vec<OsString>) -> Result<Option<Gi
 fn choose(given: &mut Given, word: &OsStr, words: &mut impl Iterator<Item = OsString>) -> Result<(), Failure> {
     let (name, after) = split(word);
     let Some(choice) = given.command.options.iter().find(|choice| choice.names.contains(&name)) else {
-        let words = format!("`{}` has no option `{}`", given.command.name, shown(word));
+        let known = given.command.options.iter().flat_map(|choice| choice.names).copied();
+        let hint = near::hint(name, known.filter(|known| known.starts_with("--")));
+        let words = format!("`{}` has no option `{}`{hint}", given.command.name, shown(word));
         return Err(given.usage(words));
     };
     if given.has(choice.names[0]) {

@@ -133,7 +133,7 @@ fn blank_makes_a_disk_and_replaces_none() {
 fn help_and_version() {
     let commands = [
         "check", "list", "tree", "map", "read", "save", "erase", "rename", "hide", "show", "protect", "release", "gather",
-        "sector", "blank", "report",
+        "sector", "blank", "report", "salvage", "extract", "add", "dump", "start",
     ];
     let all = run(["help"]);
     for command in commands {
@@ -144,7 +144,10 @@ fn help_and_version() {
         assert!(one.done().starts_with(&format!("varnucht {command} {takes}")));
         assert_eq!(run([command, "--help"]).done(), one.done());
         assert!(one.text().contains("\n  3  something could not be read or written\n"));
-        let only_reads = ["check", "list", "tree", "map", "read", "sector", "report"].contains(&command);
+        let only_reads = [
+            "check", "list", "tree", "map", "read", "sector", "report", "salvage", "extract", "dump", "start",
+        ]
+        .contains(&command);
         assert_eq!(one.text().contains("\nIMAGE may be a pipe, "), only_reads, "{command}");
         assert!(
             one.text()

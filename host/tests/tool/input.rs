@@ -113,7 +113,7 @@ fn command_lines_that_are_not_understood() {
         &["chek", "I"],
         &["CHECK", "I"],
         &["check"],
-        &["list", "I", "more"],
+        &["map", "I", "more"],
         &["check", "--release"],
         &["check", "--release=1", "I"],
         &["check", "-", "-"],

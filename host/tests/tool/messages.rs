@@ -37,17 +37,28 @@ fn refusal_1_says_how_long_the_file_is() {
 }
 
 /// How files begin that are often met where an image is looked for, and a word of what is said of them.
-const OTHERS: [(&[u8], &str); 6] = [
+const OTHERS: [(&[u8], &str); 8] = [
     (
         b"\x1f\x8b\x08\x08",
-        "It looks like a file packed with gzip: unpack it first, with `gunzip`.\n",
+        "It looks like a file packed with gzip: unpack it first, with `gzip -dc x.mgt.gz > x.mgt`.\n",
     ),
     (
         b"PK\x03\x04\x14\x00",
         "It looks like a file packed with zip: unpack it first, with `unzip`.\n",
     ),
-    (b"EXTENDED CPC DSK File\r\nDisk-Info\r\n", "an EDSK image"),
-    (b"MV - CPCEMU Disk-File\r\nDisk-Info\r\n", "a DSK image"),
+    (
+        b"EXTENDED CPC DSK File\r\nDisk-Info\r\n",
+        "first, with `dsktrans -itype edsk -otype raw -format mgt800 x.dsk x.mgt` (of libdsk).\n",
+    ),
+    (
+        b"MV - CPCEMU Disk-File\r\nDisk-Info\r\n",
+        "first, with `dsktrans -itype dsk -otype raw -format mgt800 x.dsk x.mgt` (of libdsk).\n",
+    ),
+    (
+        b"TD\0\x15\x15",
+        "`dsktrans -itype tele -otype raw -format mgt800 x.td0 x.mgt`",
+    ),
+    (b"td\0\x15\x15", "a TD0 image of Teledisk"),
     (b"MV - CPC format Disk Image (DU54)\r\n", "a DSK image"),
     (b"Aley's disk backup\x02\x50\x0a\x08", "a SAD image"),
 ];

@@ -161,7 +161,7 @@ fn a_file_that_may_not_be_written() {
 }
 
 /// The tool with a limit on how far into a file it may write: writing beyond fails.
-fn limited(words: &[&str]) -> Run {
+pub fn limited(words: &[&str]) -> Run {
     let script = "trap '' XFSZ; ulimit -f 100; exec \"$@\"";
     let command = ["-c", script, "sh", TOOL].into_iter().chain(words.iter().copied());
     Run::of(
