@@ -25,6 +25,8 @@ mod map;
 mod messages;
 #[path = "tool/names.rs"]
 mod names;
+#[path = "tool/recording.rs"]
+mod recording;
 #[path = "tool/report.rs"]
 mod report;
 #[path = "tool/saving.rs"]

@@ -41,6 +41,8 @@ use Rattle.changes.proofs.Laws.{change-planned, settled-no, settled-short, sett
 use Rattle.taking.specs.declared.Start.{Start}
 use Rattle.taking.specs.Taken.{askedReply, soughtIn, slotFor, shutMap, unset, lowest}
 use Rattle.taking.proofs.Shut.{shut-is}
+use Rattle.filing.specs.Filed.{dirsOf}
+use Rattle.filing.proofs.Laws.{dirs-are}
 use Rattle.saves.specs.Write.{wishFor, Savable, Open}
 
 -- ---- the rows of a save, by the slot that it takes
@@ -155,7 +157,16 @@ module _ (d : List ℕ) (u : UsedMap) (i : ℕ) (s : Start) (name exec info body
   save-large h = save-few (omega (arith, e, free-le u))
 
   -- c: how many sectors of the directory
-  module _ (n : ℕ) (m : n ≡ sectorsFor (length body)) (h : n ≤ f) (old : Bool) (eo : old ≡ oldName d i) (c : ℕ) (ec : c ≡ length (dirSectors old i)) where
+  module _ (n : ℕ) (m : n ≡ sectorsFor (length body)) (h : n ≤ f) (old : Bool) (eo : old ≡ oldName d i) (c : ℕ) (e₂ : c ≡ length (dirsOf old i)) where
+    slot-few : i < slots
+    slot-few = place-few d s name exec info body i (o .place)
+
+    next-few : old ≡ true → suc i < slots
+    next-few q = omega (arith, old-is d i (sym eo ∙ q) .1, slots-few d)
+
+    ec : c ≡ length (dirSectors old i)
+    ec = e₂ ∙ ap length (dirs-are old i slot-few next-few)
+
     abbrev steps : List (Step Look)
     steps = saveSteps old (look d) i v (lowest (shutMap u) n)
 
@@ -193,8 +204,8 @@ module _ (d : List ℕ) (u : UsedMap) (i : ℕ) (s : Start) (name exec info body
           record {
             sectors = m;
             file = record {
-              slot = place-few d s name exec info body i (o .place);
-              next = λ q. omega (arith, old-is d i (sym eo ∙ q) .1, slots-few d);
+              slot = slot-few;
+              next = next-few;
               plain = record { kind = omega (arith, k .1); page = omega arith; offset = omega arith; pages = omega (arith, m) };
               bits = record {
                 few = omega (arith, long);

@@ -1,7 +1,7 @@
 //! The table of commands.
 use super::failure::Outcome;
 use super::words::Given;
-use super::{blank, change, check, dump, erase, gather, list, map, read, report, save, tree};
+use super::{blank, change, check, dump, erase, gather, list, map, read, record, report, save, tree};
 
 /// A command of the tool.
 pub struct Command {
@@ -162,6 +162,15 @@ const START: &str = "The usual start, page 1 and offset 32768, is address 32768.
 const SLOT: &str = "It takes the lowest free slot. Where that is the directory's end and an old
 name stands in the next slot, that name is cleared with it.";
 
+/// What is said of a recording.
+const RECORD: &str = "Reads standard input to its end and saves it as it comes: each sector is
+written and flushed as soon as it is full. When the input ends the file is
+there, and the disk is the same as after `save`. Until then all of it lies in
+free sectors: cut short anywhere, by a signal too, IMAGE holds the old disk and
+nothing of the recording. So it does where the disk gets full (19).";
+const RECORD_LOCK: &str = "IMAGE is locked from the first byte to the last; where it is removed, replaced
+or cut short all the same, the recording fails (status 3).";
+
 /// What is said of scattered files, and of gathering them all.
 const GATHER: &str = "Moves the file to the lowest run of free sectors that is as long as the file,
 in the order of the disk's own map: by tracks, the first side before the
@@ -272,6 +281,14 @@ scattered: `gather` puts a file's sectors in a row.",
         brief: "save FILE (`-`: standard input) under a new name",
         more: &[START, NUMBERS, SLOT, SAFE, NAMES],
         run: save::run,
+    },
+    Command {
+        name: "record",
+        places: &["IMAGE", "NAME"],
+        options: &[&KIND, &PAGE, &OFFSET, &EXEC, &INFO, &NO_WAIT],
+        brief: "save standard input as it comes under a new name",
+        more: &[RECORD, RECORD_LOCK, START, NUMBERS, SLOT, NAMES],
+        run: record::run,
     },
     Command {
         name: "erase",

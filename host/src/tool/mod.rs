@@ -20,6 +20,7 @@ mod numbers;
 mod output;
 mod progress;
 mod read;
+mod record;
 mod report;
 mod save;
 mod shelf;
