@@ -7,7 +7,7 @@ use mathlib.Core.Path.{_≡_}
 use lib.Dec.{ltb}
 use lib.ListN.{length, getD}
 use Rattle.buffers.specs.Bytes.{put, tab}
-use Rattle.refusals.specs.Order.{refuse}
+use Rattle.refusals.specs.Order.{refuse, row}
 use Rattle.refusals.specs.Answers.{out, done}
 use Rattle.chains.specs.File.{sectorAt, fileOf}
 use Rattle.disk.specs.Look.{look, slotsOf, extra}
@@ -16,6 +16,7 @@ use Rattle.steps.specs.Sectors.{cut}
 use Rattle.plans.specs.Saving.{lowestSlot, newSlot}
 use Rattle.plans.specs.Change.{save}
 use Rattle.plans.specs.Plan.{upd, saveReply, stopped, made, run}
+use Rattle.plans.specs.Accepted.{many, freeSectors}
 use Rattle.plans.specs.Safe.{Safe}
 use Rattle.recordings.specs.Recording.{Recording, more, chainOf, pieceReply, closing}
 
@@ -43,11 +44,13 @@ pub record Closes (r : Recording) (old new ss : List ℕ) : Type 0 where
       → reading new (r .wish .name) buf ≡ out (done (length (r .wish .body)) 0) (put buf 0 (tab (length (r .wish .body)) (byteOn new r)))
 
 -- "If nothing else touches the disk and nothing is cut, the closed disk equals one save of the joined pieces.": the close and a
--- save of the pieces make one disk, each where its list has room; and a piece is refused as a save of all pieces with it is
+-- save of the pieces make one disk, each where its list has room
 pub record SameAsSave (d : List ℕ) (r : Recording) (now : List ℕ) : Type 0 where
   pub new : List ℕ
   pub ofSave : List ℕ
   pub ofClose : List ℕ
   pub saves : (room : ℕ) → run (save (r .wish)) d room ≡ cond (ltb room (length ofSave)) (stopped (refuse 20 0)) (made new ofSave)
   pub closes : (room : ℕ) → closing r now room ≡ cond (ltb room (length ofClose)) (stopped (refuse 20 0)) (made new ofClose)
+  -- a piece is refused as a save of all pieces with it is: "19 where it doesn't fit", and by nothing else
   pub pieces : (x : List ℕ) → pieceReply now r x ≡ saveReply (extra (look d)) (slotsOf (look d)) (more r x .wish)
+  pub fits : (x : List ℕ) → pieceReply now r x ≡ row 19 0 (ltb (freeSectors d) (many (more r x .wish)))
