@@ -1,8 +1,8 @@
 -- The plan of a save on an accepted disk, by the tests that led there, and what the writing is then entered with.
-use Prim.Native.Nat.{ℕ, zero, suc, _+_, _≤_, _<_}
+use Prim.Native.Nat.{ℕ, suc, _+_, _≤_, _<_}
 use mathlib.Core.Path.{_≡_, refl, sym, ap, ap₂, _∙_, subst}
-use mathlib.Core.Bool.{Bool, true, false, cond, not, _&&_, and-eq-true-iff}
-use mathlib.Core.List.{List, _∷_}
+use mathlib.Core.Bool.{Bool, true, false, not, _&&_, and-eq-true-iff}
+use mathlib.Core.List.{List}
 use mathlib.Core.Option.{Option, none, some}
 use native.Mathlib.Omega.{arith}
 use borrow.Author.Tests.{lt-ltb, le-ltb, leb-true}
@@ -39,7 +39,7 @@ use Rattle.plans.proofs.Sure.{save-tested}
 use Rattle.changes.specs.Settled.{Made}
 use Rattle.changes.proofs.Laws.{change-planned, settled-no, settled-short, settled-done}
 use Rattle.taking.specs.declared.Start.{Start}
-use Rattle.taking.specs.Taken.{askedReply, soughtIn, slotFor, shutMap, unset, lowest}
+use Rattle.taking.specs.Taken.{askedReply, soughtIn, slotFor, shutMap, lowest}
 use Rattle.taking.proofs.Shut.{left-is}
 use Rattle.filing.specs.Filed.{dirsOf}
 use Rattle.filing.proofs.Laws.{dirs-are}
