@@ -6,18 +6,16 @@ use mathlib.Core.List.{List, [], _∷_}
 use mathlib.Core.Logic.{⊎-elim}
 use native.Mathlib.Nat.{not-suc-le-zero, le-of-suc-le-suc}
 use native.Mathlib.Omega.{arith}
-use lib.ListN.{length, getD, take, length-take}
+use lib.ListN.{length, getD, length-take}
 use lib.Seq.{getD-take}
 use Rattle.buffers.specs.Bytes.{any}
 use Rattle.buffers.proofs.Lists.{below-or-not}
 use Rattle.buffers.proofs.Counts.{any-more, any-none, none-any, any-some}
 use Rattle.chains.specs.File.{sectorAt}
-use Rattle.plans.specs.Saving.{passing}
 use Rattle.plans.proofs.Free.{passing-run, run-at}
 use Rattle.taking.specs.Taken.{unset, lowest, nextClear}
 use Rattle.taking.proofs.Next.{clearBits, clear-first, clear-next}
 use Rattle.recordings.specs.Recording.{inner, leadsTo, lacksLink}
-use Rattle.links.specs.declared.Trail.{Trail}
 use Rattle.links.specs.declared.Trail.the-variants.{Lost, On}
 use Rattle.links.specs.Trail.{nextBit, alongMap}
 

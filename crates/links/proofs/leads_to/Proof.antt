@@ -1,5 +1,4 @@
 -- `links::leads_to` meets its contract.
-use mathlib.Core.Path.{refl}
 use native.Mathlib.Omega.{arith}
 use Rattle.payloads.proofs.Links.{end-le}
 use Rattle.links.proofs.Leads.{leads-not, leads-so}
