@@ -27,7 +27,17 @@ use Rattle.recordings.proofs.Kept.{front-at}
 use Rattle.record_add.specs.Along.{clearFrom, along, Along, waits, Completes}
 use Rattle.record_add.proofs.Clear.{from-place, place-clear}
 
--- ---- lists joined
+-- ---- how many sectors
+
+pub was-many : (k : Record) → many (recordingOf k .wish) ≡ sectorsFor (k .long)
+unfolding recordingOf
+was-many k = ap sectorsFor (length-tab (k .long) (keptByte k))
+
+pub now-many : (k : Record) (x : List ℕ) → many (more (recordingOf k) x .wish) ≡ sectorsFor (k .long + length x)
+unfolding recordingOf
+now-many k x = ap sectorsFor (length-append (tab (k .long) (keptByte k)) x ∙ ap (λ (l : ℕ). l + length x) (length-tab (k .long) (keptByte k)))
+
+-- ---- the bytes that wait
 
 -- behind the first list
 past-join : (a x : List ℕ) (n : ℕ) → length a ≤ n → getD (a ++ x) n 0 ≡ getD x (n - length a) 0
@@ -98,20 +108,12 @@ module _ (k : Record) (x m : List ℕ) (n n′ b : ℕ) (en : n ≡ sectorsFor (
   pub rest-long : length (clearFrom m b) ≡ length (clearBits m) - (1 + inner n)
   rest-long = sym (ap length rest-is) ∙ length-drop (1 + inner n) (clearBits m)
 
-  now-many : many (more (recordingOf k) x .wish) ≡ n′
-  unfolding recordingOf
-  now-many = ap sectorsFor (length-append (tab (k .long) (keptByte k)) x ∙ ap (λ (l : ℕ). l + length x) (length-tab (k .long) (keptByte k))) ∙ sym en′
-
-  was-many : many (recordingOf k .wish) ≡ n
-  unfolding recordingOf
-  was-many = ap sectorsFor (length-tab (k .long) (keptByte k)) ∙ sym en
-
   -- the bytes from there on are those of st from place f on
   pub steps-are : (st : List ℕ) (f : ℕ) → ((j : ℕ) → getD (stream (more (recordingOf k) x .wish)) (510 * (1 + inner n) + j) 0 ≡ getD st (f + j) 0)
       → pieceSteps (recordingOf k) x ≡ along st f (inner n′ - inner n) m b
   unfolding lowest
   steps-are st f same =
-      ap₂ (λ (a c : ℕ). take (inner c - inner a) (dataSteps (stream (more (recordingOf k) x .wish)) (510 * (1 + inner a)) (drop (1 + inner a) (chainOf (more (recordingOf k) x))))) was-many now-many
+      ap₂ (λ (a c : ℕ). take (inner c - inner a) (dataSteps (stream (more (recordingOf k) x .wish)) (510 * (1 + inner a)) (drop (1 + inner a) (chainOf (more (recordingOf k) x))))) (was-many k ∙ sym en) (now-many k x ∙ sym en′)
       ∙ ap (λ (bs : List ℕ). take (inner n′ - inner n) (dataSteps (stream (more (recordingOf k) x .wish)) (510 * (1 + inner n)) (drop (1 + inner n) bs))) chain
       ∙ by (inner n′ - inner n) refl
     where

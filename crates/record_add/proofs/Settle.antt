@@ -1,21 +1,17 @@
 -- What adding a piece comes to, by the tests that led there.
 use Prim.Native.Nat.{ℕ, _+_, _-_, _≤_, _<_, min}
-use mathlib.Core.Path.{_≡_, refl, sym, ap, ap₂, _∙_, subst}
+use mathlib.Core.Path.{_≡_, sym, ap, ap₂, _∙_, subst}
 use mathlib.Core.Bool.{true, false}
 use mathlib.Core.List.{List}
 use mathlib.Core.Option.{none, some}
 use native.Mathlib.Nat.{add-zero}
 use native.Mathlib.Omega.{arith}
 use borrow.Author.Tests.{lt-ltb, le-ltb}
-use lib.Dec.{ltb}
-use lib.ListN.{length, getD, length-append, length-take}
-use Rattle.buffers.specs.Bytes.{tab}
-use Rattle.buffers.proofs.Lists.{length-tab}
-use Rattle.refusals.specs.Order.{Refusal, refuse, row, _else_}
+use lib.ListN.{length, getD, length-take}
+use Rattle.refusals.specs.Order.{Refusal, refuse}
 use Rattle.refusals.specs.Answers.{Outcome, done, refused}
 use Rattle.slots.specs.Slot.{sectorsFor}
 use Rattle.slots.proofs.Tracks.{data-few}
-use Rattle.directory.specs.Directory.{Directory}
 use Rattle.surveys.specs.Survey.{free, freeOf}
 use Rattle.surveys.specs.declared.UsedMap.{UsedMap}
 use Rattle.disk.specs.Look.{look, slotsOf, extra}
@@ -23,7 +19,7 @@ use Rattle.disk.specs.Check.{checkDisk}
 use Rattle.disk.proofs.Look.{look-slots, look-extra}
 use Rattle.files.specs.Steps.{Accepted}
 use Rattle.steps.specs.Steps.{numbers}
-use Rattle.plans.specs.Plan.{Plan, no, go, orNo, settle, made, stopped, changed}
+use Rattle.plans.specs.Plan.{Plan, no, go, orNo, settle}
 use Rattle.plans.specs.Accepted.{many}
 use Rattle.changes.specs.Settled.{settled, Made}
 use Rattle.changes.proofs.Laws.{settled-no, settled-short, settled-done}
@@ -31,13 +27,14 @@ use Rattle.taking.specs.Taken.{shutMap, lowest}
 use Rattle.taking.proofs.Next.{clearBits}
 use Rattle.recordings.specs.declared.Record.{Record}
 use Rattle.recordings.specs.Recording.{Recording, more, chainOf, inner, moved, pieceSteps, pieceReply, piecePlan, adding}
-use Rattle.recordings.specs.Record.{keptByte, recordingOf, grown, recordBy}
+use Rattle.recordings.specs.Record.{recordingOf, grown, recordBy}
 use Rattle.recordings.specs.Calls.{added, addedRecord}
 use Rattle.recordings.proofs.Refused.{chain-fits, piece-long}
 use Rattle.links.specs.declared.Trail.the-variants.{Lost, On}
 use Rattle.links.specs.Trail.{trailIn}
-use Rattle.links.proofs.Followed.{LeadsOn, chain-is, lost-moved, on-still}
+use Rattle.links.proofs.Followed.{chain-is, lost-moved, on-still}
 use Rattle.record_add.specs.Along.{capped, Completes, Onward, Adds}
+use Rattle.record_add.proofs.Blocks.{was-many, now-many}
 use Rattle.record_add.proofs.Longer.{capped-few, capped-is, capped-le, capped-min, sectors-rise}
 
 module _ (k : Record) (x d buf : List ℕ) where
@@ -90,14 +87,6 @@ module _ (k : Record) (x d buf : List ℕ) where
             (settled-done (pieceSteps r x) d buf (omega (arith, w .many)) d′ buf′ c w ∙ p .0, ek ∙ sym (rw (le-ltb (length buf) (length (numbers (pieceSteps r x))) (omega (arith, w .many)))) ∙ p .1)
 
 -- ---- as the code has it
-
-was-many : (k : Record) → many (recordingOf k .wish) ≡ sectorsFor (k .long)
-unfolding recordingOf
-was-many k = ap sectorsFor (length-tab (k .long) (keptByte k))
-
-now-many : (k : Record) (x : List ℕ) → many (more (recordingOf k) x .wish) ≡ sectorsFor (k .long + length x)
-unfolding recordingOf
-now-many k x = ap sectorsFor (length-append (tab (k .long) (keptByte k)) x ∙ ap (λ (l : ℕ). l + length x) (length-tab (k .long) (keptByte k)))
 
 free-is : (d : List ℕ) (u : UsedMap) → Accepted d u → free (extra (look d)) (slotsOf (look d)) ≡ freeOf u
 unfolding free

@@ -186,7 +186,10 @@ fn denied(reason: Reason, kept: Record) -> Added
     ensures { λ r. ⌜ (outcomeOf (r .answer) ≡ refused (refuse (numberOf reason) 0)) × (r .«record» ≡ kept) ⌝ }
 {
     let answer = refusals::no(reason, 0);
-    Added { answer, record: kept }
+    Added {
+        answer,
+        record: kept,
+    }
 }
 
 // Adds a piece on an accepted disk that has not moved, where the sectors and the list suffice.
@@ -212,7 +215,10 @@ fn add_at(
     let map = taking::shut_bits(used);
     write_piece(image, &map, bit, count, kept, piece, list);
     let record = grown(kept, piece);
-    Added { answer: Answer::Done(count, 0), record }
+    Added {
+        answer: Answer::Done(count, 0),
+        record,
+    }
 }
 
 // Adds a piece to a recording: the sectors after the first that now have a byte beyond them are written, the front of `list`
