@@ -45,13 +45,17 @@ drop-data st zero f bs = ap (λ (g : ℕ). dataSteps st g bs) (omega arith)
 drop-data st (suc s) f [] = refl
 drop-data st (suc s) f (b ∷ bs) = drop-data st s (f + 510) bs ∙ ap (λ (g : ℕ). dataSteps st g (drop s bs)) (omega arith)
 
-pub block-alike : (st sw : List ℕ) (f t s : ℕ) → ((k : ℕ) → f ≤ k → k < f + 510 → getD st k 0 ≡ getD sw k 0) → block st f t s ≡ block sw f t s
+-- a sector hangs on 510 bytes of its stream alone
+pub block-shift : (st sw : List ℕ) (f g t s : ℕ) → ((k : ℕ) → k < 510 → getD st (f + k) 0 ≡ getD sw (g + k) 0) → block st f t s ≡ block sw g t s
 unfolding block
-block-alike st sw f t s h = tab-cong 512 (λ k. cond (ltb k 510) (getD st (f + k) 0) (cond (eqb k 510) t s)) (λ k. cond (ltb k 510) (getD sw (f + k) 0) (cond (eqb k 510) t s)) (λ k m. by k (ltb k 510) refl)
+block-shift st sw f g t s h = tab-cong 512 (λ k. cond (ltb k 510) (getD st (f + k) 0) (cond (eqb k 510) t s)) (λ k. cond (ltb k 510) (getD sw (g + k) 0) (cond (eqb k 510) t s)) (λ k m. by k (ltb k 510) refl)
   where
-    by : (k : ℕ) (u : Bool) → ltb k 510 ≡ u → cond u (getD st (f + k) 0) (cond (eqb k 510) t s) ≡ cond u (getD sw (f + k) 0) (cond (eqb k 510) t s)
-    by k true q = h (f + k) (omega arith) (omega (arith, ltb-true k 510 q))
+    by : (k : ℕ) (u : Bool) → ltb k 510 ≡ u → cond u (getD st (f + k) 0) (cond (eqb k 510) t s) ≡ cond u (getD sw (g + k) 0) (cond (eqb k 510) t s)
+    by k true q = h k (ltb-true k 510 q)
     by k false q = refl
+
+pub block-alike : (st sw : List ℕ) (f t s : ℕ) → ((k : ℕ) → f ≤ k → k < f + 510 → getD st k 0 ≡ getD sw k 0) → block st f t s ≡ block sw f t s
+block-alike st sw f t s h = block-shift st sw f f t s (λ k m. h (f + k) (omega arith) (omega arith))
 
 -- one data sector
 abbrev quiet : ℕ → List ℕ → Step Look
