@@ -72,15 +72,20 @@ chain-is d u k s =
     chain-taken d (recordingOf k) (t .used) (t .tracks) ∙ ap₂ (λ (n : ℕ) (v : Directory). taken n v (wishOf k)) (look-extra d) (look-slots d)
     ∙ sym (taken-is d u (s .disk) (wishOf k))
 
--- what bars the slot
-pub closed-barred : (k : Record) (d buf : List ℕ) (u : UsedMap) → Stays d u k → (s : Start) → s ≡ startOf (wishOf k) → (r : Refusal) → barred r ≡ slotFor d s (wishOf k .name)
-    → changed (refused r) d buf ≡ closed k d buf
-closed-barred k d buf u w s es r e =
-    let v : Wish = wishOf k in
-    settled-no d buf r (refused r) refl
-    ∙ closed-planned k d buf (w .disk .accepted) (no r)
-    (plan-is d (recordingOf k) (w .still) (some r)
-    (reply-barred d (startOf v) (v .name) (v .exec) (v .info) (v .body) r (e ∙ ap (λ (s : Start). slotFor d s (v .name)) es)))
+-- what bars the slot, and the slot that it takes
+module _ (k : Record) (d : List ℕ) (u : UsedMap) (w : Stays d u k) (s : Start) (es : s ≡ startOf (wishOf k)) where
+  pub closed-barred : (buf : List ℕ) (r : Refusal) → barred r ≡ slotFor d s (k .name) → changed (refused r) d buf ≡ closed k d buf
+  unfolding recordingOf
+  closed-barred buf r e =
+      let v : Wish = wishOf k in
+      settled-no d buf r (refused r) refl
+      ∙ closed-planned k d buf (w .disk .accepted) (no r)
+      (plan-is d (recordingOf k) (w .still) (some r)
+      (reply-barred d (startOf v) (v .name) (v .exec) (v .info) (v .body) r (e ∙ ap (λ (s : Start). slotFor d s (k .name)) es)))
+
+  pub open-at : (i : ℕ) → at i ≡ slotFor d s (k .name) → Open d u i k
+  unfolding recordingOf
+  open-at i e = record { stays = w; place = e ∙ ap (λ (s : Start). slotFor d s (k .name)) es }
 
 pub open-size : (d : List ℕ) (u : UsedMap) (i : ℕ) (k : Record) → Open d u i k → 256 ≤ length d
 open-size d u i k o = omega (arith, accepted-size d (o .stays .disk .accepted))

@@ -1,6 +1,6 @@
 -- The pieces that the code writes make the steps of a close.
 use Prim.Native.Nat.{ℕ, suc, _+_, _≤_, _<_}
-use mathlib.Core.Path.{_≡_, sym, ap, ap₂, _∙_}
+use mathlib.Core.Path.{_≡_, sym, ap, ap₂, _∙_, subst}
 use mathlib.Core.Bool.{Bool, true}
 use mathlib.Core.List.{List, _++_}
 use native.Mathlib.Nat.{zero-add}
@@ -26,6 +26,7 @@ use Rattle.payloads.specs.Sector.{startOf, linkOf}
 use Rattle.payloads.proofs.Links.{to-some}
 use Rattle.filing.specs.Filed.{slotOf, dirsOf, filed}
 use Rattle.filing.proofs.Laws.{dirs-are}
+use Rattle.saves.specs.Write.{Bits}
 use Rattle.saves.proofs.Whole.{steps-filed, bits-front}
 use Rattle.recordings.specs.declared.Record.{Record}
 use Rattle.recordings.specs.Record.{recordingOf}
@@ -62,15 +63,7 @@ pub close-long : (old : Bool) (d : List ℕ) (i : ℕ) (w : Wish) (bs : List ℕ
 close-long old d i w bs h =
     ap length (close-numbers old d i w bs h) ∙ length-append (endNumbers bs) (dirSectors old i) ∙ ap (λ (n : ℕ). n + length (dirSectors old i)) (ends-long bs)
 
--- the bits at the front of the code's array
-pub front-closable : (m : List ℕ) (n i : ℕ) (old : Bool) (k : Record) (list : List ℕ) → Closing m n i old k list → (a l : List ℕ) → length a ≡ 1560 → l ≡ put a 0 (lowest m n)
-    → (take n l ≡ lowest m n) × (length (lowest m n) ≡ n) × (n ≤ 1560)
-front-closable m n i old k list c a l e p =
-    let long : length (lowest m n) ≡ n = c .file .enough ∙ sym (c .sectors) in
-    let few : n ≤ 1560 = omega (arith, c .file .file .bits .few) in
-    (bits-front a (lowest m n) l n long (omega arith) p, long, few)
-
-pub closed-is : (old : Bool) (d : List ℕ) (i : ℕ) (w : Wish) (bs buf d′ : List ℕ) (n : ℕ) → length bs ≡ n → 1 ≤ n → (z : ℕ) → z ≡ ends n → (l₁ l₂ : List ℕ)
+closed-is : (old : Bool) (d : List ℕ) (i : ℕ) (w : Wish) (bs buf d′ : List ℕ) (n : ℕ) → length bs ≡ n → 1 ≤ n → (z : ℕ) → z ≡ ends n → (l₁ l₂ : List ℕ)
     → d′ ≡ enact d (closeSteps old d i w bs) → l₁ ≡ put buf 0 (endNumbers bs) → l₂ ≡ put l₁ z (dirsOf old i) → i < slots → (old ≡ true → suc i < slots)
     → Made (closeSteps old d i w bs) d buf d′ l₂ (ends n + length (dirSectors old i))
 closed-is old d i w bs buf d′ n e h z ez l₁ l₂ q p r b c =
@@ -82,3 +75,33 @@ closed-is old d i w bs buf d′ n e h z ez l₁ l₂ q p r b c =
           ∙ ap₂ (λ (x : List ℕ) (k : ℕ). put x k (dirSectors old i)) p (ez ∙ ap ends (sym e) ∙ sym (ends-long bs) ∙ sym (zero-add (length (endNumbers bs))))
           ∙ put-append buf 0 (endNumbers bs) (dirSectors old i) ∙ ap (put buf 0) (sym (close-numbers old d i w bs few));
     }
+
+-- the chain at the front of the code's array
+module _ (m : List ℕ) (n i : ℕ) (old : Bool) (k : Record) (buf : List ℕ) (c : Closing m n i old k buf) (a l : List ℕ) (e : length a ≡ 1560) (p : l ≡ put a 0 (lowest m n)) where
+  many-bits : length (lowest m n) ≡ n
+  many-bits = c .file .enough ∙ sym (c .sectors)
+
+  pub few-bits : n ≤ 1560
+  few-bits = omega (arith, c .file .file .bits .few, many-bits)
+
+  front : take n l ≡ lowest m n
+  front = bits-front a (lowest m n) l n many-bits (omega (arith, few-bits)) p
+
+  pub front-long : n ≡ length (take n l)
+  front-long = sym (ap length front ∙ many-bits)
+
+  pub front-closable : Closable i old k (take n l)
+  front-closable = subst (Closable i old k) (sym front) (c .file)
+
+  front-some : 1 ≤ length (take n l)
+  front-some = chained-some k (take n l) (chained-of i old k (take n l) front-closable)
+
+  pub front-ends : Bits (take n l) × (1 ≤ length (take n l)) × (ends (length (take n l)) ≤ length buf)
+  front-ends = (front-closable .file .bits, front-some, subst (λ (x : ℕ). ends x ≤ length buf) front-long (omega (arith, c .room)))
+
+  -- the image written along it, and the list
+  pub closed-made : (d d′ l₁ l₂ : List ℕ) → d′ ≡ enact d (closeSteps old d i (wishOf k) (take n l)) → l₁ ≡ put buf 0 (endNumbers (take n l)) → (z : ℕ) → z ≡ ends n
+      → l₂ ≡ put l₁ z (dirsOf old i) → Made (closeSteps old d i (wishOf k) (lowest m n)) d buf d′ l₂ (ends n + length (dirSectors old i))
+  closed-made d d′ l₁ l₂ q r z ez t =
+      subst (λ (bs : List ℕ). Made (closeSteps old d i (wishOf k) bs) d buf d′ l₂ (ends n + length (dirSectors old i))) front
+      (closed-is old d i (wishOf k) (take n l) buf d′ n (sym front-long) (omega (arith, front-long, front-some)) z ez l₁ l₂ q r t (c .file .file .slot) (c .file .file .next))

@@ -152,3 +152,58 @@ fn no_bits() -> [u16; 1560]
     [0u16; 1560]
 }
 
+// Closes a recording of `n` sectors into slot `i` of a disk: the lowest clear bits of `map` are its chain, and the list gets the
+// numbers of the sectors written, those of the directory last.
+fn write_close(
+    image: &mut [u8],
+    map: &[u8],
+    n: usize,
+    i: usize,
+    old: bool,
+    kept: Record,
+    list: &mut [u16],
+)
+    requires { ⌜ Closing (now map) n i old kept (now list) × (256 ≤ length (now image)) ⌝ }
+    ensures { λ _. ⌜ Made (closeSteps old (now (image .entry)) i (wishOf kept) (lowest (now (map .entry)) n)) (now (image .entry)) (now (list .entry)) (now (image .exit)) (now (list .exit)) (ends n + length (dirSectors old i)) ⌝ }
+{
+    let mut bits = no_bits();
+    taking::pick_bits(map, n, &mut bits);
+    write_recording(image, i, old, kept, &bits[..n]);
+    put_ends(list, &bits[..n]);
+    filing::put_dirs(list, ends_of(n), i, old);
+}
+
+// Closes into the free slot `i` of an accepted disk whose used map is `used`, where the sectors and the list suffice.
+fn close_at(image: &mut [u8], used: UsedMap, i: usize, kept: Record, list: &mut [u16]) -> Answer
+    requires { ⌜ Open (now image) used i kept ⌝ }
+    ensures { λ r. ⌜ changed (outcomeOf r) (now (image .exit)) (now (list .exit)) ≡ closed kept (now (image .entry)) (now (list .entry)) ⌝ }
+{
+    // No disk holds more, and past the largest number the sectors could not be counted.
+    if 795591 < kept.long {
+        return refusals::no(Reason::TooFewSectors, 0);
+    }
+    let n = (kept.long + 518) / 510;
+    if surveys::free_of(used) < n {
+        return refusals::no(Reason::TooFewSectors, 0);
+    }
+    let old = filing::has_old_name(image, i);
+    let named = ends_of(n) + filing::dir_count(i, old);
+    if list.len() < named {
+        return refusals::no(Reason::BufferTooShort, 0);
+    }
+    let map = taking::shut_bits(used);
+    write_close(image, &map, n, i, old, kept, list);
+    Answer::Done(named, 0)
+}
+
+// Closes on an accepted disk whose used map is `used` and which the recording still fits.
+fn close_still(image: &mut [u8], used: UsedMap, kept: Record, list: &mut [u16]) -> Answer
+    requires { ⌜ Stays (now image) used kept ⌝ }
+    ensures { λ r. ⌜ changed (outcomeOf r) (now (image .exit)) (now (list .exit)) ≡ closed kept (now (image .entry)) (now (list .entry)) ⌝ }
+{
+    let name = kept.name;
+    match taking::slot_for(image, start_of(kept), &name) {
+        Lookup::Barred(r) => Answer::No(r),
+        Lookup::At(i) => close_at(image, used, i, kept, list),
+    }
+}
