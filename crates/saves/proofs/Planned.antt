@@ -1,8 +1,8 @@
 -- The plan of a save on an accepted disk, by the tests that led there, and what the writing is then entered with.
-use Prim.Native.Nat.{ℕ, zero, suc, _+_, _≤_, _<_}
+use Prim.Native.Nat.{ℕ, suc, _+_, _≤_, _<_}
 use mathlib.Core.Path.{_≡_, refl, sym, ap, ap₂, _∙_, subst}
-use mathlib.Core.Bool.{Bool, true, false, cond, not, _&&_, and-eq-true-iff}
-use mathlib.Core.List.{List, _∷_}
+use mathlib.Core.Bool.{Bool, true, false, not, _&&_, and-eq-true-iff}
+use mathlib.Core.List.{List}
 use mathlib.Core.Option.{Option, none, some}
 use native.Mathlib.Omega.{arith}
 use borrow.Author.Tests.{lt-ltb, le-ltb, leb-true}
@@ -39,8 +39,8 @@ use Rattle.plans.proofs.Sure.{save-tested}
 use Rattle.changes.specs.Settled.{Made}
 use Rattle.changes.proofs.Laws.{change-planned, settled-no, settled-short, settled-done}
 use Rattle.taking.specs.declared.Start.{Start}
-use Rattle.taking.specs.Taken.{askedReply, soughtIn, slotFor, shutMap, unset, lowest}
-use Rattle.taking.proofs.Shut.{shut-is}
+use Rattle.taking.specs.Taken.{askedReply, soughtIn, slotFor, shutMap, lowest}
+use Rattle.taking.proofs.Shut.{left-is}
 use Rattle.filing.specs.Filed.{dirsOf}
 use Rattle.filing.proofs.Laws.{dirs-are}
 use Rattle.saves.specs.Write.{wishFor, Writable, Savable, Open}
@@ -115,21 +115,13 @@ pub free-le : (u : UsedMap) → freeOf u ≤ 1560
 unfolding freeOf
 free-le u = omega (arith, data-few (u .tracks))
 
-passing-cong : (n i : ℕ) (p q : ℕ → Bool) → ((b : ℕ) → b < i + n → p b ≡ q b) → passing n i p ≡ passing n i q
-unfolding passing
-passing-cong zero i p q h = refl
-passing-cong (suc n) i p q h =
-    ap₂ (λ (t : Bool) (x : List ℕ). cond t (i ∷ x) x) (h i (omega arith)) (passing-cong n (suc i) p q (λ b l. h b (omega arith)))
-
 pub taken-is : (d : List ℕ) (u : UsedMap) → Accepted d u → (v : Wish) → lowest (shutMap u) (sectorsFor (length (v .body))) ≡ taken (tracksOf d) (directory d) v
 unfolding taken lowest usedMap
 taken-is d u a v =
     ap (take (sectorsFor (length (v .body))))
-    (passing-cong 1560 0 (unset (shutMap u)) (freeBit (tracksOf d) (directory d))
-    (λ b h.
-    shut-is u b (omega arith)
-    ∙ ap₂ (λ (n : ℕ) (m : List ℕ). dataBit n b && not (has m b)) (counted-tracks (tracksOf d) (union (directory d) slots) u (a .used))
-    (counted-bytes (tracksOf d) (union (directory d) slots) u (a .used))))
+    (left-is u
+    ∙ ap₂ (λ (n : ℕ) (m : List ℕ). passing 1560 0 (λ b. dataBit n b && not (has m b))) (counted-tracks (tracksOf d) (union (directory d) slots) u (a .used))
+    (counted-bytes (tracksOf d) (union (directory d) slots) u (a .used)))
 
 bits-long : (d : List ℕ) → checkDisk d ≡ none → (v : Wish) → sectorsFor (length (v .body)) ≤ free (tracksOf d) (directory d)
     → length (taken (tracksOf d) (directory d) v) ≡ sectorsFor (length (v .body))
