@@ -1,5 +1,5 @@
 -- The plan of a close on an accepted disk, by the tests that led there, and what the writing is then entered with.
-use Prim.Native.Nat.{ℕ, suc, _+_, _≤_, _<_}
+use Prim.Native.Nat.{ℕ, _+_, _/_, _≤_, _<_, min}
 use mathlib.Core.Path.{_≡_, refl, sym, ap, ap₂, _∙_, subst}
 use mathlib.Core.Bool.{Bool, true, false}
 use mathlib.Core.List.{List}
@@ -19,6 +19,7 @@ use Rattle.disk.specs.Check.{checkDisk}
 use Rattle.disk.proofs.Look.{look-slots, look-extra}
 use Rattle.disk.proofs.Examined.{accepted-size}
 use Rattle.files.specs.Calls.{at, barred}
+use Rattle.files.specs.Steps.{Accepted}
 use Rattle.steps.specs.Steps.{Step, numbers}
 use Rattle.plans.specs.Change.{Wish}
 use Rattle.plans.specs.Accepted.{many}
@@ -31,15 +32,24 @@ use Rattle.taking.specs.Taken.{slotFor, shutMap, lowest}
 use Rattle.payloads.specs.Sector.{startOf}
 use Rattle.filing.specs.Filed.{dirsOf}
 use Rattle.saves.specs.Write.{Open as Free}
-use Rattle.saves.proofs.Planned.{reply-barred, taken-at, taken-is, reply-at, large-few, ec, none-left, long, shut-writable, slot-few, next-few}
+use Rattle.saves.proofs.Planned.{reply-barred, taken-at, taken-is, reply-at, large-few, ec, none-left, long, shut-writable}
 use Rattle.recordings.specs.declared.Record.{Record}
 use Rattle.recordings.specs.Record.{recordingOf}
 use Rattle.recordings.specs.Recording.{Recording, chainOf, moved, closeSteps, closePlan, closing}
 use Rattle.recordings.specs.Calls.{closed}
 use Rattle.recordings.proofs.Piece.{still, chain-taken}
+use Rattle.links.specs.declared.Trail.{Trail}
+use Rattle.links.specs.declared.Trail.the-variants.{Lost, On}
+use Rattle.links.specs.Trail.{trailIn}
+use Rattle.links.proofs.Followed.{lost-moved, on-still}
 use Rattle.record_close.specs.Close.{wishOf, ends, Closing, Stays, Open}
 use Rattle.record_close.proofs.Ends.{body-long}
 use Rattle.record_close.proofs.Whole.{close-long}
+
+-- no disk has more sectors than 1,560
+sectors-capped : (l x : ℕ) → x ≡ min l 795592 → (n : ℕ) → n ≡ sectorsFor l → min ((x + 518) / 510) 1560 ≡ min n 1560
+unfolding sectorsFor
+sectors-capped l x e n q = omega arith
 
 -- ---- a close is settled by its plan, once the disk is accepted
 
@@ -56,6 +66,22 @@ module _ (k : Record) (d buf : List ℕ) where
   pub closed-moved : checkDisk d ≡ none → moved d (recordingOf k) ≡ true → (x : Outcome) → x ≡ refused (refuse 30 0) → changed x d buf ≡ closed k d buf
   unfolding closePlan
   closed-moved a m x e = settled-no d buf (refuse 30 0) x e ∙ closed-planned a (no (refuse 30 0)) (rw m)
+
+-- by the trail of its sectors, whose number is not reckoned past 1,561
+module _ (k : Record) (d : List ℕ) (u : UsedMap) (a : Accepted d u) (x : ℕ) (ex : x ≡ min (k .long) 795592) (t : Trail) (et : t ≡ trailIn d u (k .used) (k .tracks) ((x + 518) / 510)) where
+  counted : min ((x + 518) / 510) 1560 ≡ min (many (wishOf k)) 1560
+  counted = by (many (wishOf k)) (ap sectorsFor (body-long k))
+    where
+      by : (n : ℕ) → n ≡ sectorsFor (k .long) → min ((x + 518) / 510) 1560 ≡ min n 1560
+      by n e = sectors-capped (k .long) x ex n e
+
+  pub closed-lost : t ≡ Lost → (buf : List ℕ) (o : Outcome) → o ≡ refused (refuse 30 0) → changed o d buf ≡ closed k d buf
+  unfolding recordingOf
+  closed-lost e buf = closed-moved k d buf (a .accepted) (lost-moved d u a (recordingOf k) ((x + 518) / 510) counted (sym et ∙ e))
+
+  pub stays-on : (b : ℕ) → t ≡ On b → Stays d u k
+  unfolding recordingOf
+  stays-on b e = record { disk = a; still = on-still d u a (recordingOf k) ((x + 518) / 510) counted b (sym et ∙ e) .still }
 
 -- where the recording is not moved, by what a save refuses
 plan-is : (d : List ℕ) (r : Recording) → moved d r ≡ false → (q : Reply) → saveReply (tracksOf d) (directory d) (r .wish) ≡ q
