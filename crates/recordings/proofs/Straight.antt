@@ -45,11 +45,7 @@ drop-data st zero f bs = ap (λ (g : ℕ). dataSteps st g bs) (omega arith)
 drop-data st (suc s) f [] = refl
 drop-data st (suc s) f (b ∷ bs) = drop-data st s (f + 510) bs ∙ ap (λ (g : ℕ). dataSteps st g (drop s bs)) (omega arith)
 
-<<<<<<< HEAD
 -- blocks of two streams, from place f of the one and place g of the other on
-=======
--- a sector hangs on 510 bytes of its stream alone
->>>>>>> m109-close
 pub block-shift : (st sw : List ℕ) (f g t s : ℕ) → ((k : ℕ) → k < 510 → getD st (f + k) 0 ≡ getD sw (g + k) 0) → block st f t s ≡ block sw g t s
 unfolding block
 block-shift st sw f g t s h = tab-cong 512 (λ k. cond (ltb k 510) (getD st (f + k) 0) (cond (eqb k 510) t s)) (λ k. cond (ltb k 510) (getD sw (g + k) 0) (cond (eqb k 510) t s)) (λ k m. by k (ltb k 510) refl)
