@@ -49,8 +49,9 @@ module _ (b : List ℕ) (k : Record) {c d e x : List ℕ} where
   unfolding grownIn putAll
   grown-put ex ec ed ee = put-on 732 (put-on 231 (put-on 8 refl ex ec) refl ed) refl ee
 
-module _ (k : Record) {a b c d e f x : List ℕ} where
+module _ (k : Record) {a b c d e f g x : List ℕ} where
   pub bytes-put : x ≡ frontOf k → a ≡ put (zeros recordBytes) 0 x → b ≡ put a 12 (k .name) → c ≡ put b 22 (k .exec) → d ≡ put c 25 (k .info) → e ≡ put d 36 (k .used)
-      → f ≡ grownIn e k → f ≡ bytesOf k
+      → f ≡ put e 231 (k .first) → g ≡ put f 732 (k .last) → g ≡ bytesOf k
   unfolding bytesOf putAll
-  bytes-put ex ea eb ec ed ee ef = ef ∙ ap (λ (l : List ℕ). grownIn l k) (put-on 36 (put-on 25 (put-on 22 (put-on 12 (put-on 0 refl ex ea) refl eb) refl ec) refl ed) refl ee)
+  bytes-put ex ea eb ec ed ee ef eg =
+      put-on 732 (put-on 231 (put-on 36 (put-on 25 (put-on 22 (put-on 12 (put-on 0 refl ex ea) refl eb) refl ec) refl ed) refl ee) refl ef) refl eg

@@ -44,24 +44,22 @@ recordIn b = record {
 
 -- ---- the bytes of a record; of a number that is too large for its bytes the remainder, and no call of ours has one
 
-abbrev field : ℕ → List ℕ → Put
+abbrev pub field : ℕ → List ℕ → Put
 field a x = record { place = a; bytes = x }
 
--- kind, page, offset, n
+-- bytes 0 to 11: kind, page, offset, n, three that are not used, and how many bytes came
 abbrev pub frontOf : Record → List ℕ
-frontOf k = k .kind % 256 ∷ k .page % 256 ∷ k .offset % 256 ∷ k .offset / 256 % 256 ∷ k .tracks % 256 ∷ []
+frontOf k = k .kind % 256 ∷ k .page % 256 ∷ k .offset % 256 ∷ k .offset / 256 % 256 ∷ k .tracks % 256 ∷ 0 ∷ 0 ∷ 0 ∷ fourOf (k .long)
 
--- a piece: how many bytes came and the bytes that wait; all others stay
-unfoldable pub grownIn : List ℕ → Record → List ℕ
-grownIn b k = putAll b (field 8 (fourOf (k .long)) ∷ field 231 (k .first) ∷ field 732 (k .last) ∷ [])
-
--- opening: the rest too, and those not named are 0
+-- opening: all of them, and those not named are 0
 unfoldable pub bytesOf : Record → List ℕ
 bytesOf k =
-    grownIn
-    (putAll (zeros recordBytes)
-    (field 0 (frontOf k) ∷ field 12 (k .name) ∷ field 22 (k .exec) ∷ field 25 (k .info) ∷ field 36 (k .used) ∷ []))
-    k
+    putAll (zeros recordBytes)
+    (field 0 (frontOf k) ∷ field 12 (k .name) ∷ field 22 (k .exec) ∷ field 25 (k .info) ∷ field 36 (k .used) ∷ field 231 (k .first) ∷ field 732 (k .last) ∷ [])
+
+-- a piece: how many bytes came, and the bytes that wait; all others stay
+unfoldable pub grownIn : List ℕ → Record → List ℕ
+grownIn b k = putAll b (field 8 (fourOf (k .long)) ∷ field 231 (k .first) ∷ field 732 (k .last) ∷ [])
 
 -- ---- a record that its bytes can hold
 

@@ -69,20 +69,8 @@ pub fn record_in(bytes: &[u8]) -> Record
     }
 }
 
-// A number's four bytes.
-fn four_of(x: usize) -> [u8; 4]
-    ensures { λ r. ⌜ r ≡ fourOf x ⌝ }
-{
-    [
-        (x % 256) as u8,
-        (x / 256 % 256) as u8,
-        (x / 65536 % 256) as u8,
-        (x / 16777216 % 256) as u8,
-    ]
-}
-
-// Kind, page, offset and n.
-fn front_of(held: Record) -> [u8; 5]
+// The bytes before the name.
+fn front_of(held: Record) -> [u8; 12]
     ensures { λ r. ⌜ r ≡ frontOf held ⌝ }
 {
     [
@@ -91,19 +79,14 @@ fn front_of(held: Record) -> [u8; 5]
         (held.offset % 256) as u8,
         (held.offset / 256 % 256) as u8,
         (held.tracks % 256) as u8,
+        0,
+        0,
+        0,
+        (held.long % 256) as u8,
+        (held.long / 256 % 256) as u8,
+        (held.long / 65536 % 256) as u8,
+        (held.long / 16777216 % 256) as u8,
     ]
-}
-
-// Puts what a piece changes of a record: how many bytes came, and those that wait.
-pub fn put_grown(bytes: &mut [u8], held: Record)
-    ensures { λ _. ⌜ now (bytes .exit) ≡ grownIn (now (bytes .entry)) held ⌝ }
-{
-    let long = four_of(held.long);
-    buffers::copy_into(bytes, LONG, &long);
-    let first = held.first;
-    buffers::copy_into(bytes, FIRST, &first);
-    let last = held.last;
-    buffers::copy_into(bytes, LAST, &last);
 }
 
 // The bytes of a record.
@@ -121,7 +104,10 @@ fn bytes_of(held: Record) -> [u8; 2048]
     buffers::copy_into(&mut bytes, INFO, &info);
     let used = held.used;
     buffers::copy_into(&mut bytes, USED, &used);
-    put_grown(&mut bytes, held);
+    let first = held.first;
+    buffers::copy_into(&mut bytes, FIRST, &first);
+    let last = held.last;
+    buffers::copy_into(&mut bytes, LAST, &last);
     bytes
 }
 
@@ -131,4 +117,28 @@ pub fn put_opened(bytes: &mut [u8], held: Record)
 {
     let all = bytes_of(held);
     buffers::copy_into(bytes, 0, &all);
+}
+
+// A number's four bytes.
+fn four_of(x: usize) -> [u8; 4]
+    ensures { λ r. ⌜ r ≡ fourOf x ⌝ }
+{
+    [
+        (x % 256) as u8,
+        (x / 256 % 256) as u8,
+        (x / 65536 % 256) as u8,
+        (x / 16777216 % 256) as u8,
+    ]
+}
+
+// Puts what a piece changes of a record: how many bytes came, and those that wait.
+pub fn put_grown(bytes: &mut [u8], held: Record)
+    ensures { λ _. ⌜ now (bytes .exit) ≡ grownIn (now (bytes .entry)) held ⌝ }
+{
+    let long = four_of(held.long);
+    buffers::copy_into(bytes, LONG, &long);
+    let first = held.first;
+    buffers::copy_into(bytes, FIRST, &first);
+    let last = held.last;
+    buffers::copy_into(bytes, LAST, &last);
 }

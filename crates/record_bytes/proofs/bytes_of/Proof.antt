@@ -52,20 +52,34 @@ slice-aggregate-copy-into-10 c = let g = c .before .before .before .before .befo
 copy-into-requires-5 : tie.Need-copy-into-requires-5
 copy-into-requires-5 c κs = search needs
 
-slice-aggregate-put-grown : tie.Need-slice-aggregate-put-grown
-slice-aggregate-put-grown c = search needs
+slice-aggregate-copy-into-11 : tie.Need-slice-aggregate-copy-into-11
+slice-aggregate-copy-into-11 c = search needs
 
-put-grown-requires : tie.Need-put-grown-requires
-put-grown-requires c κs = search needs
+slice-aggregate-copy-into-12 : tie.Need-slice-aggregate-copy-into-12
+slice-aggregate-copy-into-12 c = let g = c .before .before .before .before .before .before .before .before .before .before .before .before .before .before .before .before .before .before .before .before .before .before .before .before .before .before .before .before .good .0 in search (needs, g)
+
+copy-into-requires-6 : tie.Need-copy-into-requires-6
+copy-into-requires-6 c κs = search needs
+
+slice-aggregate-copy-into-13 : tie.Need-slice-aggregate-copy-into-13
+slice-aggregate-copy-into-13 c = search needs
+
+slice-aggregate-copy-into-14 : tie.Need-slice-aggregate-copy-into-14
+slice-aggregate-copy-into-14 c = let g = c .before .before .before .before .before .before .before .before .before .before .before .before .before .before .before .before .before .before .before .before .before .before .before .before .before .before .before .before .before .before .before .before .before .good .0 in search (needs, g)
+
+copy-into-requires-7 : tie.Need-copy-into-requires-7
+copy-into-requires-7 c κs = search needs
 
 returns : tie.Need-returns
 returns c =
-    let z = c .before .before .before .before in
+    let z = c .before in
     let y = z .before .before .before .before .before in
     let x = y .before .before .before .before .before in
     let w = x .before .before .before .before .before in
     let v = w .before .before .before .before .before in
-    bytes-put _ (v .before .before .before .front-of .ensures) (v .copy-into .ensures) (w .copy-into2 .ensures) (x .copy-into3 .ensures) (y .copy-into4 .ensures) (z .copy-into5 .ensures) (c .before .put-grown .ensures)
+    let u = v .before .before .before .before .before in
+    let t = u .before .before .before .before .before in
+    bytes-put _ (t .before .before .before .front-of .ensures) (t .copy-into .ensures) (u .copy-into2 .ensures) (v .copy-into3 .ensures) (w .copy-into4 .ensures) (x .copy-into5 .ensures) (y .copy-into6 .ensures) (z .copy-into7 .ensures)
 
 pub bytes-of-spec : {M : Type 1} → statement M
 bytes-of-spec =
@@ -87,6 +101,10 @@ bytes-of-spec =
     slice-aggregate-copy-into-9
     slice-aggregate-copy-into-10
     copy-into-requires-5
-    slice-aggregate-put-grown
-    put-grown-requires
+    slice-aggregate-copy-into-11
+    slice-aggregate-copy-into-12
+    copy-into-requires-6
+    slice-aggregate-copy-into-13
+    slice-aggregate-copy-into-14
+    copy-into-requires-7
     returns)
