@@ -13,7 +13,7 @@ use Rattle.disk.specs.Check.{checkRelease}
 use Rattle.steps.specs.Sectors.{cut}
 use Rattle.plans.specs.Plan.{Result, stopped, made, Changed}
 use Rattle.handfuls.specs.Handful.{runMany}
-use Rattle.handfuls.specs.Parts.{Ask, single, handful, ran, returned, EachSafe}
+use Rattle.handfuls.specs.Parts.{Ask, single, handful, piece, close, ran, returned, EachSafe}
 use Rattle.handfuls.proofs.Demand3.{crash, ran-room}
 use Rattle.handfuls.proofs.Likewise.{ask-released}
 use Rattle.bytelists.specs.Lists.{inBytes, numbersIn, changingBy, changing}
@@ -38,6 +38,8 @@ put-back b ss h =
 asking-is : (a : Ask) (d b : List ℕ) → asking a d b ≡ changingBy (ran a d (length b / 2)) d b
 unfolding changing erasing
 asking-is (single c) d b = refl
+asking-is (piece r x) d b = refl
+asking-is (close r) d b = refl
 asking-is (handful ns abuf) d b = by (runMany ns d (length abuf) (length b / 2))
   where
     by : (x : Result) → returned (erasingBy x d ns abuf b) ≡ changingBy x d b

@@ -17,7 +17,10 @@ use Rattle.slots.specs.Slot.{mapOf}
 use Rattle.chains.specs.File.{File, sectorAt, sectorsOf}
 use Rattle.chains.specs.Whole.{LinksTo}
 use Rattle.chains.proofs.Laws.{sectors-own}
+use Rattle.directory.specs.Places.{slotBytes, dirSector}
+use Rattle.directory.specs.Directory.{tracksOf, slotsIn, nameless}
 use Rattle.directory.specs.Find.{find}
+use Rattle.directory.proofs.Label.{tracks-few}
 use Rattle.disk.specs.Look.{Look, look, slotsOf, extra}
 use Rattle.disk.specs.Sound.{GoodFile, Sound}
 use Rattle.steps.specs.Sectors.{listed, Once}
@@ -33,7 +36,7 @@ use Rattle.plans.proofs.Free.{FreeSlot, Run, run-at, run-rises}
 use Rattle.plans.proofs.NewFile.{listed-at, next-first, length-block, block-byte, block-track, block-sector, live-is, Ready, filled}
 use Rattle.plans.proofs.Ended.{reach-free, end-commits}
 use Rattle.plans.proofs.Good.{Along, own-bit, good-of, slot-names, slot-fits, new-named}
-use Rattle.plans.proofs.Blocks.{Block, blocks, bitsIn, Fits, Spare, blocks-look, blocks-commits, blocks-else, blocks-in, blocks-then-slot}
+use Rattle.plans.proofs.Blocks.{Block, blocks, bitsIn, Fits, Spare, blocks-look, blocks-commits, blocks-else, blocks-in, dir-unlisted, blocks-else-slot, blocks-next, blocks-then-slot}
 use Rattle.plans.proofs.Laid.{laid-data, laid-unused}
 use Rattle.plans.proofs.Saved.{there, slot-map, new-apart, whole-slot, kept, slot-fit}
 use Rattle.recordings.specs.Recording.{closeData, closeSteps}
@@ -230,6 +233,10 @@ module _ (d : List ℕ) (s : Sound (look d)) (i : ℕ) (at : FreeSlot (look d) i
   abbrev old : Bool
   old = oldName d i
 
+  -- what is written after the data sectors
+  abbrev end : List (Step Look) → List (Step Look)
+  end x = slotSteps old (look d) i slot (sectorsOf (enact d x) slot)
+
   pub close-goes : find (slotsOf (look d)) (w .name) ≡ none
       → Goes look Sound d (closeSteps (oldName d i) d i w bs) × Once (numbers (closeSteps (oldName d i) d i w bs))
   close-goes f =
@@ -243,8 +250,23 @@ module _ (d : List ℕ) (s : Sound (look d)) (i : ℕ) (at : FreeSlot (look d) i
       file : List (Step Look) → File
       file x = record { bytes = slot; sectors = sectorsOf (enact d x) slot }
 
-      end : List (Step Look) → List (Step Look)
-      end x = slotSteps old (look d) i slot (sectorsOf (enact d x) slot)
+  -- the other slots are as they were, but for the name behind the directory's end
+  pub close-slots : (j : ℕ) → j < slotsIn d → (j ≡ i → ⊥) → (oldName d i ≡ true → j ≡ suc i → ⊥)
+      → slotBytes (enact d (closeSteps (oldName d i) d i w bs)) j ≡ slotBytes d j
+  close-slots =
+      subst
+      (λ (x : List (Step Look)). (j : ℕ) → j < slotsIn d → (j ≡ i → ⊥) → (old ≡ true → j ≡ suc i → ⊥) → slotBytes (enact d (x ++ end x)) j ≡ slotBytes d j)
+      (sym (put-in-place .are))
+      (blocks-else-slot d (put-in-place .parts) (put-in-place .spare) i (there d s i at w bs r) old (reach-free d i at) 0 slot (slot-fit d s i at w bs r) _)
+
+  pub close-next : nameless d i ≡ true → suc i < slotsIn d → nameless (enact d (closeSteps (oldName d i) d i w bs)) (suc i) ≡ true
+  close-next =
+      subst (λ (x : List (Step Look)). nameless d i ≡ true → suc i < slotsIn d → nameless (enact d (x ++ end x)) (suc i) ≡ true) (sym (put-in-place .are))
+      (blocks-next d (put-in-place .parts) (put-in-place .spare) i (there d s i at w bs r) old (reach-free d i at) 0 slot (slot-fit d s i at w bs r) _)
+
+  -- its data sectors are none of the directory's
+  pub close-apart : (j : ℕ) → j < slotsIn d → listed (dirSector j) (numbers (closeData w bs)) ≡ false
+  close-apart j h = rw (put-in-place .are) (dir-unlisted (tracksOf d) (tracks-few d) (put-in-place .parts) (put-in-place .spare .data-bits) j h)
 
   -- what is seen then: the slot holds the recording, as its sectors read
   pub close-look : find (slotsOf (look d)) (w .name) ≡ none → look (enact d (closeSteps (oldName d i) d i w bs)) ≡ upd (look d) i (some (closedFile d i w bs))

@@ -23,13 +23,15 @@ use Rattle.headers.specs.Header.{fileLength, body}
 use Rattle.headers.proofs.Laws.{length-slot as slot-length}
 use Rattle.directory.specs.Find.{find}
 use Rattle.disk.specs.Look.{Look, look, slotsOf, extra}
-use Rattle.disk.specs.Check.{checkDisk}
+use Rattle.disk.specs.Check.{checkDisk, checkRelease}
+use Rattle.disk.specs.Release.{Lean}
+use Rattle.disk.proofs.Release.{release-exactly}
 use Rattle.disk.specs.Sound.{Sound}
 use Rattle.disk.proofs.Rows.{is-carried}
 use Rattle.files.specs.Calls.{reading}
 use Rattle.steps.specs.Sectors.{Once, cut}
 use Rattle.steps.specs.Steps.{Step, enact, numbers, commits, lastOf, Goes}
-use Rattle.steps.proofs.Steps.{length-numbers, commits-append, cut-sees}
+use Rattle.steps.proofs.Steps.{numbers-append, length-numbers, commits-append, cut-sees}
 use Rattle.plans.specs.Change.{Wish, usable}
 use Rattle.plans.specs.Saving.{freeBit, lowestSlot, slotTaken, newSlot}
 use Rattle.plans.specs.Plan.{upd, entryOf, oldName, endSteps, endStep, go, saveReply, made}
@@ -39,16 +41,19 @@ use Rattle.plans.proofs.Frame.{disk-sound, upd-same, holds}
 use Rattle.plans.proofs.Kept.{usable-is}
 use Rattle.plans.proofs.Free.{FreeSlot, free-slot, free-small}
 use Rattle.plans.proofs.NewFile.{Ready, filled, taken-ready, name-is, kind-is, length-is}
-use Rattle.plans.proofs.Ended.{end-commits}
+use Rattle.plans.proofs.Ended.{dir-numbers, end-commits}
 use Rattle.plans.proofs.Good.{Along, body-along, own-bit, slot-names}
 use Rattle.plans.proofs.Crash.{Sure, crash-of}
 use Rattle.plans.proofs.Sure.{Tested, save-tested, sure-of, or-none, row-none}
 use Rattle.plans.proofs.ReadBack.{read-here}
 use Rattle.plans.proofs.Exactly.{named-find}
-use Rattle.recordings.specs.Recording.{Recording, chainOf, moved, closeData, closeSteps, slotFor, closeReply, closePlan, closing}
+use Rattle.plans.proofs.Stays.{entered-stays, entered-entries}
+use Rattle.plans.proofs.Unread.{Enters, enters-unread, enters-ends}
+use Rattle.plans.proofs.Released.{entered-lean, released-of}
+use Rattle.recordings.specs.Recording.{Recording, chainOf, moved, closeData, closeSteps, slotFor, closeReply, closePlan, closing, adding}
 use Rattle.recordings.specs.Closed.{byteOn, Closes}
-use Rattle.recordings.proofs.Piece.{Still, still, chain-taken, go-same, made-of}
-use Rattle.recordings.proofs.Close.{filled-by, filled-quiet, closedFile, along, close-goes, close-look}
+use Rattle.recordings.proofs.Piece.{Still, still, chain-taken, go-same, made-of, piece-unseen}
+use Rattle.recordings.proofs.Close.{filled-by, filled-quiet, closedFile, along, close-goes, close-slots, close-next, close-apart, close-look}
 
 -- ---- what an accepted close has passed
 
@@ -194,18 +199,64 @@ module _ (d : List ℕ) (ok : checkDisk d ≡ none) (r : Recording) (sts : List 
       (named-find new (w .name) new-ok i (closedFile d i w bs) named-here) here (carried-read (kindOf slot) carried-here) buf (omega (arith, length-here))
       ∙ ap₂ (λ (n : ℕ) (x : List ℕ). out (done n 0) (put buf 0 x)) length-here body-here
 
+  -- ---- what else is seen
+
+  enters : Enters d new (numbers steps)
+  enters = record {
+    slot = i;
+    lowest = at;
+    file = closedFile d i w bs;
+    seen = seen-mid;
+    next = close-next d sound i at w bs (p .ready) (p .stays .links);
+    others = close-slots d sound i at w bs (p .ready) (p .stays .links);
+    first = numbers (closeData w bs);
+    sectors = numbers-append (closeData w bs) _ ∙ ap (λ (x : List ℕ). numbers (closeData w bs) ++ x) (dir-numbers old i (look d) 0 slot _);
+    apart = close-apart d sound i at w bs (p .ready) (p .stays .links);
+    whole = safe .whole;
+    label = safe .label;
+  }
+
+  -- no waste sector
+  released : checkRelease d ≡ none → (k : ℕ) → k ≤ length (numbers steps) → checkRelease (cut d new (numbers steps) k) ≡ none
+  released c =
+      released-of d c new (numbers steps) (λ f. false) safe unseen
+      (entered-lean d new i w bs (closedFile d i w bs) (release-exactly d .0 c .1) (p .ready .long) refl seen-mid)
+
+  closes : Closes r d new (numbers steps)
+  closes = record {
+    safe = safe;
+    unseen = unseen;
+    slot = i;
+    lowest = p .tested .lowest;
+    seen = seen;
+    others = entered-stays d new ok new-ok i at w (p .ready .name) bs (closedFile d i w bs) refl seen-mid;
+    entries = entered-entries d new ok new-ok i at w (p .ready .name) bs (closedFile d i w bs) refl seen-mid;
+    unread = enters-unread d new (numbers steps) enters;
+    ends = enters-ends d new (numbers steps) enters;
+    reads = reads;
+  }
+
 -- M-109, the close: on any accepted disk, whatever the recording and whatever was done since its opening
 pub close-closes : (r : Recording) (d : List ℕ) (room : ℕ) (new ss : List ℕ) → closing r d room ≡ made new ss → Closes r d new ss
 unfolding closing
 close-closes r d room new ss e =
     let m = made-of d (closePlan d r) room new ss e in
     let p = passed d r (m .steps) (disk-sound d (m .accepted)) (m .planned) in
-    subst₂ (Closes r d) (ap (enact d) (p .steps) ∙ m .disk) (ap numbers (p .steps) ∙ m .named)
-    (record {
-      safe = safe d (m .accepted) r (m .steps) p;
-      unseen = unseen d (m .accepted) r (m .steps) p;
-      slot = slotFor d;
-      lowest = p .tested .lowest;
-      seen = seen d (m .accepted) r (m .steps) p;
-      reads = reads d (m .accepted) r (m .steps) p;
-    })
+    subst₂ (Closes r d) (ap (enact d) (p .steps) ∙ m .disk) (ap numbers (p .steps) ∙ m .named) (closes d (m .accepted) r (m .steps) p)
+
+-- where the release check accepted the disk, it accepts every cut of a close
+pub close-released : (r : Recording) (d : List ℕ) (room : ℕ) (new ss : List ℕ) → checkRelease d ≡ none → closing r d room ≡ made new ss
+    → (k : ℕ) → k ≤ length ss → checkRelease (cut d new ss k) ≡ none
+unfolding closing
+close-released r d room new ss c e =
+    let m = made-of d (closePlan d r) room new ss e in
+    let p = passed d r (m .steps) (disk-sound d (m .accepted)) (m .planned) in
+    subst₂ (λ (x s : List ℕ). (k : ℕ) → k ≤ length s → checkRelease (cut d x s k) ≡ none) (ap (enact d) (p .steps) ∙ m .disk) (ap numbers (p .steps) ∙ m .named)
+    (released d (m .accepted) r (m .steps) p c)
+
+-- and of a piece, of which nothing is seen
+pub piece-released : (r : Recording) (x d : List ℕ) (room : ℕ) (new ss : List ℕ) → checkRelease d ≡ none → adding r x d room ≡ made new ss
+    → (k : ℕ) → k ≤ length ss → checkRelease (cut d new ss k) ≡ none
+piece-released r x d room new ss c e =
+    let u = piece-unseen r x d room new ss e in
+    released-of d c new ss (λ f. false) (u .safe) (λ k h. u .unseen k) (subst Lean (sym (u .after)) (release-exactly d .0 c .1))

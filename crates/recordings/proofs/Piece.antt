@@ -1,8 +1,9 @@
 -- An accepted piece is quiet: whichever number of its sectors is written, nothing is seen to change.
-use Prim.Native.Nat.{ℕ, zero, suc, _+_, _-_, _*_, _≤_, _<_}
+use Prim.Native.Nat.{ℕ, zero, suc, _+_, _-_, _*_, _%_, _≤_, _<_}
 use mathlib.Core.Path.{_≡_, refl, sym, ap, ap₂, _∙_, subst, subst₂}
 use mathlib.Core.Bool.{Bool, true, false, cond, not, _&&_, _||_, true≢false}
 use mathlib.Core.List.{List, [], _∷_, map}
+use mathlib.Core.Logic.{inr}
 use mathlib.Core.Option.{none, some}
 use native.Mathlib.Nat.{not-suc-le-zero}
 use native.Mathlib.Omega.{arith}
@@ -10,7 +11,7 @@ use borrow.Author.Tests.{eqb-true, eq-eqb, not-false, ltb-false}
 use lib.Dec.{eqb, ltb}
 use lib.ListN.{length, getD, take, drop}
 use lib.Seq.{take-nil}
-use Rattle.buffers.specs.Bytes.{any}
+use Rattle.buffers.specs.Bytes.{any, part}
 use Rattle.buffers.proofs.Counts.{any-none}
 use Rattle.buffers.proofs.Tests.{and-both}
 use Rattle.geometry.specs.Disk.{trackOf, sectorOf}
@@ -20,8 +21,12 @@ use Rattle.maps.specs.Bits.{has}
 use Rattle.slots.specs.Tracks.{dataBit}
 use Rattle.names.specs.Name.{sameBytes}
 use Rattle.names.proofs.Names.{bytes-are}
-use Rattle.chains.specs.File.{sectorAt}
+use Rattle.chains.specs.File.{File, sectorAt}
 use Rattle.chains.specs.Whole.{LinksTo}
+use Rattle.directory.specs.Places.{dirSector}
+use Rattle.directory.specs.Directory.{labelOf, slotsIn, slotsRead}
+use Rattle.directory.proofs.Label.{tracks-agree}
+use Rattle.directory.proofs.Ends.{unread-kept}
 use Rattle.surveys.specs.Survey.{free}
 use Rattle.disk.specs.Look.{Look, look, slotsOf, extra}
 use Rattle.disk.specs.Check.{checkDisk}
@@ -33,12 +38,15 @@ use Rattle.steps.proofs.Steps.{numbers-take, commits-take, goes-take, goes-look
 use Rattle.plans.specs.Saving.{passing, freeBit, taken, stream}
 use Rattle.plans.specs.Plan.{dataSteps, Plan, no, go, stopped, made, settle, checked}
 use Rattle.plans.specs.Accepted.{many}
-use Rattle.plans.proofs.Frame.{disk-sound}
+use Rattle.plans.specs.Safe.{Safe}
+use Rattle.plans.specs.Unread.{Unread}
+use Rattle.plans.proofs.Frame.{disk-sound, slot-half}
 use Rattle.plans.proofs.Free.{Run, run-drop, taken-run}
 use Rattle.plans.proofs.Blocks.{data-are, dataBlocks, Spare, blocks-goes, blocks-once}
-use Rattle.plans.proofs.Laid.{laid-from, data-commits}
+use Rattle.plans.proofs.Laid.{laid-from, laid-no-slot, data-commits}
 use Rattle.plans.proofs.Crash.{Sure, crash-of}
 use Rattle.plans.proofs.Sure.{or-none, row-none}
+use Rattle.plans.proofs.Unread.{unread-of}
 use Rattle.recordings.specs.Closed.{Unseen}
 use Rattle.recordings.specs.Recording.{Recording, more, chainOf, inner, usedOf, leadsTo, lacksLink, moved, pieceSteps, pieceReply, piecePlan, adding}
 
@@ -167,6 +175,31 @@ piece-sure d r x sts w e =
       commits-none k all (data-commits (stream (more r x .wish)) (510 * s) (drop s (chainOf (more r x)))),
     )
 
+-- its sectors are none of the directory's
+piece-apart : (d : List ℕ) (r : Recording) (x : List ℕ) (sts : List (Step Look)) → Sound (look d) → piecePlan d r x ≡ go sts
+    → (j : ℕ) → j < slotsIn d → listed (dirSector j) (numbers sts) ≡ false
+piece-apart d r x sts w e j h =
+    let c = piece-of d r x sts e in
+    let t = chain-taken d (more r x) (c .stays .used) (c .stays .tracks) in
+    let u : Run (freeBit (extra (look d)) (slotsOf (look d))) 0 (chainOf (more r x)) = rw t (taken-run (extra (look d)) (slotsOf (look d)) (more r x .wish)) in
+    let s : ℕ = 1 + inner (many (r .wish)) in
+    let k : ℕ = inner (many (more r x .wish)) - inner (many (r .wish)) in
+    let all : List (Step Look) = dataSteps (stream (more r x .wish)) (510 * s) (drop s (chainOf (more r x))) in
+    subst (λ (z : List (Step Look)). listed (dirSector j) (numbers z) ≡ false) (c .steps)
+    (ap (listed (dirSector j)) (numbers-take k all)
+    ∙ unlisted-take (dirSector j) k (numbers all)
+    (laid-no-slot d w (stream (more r x .wish)) (drop s (chainOf (more r x))) (run-drop (freeBit (extra (look d)) (slotsOf (look d))) s 0 (chainOf (more r x)) u) (510 * s) j h))
+
+-- where no sector of the directory is written, the slots that were unread stay so
+apart-unread : (d new ss : List ℕ) (finds : File → Bool) → Safe finds d new ss → ((j : ℕ) → j < slotsIn d → listed (dirSector j) ss ≡ false) → Unread (λ j. ⊥) d new ss
+apart-unread d new ss finds s u =
+    unread-of (λ j. ⊥) d new ss (s .whole) (λ k h l. unlisted-take (dirSector (slotsRead d)) k ss (u (slotsRead d) l)) (s .label)
+    (λ j q z.
+    unread-kept d new (tracks-agree d new (sym (ap labelOf (s .whole)) ∙ s .label (length ss) (omega arith)))
+    (λ l.
+    sym (slot-half new (slotsRead d)) ∙ ap (part (256 * (slotsRead d % 2)) 256) (s .unnamed (dirSector (slotsRead d)) (u (slotsRead d) l)) ∙ slot-half d (slotsRead d)) j q)
+    (λ j. inr (λ x. x))
+
 -- ---- from an accepted call to its steps
 
 pub record Made (d : List ℕ) (p : Plan) (room : ℕ) (new ss : List ℕ) : Type 0 where
@@ -209,10 +242,12 @@ piece-unseen r x d room new ss e =
     let m = made-of d (piecePlan d r x) room new ss e in
     let w = disk-sound d (m .accepted) in
     let s = piece-sure d r x (m .steps) w (m .planned) in
+    let safe = crash-of (λ f. false) d (m .accepted) (m .steps) (quiet-sure d (m .steps) (s .0) (s .1) (s .2)) in
     subst₂ (Unseen d) (m .disk) (m .named)
     (record {
       unseen = λ k.
           cut-sees look Sound (m .steps) d k (s .0) (s .1) w .sees ∙ ap (lastOf (look d)) (commits-none k (m .steps) (s .2));
       after = goes-look look Sound (m .steps) d (s .0) ∙ ap (lastOf (look d)) (s .2);
-      safe = crash-of (λ f. false) d (m .accepted) (m .steps) (quiet-sure d (m .steps) (s .0) (s .1) (s .2));
+      safe = safe;
+      unread = apart-unread d (enact d (m .steps)) (numbers (m .steps)) (λ f. false) safe (piece-apart d r x (m .steps) w (m .planned));
     })

@@ -44,6 +44,7 @@ use Rattle.plans.proofs.Ended.{free-there, end-enact}
 use Rattle.plans.proofs.Blocks.{quiet, blocks}
 use Rattle.plans.proofs.Laid.{data-listed, laid-in}
 use Rattle.plans.proofs.Sure.{Tested, save-tested}
+use Rattle.plans.proofs.Exactly.{free-sectors}
 use Rattle.recordings.specs.Recording.{Recording, withBody, more, chainOf, inner, usedOf, leadsTo, lacksLink, moved, begin, running, openedBy, openReply, opening, pieceSteps, pieceReply, piecePlan, closeData, closeSteps, slotFor, closeReply, closePlan, closing, Straight, starts, goesOn}
 use Rattle.recordings.specs.Closed.{SameAsSave}
 use Rattle.recordings.proofs.Piece.{chain-taken, links-lead, goes-from}
@@ -299,8 +300,25 @@ module _ (w : Wish) (d : List ℕ) (r : Recording) (now : List ℕ) (f : Follows
         (made x (numbers (closeSteps (oldName d i) now i (r .wish) (chainOf r)))))
         close-is-save;
     pieces = piece-alike;
+    fits = λ x.
+        ap₂ (λ (t : Bool) (l : Look). row 30 0 t else row 19 0 (ltb (free (extra l) (slotsOf l)) (many (more r x .wish)))) unmoved l
+        ∙ ap (λ (n : ℕ). row 19 0 (ltb n (many (more r x .wish)))) (free-sectors d);
   }
 
 -- M-109: nothing else touched the disk and nothing was cut
 pub straight : (w : Wish) (d : List ℕ) (r : Recording) (now : List ℕ) → Straight w d r now → SameAsSave d r now
 straight w d r now s = same-as-save w d r now (follow w d r now s)
+
+-- however the body is cut into pieces: the same bytes are one recording, and leave one disk
+pub however-cut : (w : Wish) (d : List ℕ) (r r′ : Recording) (now now′ : List ℕ) → Straight w d r now → Straight w d r′ now′ → r .wish .body ≡ r′ .wish .body
+    → (r ≡ r′) × (now ≡ now′)
+however-cut w d r r′ now now′ s s′ e =
+    let f = follow w d r now s in
+    let g = follow w d r′ now′ s′ in
+    let q : r ≡ r′ = same-recording r r′ (f .wish ∙ ap (withBody w) e ∙ sym (g .wish)) (sym (f .used) ∙ g .used) (sym (f .tracks) ∙ g .tracks) in
+    (q, f .disk ∙ ap (λ (r : Recording). enact d (written r)) q ∙ sym (g .disk))
+  where
+    same-recording : (r r′ : Recording) → r .wish ≡ r′ .wish → r .used ≡ r′ .used → r .tracks ≡ r′ .tracks → r ≡ r′
+    same-recording r r′ a b c =
+        ap₂ {C = Recording} (λ (v : Wish) (u : List ℕ). record { wish = v; used = u; tracks = r .tracks }) a b
+        ∙ ap {B = Recording} (λ (n : ℕ). record { wish = r′ .wish; used = r′ .used; tracks = n }) c
