@@ -61,6 +61,17 @@ usable-padded n u =
 put-front : (z x : List ℕ) (i : ℕ) → i < length x → i < length z → getD (put z 0 x) i 0 ≡ getD x i 0
 put-front z x i h m = let e : i ≡ 0 + i = omega arith in ap (λ (n : ℕ). getD (put z 0 x) n 0) e ∙ put-in z 0 x i h (omega arith)
 
+-- bytes put to the front of zeros
+zero-at : (n j : ℕ) → getD (zeros n) j 0 ≡ 0
+zero-at zero j = refl
+zero-at (suc n) zero = refl
+zero-at (suc n) (suc j) = zero-at n j
+
+pub front-at : (n : ℕ) (x : List ℕ) (j : ℕ) → j < n → getD (put (zeros n) 0 x) j 0 ≡ getD x j 0
+front-at n x j h =
+    ⊎-elim (λ (m : j < length x). put-front (zeros n) x j m (omega (arith, length-replicate {A = ℕ} n 0)))
+    (λ (m : length x ≤ j). put-after (zeros n) 0 x j (omega arith) ∙ zero-at n j ∙ sym (past-end x j m)) (below-or-not j (length x))
+
 -- ---- the recording of a record
 
 module _ (k : Record) (r : Recording) (h : StandsFor k r) where
@@ -233,8 +244,8 @@ opened-held w d u = record {
   usable = u;
   page = refl;
   offset = refl;
-  exec = λ j h. front 3 (w .exec) j h;
-  info = λ j h. front 11 (w .info) j h;
+  exec = λ j h. front-at 3 (w .exec) j h;
+  info = λ j h. front-at 11 (w .info) j h;
   used = refl;
   tracks = refl;
   long = refl;
@@ -242,16 +253,6 @@ opened-held w d u = record {
   first = λ j h m. absurd (omega arith);
   last = λ j h m. absurd (omega arith);
 }
-  where
-    front : (n : ℕ) (x : List ℕ) (j : ℕ) → j < n → getD (put (zeros n) 0 x) j 0 ≡ getD x j 0
-    front n x j h =
-        ⊎-elim (λ (m : j < length x). put-front (zeros n) x j m (omega (arith, length-replicate {A = ℕ} n 0)))
-        (λ (m : length x ≤ j). put-after (zeros n) 0 x j (omega arith) ∙ zero-at n j ∙ sym (past-end x j m)) (below-or-not j (length x))
-      where
-        zero-at : (n j : ℕ) → getD (zeros n) j 0 ≡ 0
-        zero-at zero j = refl
-        zero-at (suc n) zero = refl
-        zero-at (suc n) (suc j) = zero-at n j
 
 -- a record for each: what the calls hold after them
 pub kept : (r : Recording) → Recorded r → (k : Record) × StandsFor k r

@@ -45,26 +45,30 @@ drop-data st zero f bs = ap (λ (g : ℕ). dataSteps st g bs) (omega arith)
 drop-data st (suc s) f [] = refl
 drop-data st (suc s) f (b ∷ bs) = drop-data st s (f + 510) bs ∙ ap (λ (g : ℕ). dataSteps st g (drop s bs)) (omega arith)
 
-pub block-alike : (st sw : List ℕ) (f t s : ℕ) → ((k : ℕ) → f ≤ k → k < f + 510 → getD st k 0 ≡ getD sw k 0) → block st f t s ≡ block sw f t s
+-- blocks of two streams, from place f of the one and place g of the other on
+pub block-shift : (st sw : List ℕ) (f g t s : ℕ) → ((k : ℕ) → k < 510 → getD st (f + k) 0 ≡ getD sw (g + k) 0) → block st f t s ≡ block sw g t s
 unfolding block
-block-alike st sw f t s h = tab-cong 512 (λ k. cond (ltb k 510) (getD st (f + k) 0) (cond (eqb k 510) t s)) (λ k. cond (ltb k 510) (getD sw (f + k) 0) (cond (eqb k 510) t s)) (λ k m. by k (ltb k 510) refl)
+block-shift st sw f g t s h = tab-cong 512 (λ k. cond (ltb k 510) (getD st (f + k) 0) (cond (eqb k 510) t s)) (λ k. cond (ltb k 510) (getD sw (g + k) 0) (cond (eqb k 510) t s)) (λ k m. by k (ltb k 510) refl)
   where
-    by : (k : ℕ) (u : Bool) → ltb k 510 ≡ u → cond u (getD st (f + k) 0) (cond (eqb k 510) t s) ≡ cond u (getD sw (f + k) 0) (cond (eqb k 510) t s)
-    by k true q = h (f + k) (omega arith) (omega (arith, ltb-true k 510 q))
+    by : (k : ℕ) (u : Bool) → ltb k 510 ≡ u → cond u (getD st (f + k) 0) (cond (eqb k 510) t s) ≡ cond u (getD sw (g + k) 0) (cond (eqb k 510) t s)
+    by k true q = h k (ltb-true k 510 q)
     by k false q = refl
+
+pub block-alike : (st sw : List ℕ) (f t s : ℕ) → ((k : ℕ) → f ≤ k → k < f + 510 → getD st k 0 ≡ getD sw k 0) → block st f t s ≡ block sw f t s
+block-alike st sw f t s h = block-shift st sw f f t s (λ k m. h (f + k) (omega arith) (omega arith))
 
 -- one data sector
 abbrev quiet : ℕ → List ℕ → Step Look
 quiet b x = record { at = bitNumber b; puts = one (bitPlace b) x; left = none }
 
--- the first b steps hang on the first b + 1 bits and on the stream's bytes there
-agree : (st sw : List ℕ) (b f : ℕ) (bs cs : List ℕ) → b < length bs → b < length cs → ((k : ℕ) → k ≤ b → getD bs k 0 ≡ getD cs k 0)
-    → ((k : ℕ) → f ≤ k → k < f + 510 * b → getD st k 0 ≡ getD sw k 0) → take b (dataSteps st f bs) ≡ take b (dataSteps sw f cs)
+-- the first b steps hang on the first b + 1 bits and on the stream's bytes from their place on
+pub agree : (st sw : List ℕ) (b f g : ℕ) (bs cs : List ℕ) → b < length bs → b < length cs → ((k : ℕ) → k ≤ b → getD bs k 0 ≡ getD cs k 0)
+    → ((k : ℕ) → k < 510 * b → getD st (f + k) 0 ≡ getD sw (g + k) 0) → take b (dataSteps st f bs) ≡ take b (dataSteps sw g cs)
 unfolding dataSteps
-agree st sw zero f bs cs h k e q = refl
-agree st sw (suc b) f [] cs h k e q = absurd (not-suc-le-zero h)
-agree st sw (suc b) f (x ∷ bs) [] h k e q = absurd (not-suc-le-zero k)
-agree st sw (suc b) f (x ∷ bs) (y ∷ cs) h k e q =
+agree st sw zero f g bs cs h k e q = refl
+agree st sw (suc b) f g [] cs h k e q = absurd (not-suc-le-zero h)
+agree st sw (suc b) f g (x ∷ bs) [] h k e q = absurd (not-suc-le-zero k)
+agree st sw (suc b) f g (x ∷ bs) (y ∷ cs) h k e q =
     let m : b < length bs = le-of-suc-le-suc h in
     let n : b < length cs = le-of-suc-le-suc k in
     let u = next-first bs (omega arith) in
@@ -72,10 +76,16 @@ agree st sw (suc b) f (x ∷ bs) (y ∷ cs) h k e q =
     let z : getD bs 0 0 ≡ getD cs 0 0 = e 1 (omega arith) in
     ap₂ {C = List (Step Look)} _∷_
     (head x y (e 0 (omega arith)) (nextTrack bs) (nextTrack cs) (u .0 ∙ ap trackOf z ∙ sym (v .0)) (nextSector bs) (nextSector cs) (u .1 ∙ ap sectorOf z ∙ sym (v .1)))
-    (agree st sw b (f + 510) bs cs m n (λ j p. e (suc j) (omega arith)) (λ j p r. q j (omega arith) (omega arith)))
+    (agree st sw b (f + 510) (g + 510) bs cs m n (λ j p. e (suc j) (omega arith)) later)
   where
-    head : (x y : ℕ) → x ≡ y → (t t′ : ℕ) → t ≡ t′ → (s s′ : ℕ) → s ≡ s′ → quiet x (block st f t s) ≡ quiet y (block sw f t′ s′)
-    head x y a t t′ c s s′ d = rw (a, c, d, block-alike st sw f t′ s′ (λ j p r. q j p (omega arith)))
+    head : (x y : ℕ) → x ≡ y → (t t′ : ℕ) → t ≡ t′ → (s s′ : ℕ) → s ≡ s′ → quiet x (block st f t s) ≡ quiet y (block sw g t′ s′)
+    head x y a t t′ c s s′ d = rw (a, c, d, block-shift st sw f g t′ s′ (λ j p. q j (omega arith)))
+
+    later : (j : ℕ) → j < 510 * b → getD st (f + 510 + j) 0 ≡ getD sw (g + 510 + j) 0
+    later j p =
+        let a : f + 510 + j ≡ f + (510 + j) = omega arith in
+        let c : g + 510 + j ≡ g + (510 + j) = omega arith in
+        rw (a, c) (q (510 + j) (omega arith))
 
 -- ---- what the pieces have written
 
@@ -116,10 +126,10 @@ module _ (r : Recording) (x : List ℕ) (p : length (chainOf r) ≡ many (r .wis
   front (suc b) e =
       let m = many-more r x in
       let l = sectors-least (length (r .wish .body)) in
-      agree (stream (more r x .wish)) (stream (r .wish)) (suc b) 510 (drop 1 (chainOf (more r x))) (drop 1 (chainOf r))
+      agree (stream (more r x .wish)) (stream (r .wish)) (suc b) 510 510 (drop 1 (chainOf (more r x))) (drop 1 (chainOf r))
       (omega (arith, length-drop 1 (chainOf (more r x)))) (omega (arith, length-drop 1 (chainOf r)))
       (λ k h. getD-drop 1 (chainOf (more r x)) k 0 ∙ sym (bits-alike (1 + k) (omega arith)) ∙ sym (getD-drop 1 (chainOf r) k 0))
-      (λ k a h. sym (stream-more r x k (omega arith) (omega arith)))
+      (λ k h. sym (stream-more r x (510 + k) (omega arith) (omega arith)))
 
   pub written-more : written (more r x) ≡ written r ++ pieceSteps r x
   written-more =

@@ -64,14 +64,14 @@ abbrev pub clearBits : List ℕ → List ℕ
 clearBits m = passing 1560 0 (unset m)
 
 -- those from b on
-abbrev clearFrom : List ℕ → ℕ → List ℕ
+abbrev pub clearFrom : List ℕ → ℕ → List ℕ
 clearFrom m b = passing (1560 - b) b (unset m)
 
-data NextIn (m : List ℕ) (b : ℕ) : Type 0 where
+pub data NextIn (m : List ℕ) (b : ℕ) : Type 0 where
   ends-in : clearFrom m b ≡ [] → NextIn m b
   goes-in : (c : ℕ) → c < 1560 → clearFrom m b ≡ c ∷ clearFrom m (suc c) → NextIn m b
 
-next-in : (m : List ℕ) (b : ℕ) → b ≤ 1560 → NextIn m b
+pub next-in : (m : List ℕ) (b : ℕ) → b ≤ 1560 → NextIn m b
 next-in m b h = by (next-of (1560 - b) b (unset m))
   where
     by : Next (1560 - b) b (unset m) → NextIn m b

@@ -1,68 +1,53 @@
+-- `links::leads_to` meets its contract.
+use native.Mathlib.Omega.{arith}
+use Rattle.payloads.proofs.Links.{end-le}
+use Rattle.links.proofs.Leads.{leads-not, leads-so}
 use borrow.Author.Needs.{needs}
 use Rattle.links.proofs.leads_to.Statement.{statement}
 use Rattle.links.proofs.leads_to.Tie as tie
-use Rattle.links.proofs.leads_to.Reads as reads
-use Rattle.links.proofs.leads_to.Lts as lts
-use Rattle.buffers.proofs.num_at.Reads as num-at-reads
-use Rattle.geometry.proofs.address_of.Reads as address-of-reads
-use Rattle.geometry.proofs.bit_place.Reads as bit-place-reads
 
--- src/lib.rt:15:9
 bit-place-requires : tie.Need-bit-place-requires
 bit-place-requires c κs = search needs
 
--- src/lib.rt:16:11
-address-of-requires : tie.Need-address-of-requires
-address-of-requires c κs = search needs
+link-of-requires : tie.Need-link-of-requires
+link-of-requires c κs = search needs
 
--- src/lib.rt:17:25
-enum-known-track : tie.Need-enum-known-track
-enum-known-track c = search needs
+add-byte-at : tie.Need-add-byte-at
+add-byte-at c = omega (arith, end-le _ _ (c .before .bit-place .ensures))
 
--- src/lib.rt:18:39
-add-num-at : tie.Need-add-num-at
-add-num-at c = search needs
+byte-at-requires : tie.Need-byte-at-requires
+byte-at-requires c κs = search needs
 
--- src/lib.rt:18:16
-num-at-requires : tie.Need-num-at-requires
-num-at-requires c κs = search needs
-
--- src/lib.rt:19:17
 returns : tie.Need-returns
-returns c = search needs
+returns c =
+    let a = c .before .before in
+    let p = a .before .before in
+    let s = p .before .before in
+    leads-not _ _ _ _ (s .pre .0) (s .pre .1) (p .bit-place .ensures) _ (a .before .link-of .ensures) _ (a .byte-at .ensures) (c .if1 .taken)
 
--- src/lib.rt:21:36
-add-num-at-2 : tie.Need-add-num-at-2
-add-num-at-2 c = search needs
+add-byte-at-2 : tie.Need-add-byte-at-2
+add-byte-at-2 c = omega (arith, end-le _ _ (c .before .before .before .before .bit-place .ensures))
 
--- src/lib.rt:21:13
-num-at-requires-2 : tie.Need-num-at-requires-2
-num-at-requires-2 c κs = search needs
+byte-at-requires-2 : tie.Need-byte-at-requires-2
+byte-at-requires-2 c κs = search needs
 
--- src/lib.rt:23:27
-enum-told : tie.Need-enum-told
-enum-told c = search needs
-
--- src/lib.rt:11:1
 returns-2 : tie.Need-returns-2
-returns-2 c = search needs
-
--- src/lib.rt:11:1
-returns-3 : tie.Need-returns-3
-returns-3 c = search needs
+returns-2 c =
+    let b = c .before in
+    let a = b .before .before .before in
+    let p = a .before .before in
+    let s = p .before .before in
+    leads-so _ _ _ _ (s .pre .0) (s .pre .1) (p .bit-place .ensures) _ (a .before .link-of .ensures) _ (a .byte-at .ensures) (b .before .if1 .left) _ (b .byte-at2 .ensures)
 
 pub leads-to-spec : {M : Type 1} → statement M
 leads-to-spec =
     tie.close
     (tie.spec
     bit-place-requires
-    address-of-requires
-    enum-known-track
-    add-num-at
-    num-at-requires
+    link-of-requires
+    add-byte-at
+    byte-at-requires
     returns
-    add-num-at-2
-    num-at-requires-2
-    enum-told
-    returns-2
-    returns-3)
+    add-byte-at-2
+    byte-at-requires-2
+    returns-2)

@@ -1,0 +1,4 @@
+pub mod Clear
+pub mod Sectors
+pub mod Grown
+pub mod Blocks
