@@ -67,16 +67,18 @@ take-same k n l h e =
     ⊎-elim (λ (m : k < 1560). let z : k ≡ n = omega arith in ap (λ (j : ℕ). take j l) z)
     (λ (m : 1560 ≤ k). take-all k l (omega arith) ∙ sym (take-all n l (omega arith))) (below-or-not k 1560)
 
--- no chain is longer than 1,560, so that a greater number need not be the recording's
-module _ (d : List ℕ) (u : UsedMap) (a : Accepted d u) (r : Recording) (n : ℕ) (c : min n 1560 ≡ min (many (r .wish)) 1560) where
-  used-is : usedOf (look d) ≡ u .bytes
+-- the used map and n of an accepted disk are those that the check found
+module _ (d : List ℕ) (u : UsedMap) (a : Accepted d u) where
+  pub used-is : usedOf (look d) ≡ u .bytes
   unfolding usedMap
   used-is = ap (λ (v : Directory). union v slots) (look-slots d) ∙ sym (counted-bytes (tracksOf d) (union (directory d) slots) u (a .used))
 
-  tracks-is : extra (look d) ≡ u .tracks
+  pub tracks-is : extra (look d) ≡ u .tracks
   unfolding usedMap
   tracks-is = look-extra d ∙ sym (counted-tracks (tracksOf d) (union (directory d) slots) u (a .used))
 
+-- no chain is longer than 1,560, so that a greater number need not be the recording's
+module _ (d : List ℕ) (u : UsedMap) (a : Accepted d u) (r : Recording) (n : ℕ) (c : min n 1560 ≡ min (many (r .wish)) 1560) where
   pub chain-is : r .used ≡ u .bytes → r .tracks ≡ u .tracks → chainOf r ≡ lowest (shutMap u) n
   unfolding chainOf lowest
   chain-is p q =
@@ -89,7 +91,7 @@ module _ (d : List ℕ) (u : UsedMap) (a : Accepted d u) (r : Recording) (n : �
   moved-by : (s t : Bool) → same ≡ s → lacksLink d (chainOf r) ≡ t → moved d r ≡ (not s || t)
   unfolding moved
   moved-by s t e f =
-      ap₂ (λ (x y : Bool). not x || y) (ap₂ (λ (m : List ℕ) (t : ℕ). sameBytes m (r .used) && eqb t (r .tracks)) used-is tracks-is ∙ e) f
+      ap₂ (λ (x y : Bool). not x || y) (ap₂ (λ (m : List ℕ) (t : ℕ). sameBytes m (r .used) && eqb t (r .tracks)) (used-is d u a) (tracks-is d u a) ∙ e) f
 
   same-is : same ≡ true → (r .used ≡ u .bytes) × (r .tracks ≡ u .tracks)
   same-is e =
