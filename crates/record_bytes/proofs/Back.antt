@@ -15,7 +15,7 @@ use Rattle.bytereports.specs.Bytes.{fourOf}
 use Rattle.bytereports.proofs.Raising.{four-of}
 use Rattle.recordings.specs.Record.{lastFrom, zeros, grownLast, grown}
 use Rattle.recordings.specs.declared.Record.{Record}
-use Rattle.record_bytes.specs.Layout.{recordBytes, bytesAt, offsetIn, longIn, recordIn, field, frontOf, bytesOf, grownIn, Fits}
+use Rattle.record_bytes.specs.Layout.{recordBytes, bytesAt, offsetIn, longIn, recordIn, field, frontOf, bytesOf, grownIn, Fits, RestStays}
 use Rattle.record_bytes.proofs.Laid.{record-is}
 
 -- ---- parts that lie behind each other
@@ -25,6 +25,10 @@ abbrev Rising : ℕ → List Put → ℕ → Type 0
 Rising a [] n = a ≤ n
 Rising a (p ∷ ps) n = (a ≤ p .place) × Rising (p .place + length (p .bytes)) ps n
 
+ends : (ps : List Put) (a n : ℕ) → Rising a ps n → a ≤ n
+ends [] a n r = r
+ends (p ∷ ps) a n r = omega (arith, r .0, ends ps (p .place + length (p .bytes)) n (r .1))
+
 -- what lies before them stays
 before-all : (ps : List Put) (d : List ℕ) (a n : ℕ) → Rising a ps n → (i : ℕ) → i < a → getD (putAll d ps) i 0 ≡ getD d i 0
 unfolding putAll
@@ -32,14 +36,18 @@ before-all [] d a n r i h = refl
 before-all (p ∷ ps) d a n r i h =
     before-all ps (put d (p .place) (p .bytes)) (p .place + length (p .bytes)) n (r .1) i (omega (arith, r .0)) ∙ put-before d (p .place) (p .bytes) i (omega (arith, r .0))
 
+-- and what lies behind them
+after-all : (ps : List Put) (d : List ℕ) (a n : ℕ) → Rising a ps n → (i : ℕ) → n ≤ i → getD (putAll d ps) i 0 ≡ getD d i 0
+unfolding putAll
+after-all [] d a n r i h = refl
+after-all (p ∷ ps) d a n r i h =
+    after-all ps (put d (p .place) (p .bytes)) (p .place + length (p .bytes)) n (r .1) i h
+    ∙ put-after d (p .place) (p .bytes) i (omega (arith, ends ps (p .place + length (p .bytes)) n (r .1)))
+
 -- and each is read
 abbrev Back : List ℕ → List Put → Type 0
 Back d [] = Unit {0}
 Back d (p ∷ ps) = (p .bytes ≡ bytesAt (p .place) (length (p .bytes)) d) × Back d ps
-
-ends : (ps : List Put) (a n : ℕ) → Rising a ps n → a ≤ n
-ends [] a n r = r
-ends (p ∷ ps) a n r = omega (arith, r .0, ends ps (p .place + length (p .bytes)) n (r .1))
 
 all-back : (ps : List Put) (d : List ℕ) (a n : ℕ) → Rising a ps n → n ≤ length d → Back (putAll d ps) ps
 unfolding putAll
@@ -71,12 +79,16 @@ four-back x h = let e = four-of x h in omega arith
 
 -- ---- opening
 
-module _ (k : Record) (f : Fits k) where
-  abbrev parts : List Put
-  parts =
-      field 0 (frontOf k) ∷ field 12 (k .name) ∷ field 22 (k .exec) ∷ field 25 (k .info) ∷ field 36 (k .used) ∷ field 231 (k .first) ∷ field 732 (k .last) ∷ []
+abbrev parts : Record → List Put
+parts k =
+    field 0 (frontOf k) ∷ field 12 (k .name) ∷ field 22 (k .exec) ∷ field 25 (k .info) ∷ field 36 (k .used) ∷ field 231 (k .first) ∷ field 732 (k .last) ∷ []
 
-  apart : Rising 0 parts recordBytes
+pub length-bytes : (k : Record) → length (bytesOf k) ≡ recordBytes
+unfolding bytesOf
+length-bytes k = putAll-long (parts k) (zeros recordBytes) ∙ length-replicate {A = ℕ} 2048 0
+
+module _ (k : Record) (f : Fits k) where
+  apart : Rising 0 (parts k) recordBytes
   apart = (
     omega arith,
     (
@@ -88,9 +100,9 @@ module _ (k : Record) (f : Fits k) where
     ),
   )
 
-  all : Back (bytesOf k) parts
+  all : Back (bytesOf k) (parts k)
   unfolding bytesOf
-  all = all-back parts (zeros recordBytes) 0 recordBytes apart (omega (arith, length-replicate {A = ℕ} 2048 0))
+  all = all-back (parts k) (zeros recordBytes) 0 recordBytes apart (omega (arith, length-replicate {A = ℕ} 2048 0))
 
   front : (j : ℕ) → j < 12 → getD (bytesOf k) (0 + j) 0 ≡ getD (frontOf k) j 0
   front = byte-of 0 12 (frontOf k) (bytesOf k) (all .0)
@@ -122,18 +134,17 @@ record-same b c h =
     part a n l = tab-cong n (λ j. getD b (a + j) 0) (λ j. getD c (a + j) 0) (λ j m. h (a + j) (omega arith))
 
 pub opened-back : (b : List ℕ) (k : Record) → recordBytes ≤ length b → Fits k → recordIn (put b 0 (bytesOf k)) ≡ k
-unfolding bytesOf
 opened-back b k l f = record-same (put b 0 (bytesOf k)) (bytesOf k) byte ∙ sym (bytes-back k f)
   where
-    long : length (bytesOf k) ≡ recordBytes
-    long = putAll-long (parts k f) (zeros recordBytes) ∙ length-replicate {A = ℕ} 2048 0
-
     byte : (i : ℕ) → i < recordBytes → getD (put b 0 (bytesOf k)) i 0 ≡ getD (bytesOf k) i 0
-    byte i h = let z : i ≡ 0 + i = omega arith in ap (λ (j : ℕ). getD (put b 0 (bytesOf k)) j 0) z ∙ put-in b 0 (bytesOf k) i (omega (arith, long)) (omega arith)
+    byte i h = let z : i ≡ 0 + i = omega arith in ap (λ (j : ℕ). getD (put b 0 (bytesOf k)) j 0) z ∙ put-in b 0 (bytesOf k) i (omega (arith, length-bytes k)) (omega arith)
+
+pub opened-rest : (b : List ℕ) (k : Record) → RestStays b (put b 0 (bytesOf k))
+opened-rest b k = record { long = length-put b 0 (bytesOf k); rest = λ i h. put-after b 0 (bytesOf k) i (omega (arith, length-bytes k)) }
 
 -- ---- a piece
 
-module _ (b x : List ℕ) (l : recordBytes ≤ length b) (few : recordIn b .long + length x < 2 ^ 32) where
+module _ (b x : List ℕ) where
   abbrev k : Record
   k = grown (recordIn b) x
 
@@ -155,10 +166,6 @@ module _ (b x : List ℕ) (l : recordBytes ≤ length b) (few : recordIn b .long
   raised-apart : Rising 8 raised recordBytes
   raised-apart = (omega arith, (omega arith, (omega (arith, first-long), omega (arith, last-long))))
 
-  raised-back : Back (grownIn b k) raised
-  unfolding grownIn
-  raised-back = all-back raised b 8 recordBytes raised-apart l
-
   stays-before : (i : ℕ) → i < 8 → getD (grownIn b k) i 0 ≡ getD b i 0
   unfolding grownIn
   stays-before i h = before-all raised b 8 recordBytes raised-apart i h
@@ -172,17 +179,26 @@ module _ (b x : List ℕ) (l : recordBytes ≤ length b) (few : recordIn b .long
   between : (a n : ℕ) → 12 ≤ a → a + n ≤ 231 → bytesAt a n b ≡ bytesAt a n (grownIn b k)
   between a n h m = tab-cong n (λ j. getD b (a + j) 0) (λ j. getD (grownIn b k) (a + j) 0) (λ j q. sym (stays-between (a + j) (omega arith) (omega arith)))
 
-  four : (j : ℕ) → j < 4 → getD (grownIn b k) (8 + j) 0 ≡ getD (fourOf (k .long)) j 0
-  four = byte-of 8 4 (fourOf (k .long)) (grownIn b k) (raised-back .0)
+  pub grown-rest : RestStays b (grownIn b k)
+  unfolding grownIn
+  grown-rest = record { long = putAll-long raised b; rest = λ i h. after-all raised b 8 recordBytes raised-apart i h }
 
-  pub grown-back : recordIn (grownIn b k) ≡ k
-  unfolding grown recordIn
-  grown-back = sym is
-    where
-      is : k ≡ recordIn (grownIn b k)
-      is =
-          record-is (grownIn b k) (sym (stays-before 0 (omega arith))) (between 12 10 (omega arith) (omega arith)) (sym (stays-before 1 (omega arith)))
-          (rw (stays-before 2 (omega arith), stays-before 3 (omega arith))) (between 22 3 (omega arith) (omega arith)) (between 25 11 (omega arith) (omega arith))
-          (between 36 195 (omega arith) (omega arith)) (sym (stays-before 4 (omega arith)))
-          (rw (four 0 (omega arith), four 1 (omega arith), four 2 (omega arith), four 3 (omega arith)) (four-back (k .long) few))
-          (sized 231 501 (k .first) (grownIn b k) first-long (raised-back .1 .0)) (sized 732 510 (k .last) (grownIn b k) last-long (raised-back .1 .1 .0))
+  module _ (l : recordBytes ≤ length b) (few : recordIn b .long + length x < 2 ^ 32) where
+    raised-back : Back (grownIn b k) raised
+    unfolding grownIn
+    raised-back = all-back raised b 8 recordBytes raised-apart l
+
+    four : (j : ℕ) → j < 4 → getD (grownIn b k) (8 + j) 0 ≡ getD (fourOf (k .long)) j 0
+    four = byte-of 8 4 (fourOf (k .long)) (grownIn b k) (raised-back .0)
+
+    pub grown-back : recordIn (grownIn b k) ≡ k
+    unfolding grown recordIn
+    grown-back = sym is
+      where
+        is : k ≡ recordIn (grownIn b k)
+        is =
+            record-is (grownIn b k) (sym (stays-before 0 (omega arith))) (between 12 10 (omega arith) (omega arith)) (sym (stays-before 1 (omega arith)))
+            (rw (stays-before 2 (omega arith), stays-before 3 (omega arith))) (between 22 3 (omega arith) (omega arith)) (between 25 11 (omega arith) (omega arith))
+            (between 36 195 (omega arith) (omega arith)) (sym (stays-before 4 (omega arith)))
+            (rw (four 0 (omega arith), four 1 (omega arith), four 2 (omega arith), four 3 (omega arith)) (four-back (k .long) few))
+            (sized 231 501 (k .first) (grownIn b k) first-long (raised-back .1 .0)) (sized 732 510 (k .last) (grownIn b k) last-long (raised-back .1 .1 .0))

@@ -1,7 +1,7 @@
 -- The records of our calls can be held by their bytes.
 use Prim.Native.Nat.{ℕ, _+_, _-_, _/_, _≤_}
 use mathlib.Core.Path.{_≡_, refl, ap, _∙_}
-use mathlib.Core.Bool.{_&&_}
+use mathlib.Core.Bool.{true, _&&_}
 use mathlib.Core.List.{List, [], _++_}
 use mathlib.Core.Option.{none}
 use native.Mathlib.Omega.{arith}
@@ -20,10 +20,10 @@ use Rattle.surveys.proofs.Union.{length-union}
 use Rattle.disk.specs.Look.{look, slotsOf, extra}
 use Rattle.disk.specs.Check.{checkDisk}
 use Rattle.disk.proofs.Rows.{carried-is}
-use Rattle.plans.specs.Change.{Wish, between}
+use Rattle.plans.specs.Change.{Wish, between, usable}
 use Rattle.plans.specs.Plan.{made}
 use Rattle.plans.proofs.Kept.{usable-is}
-use Rattle.plans.proofs.Sure.{save-tested}
+use Rattle.plans.proofs.Sure.{Tested, save-tested}
 use Rattle.recordings.specs.Recording.{Recording, withBody, more, openReply, piecePlan, adding}
 use Rattle.recordings.specs.Record.{keptByte, recordingOf, zeros, freshRecord}
 use Rattle.recordings.specs.Calls.{openingReply}
@@ -31,11 +31,17 @@ use Rattle.recordings.specs.declared.Record.{Record}
 use Rattle.recordings.proofs.Piece.{made-of, piece-of}
 use Rattle.record_bytes.specs.Layout.{Fits}
 
--- at opening
+-- at opening, what is tested of the particulars
+tested : (w : Wish) (d : List ℕ) → openingReply w d ≡ none → Tested (extra (look d)) (slotsOf (look d)) (withBody w [])
+tested w d e = save-tested (extra (look d)) (slotsOf (look d)) (withBody w []) (else-none (checkDisk d) (openReply w (look d)) e .1)
+
+pub opened-name : (w : Wish) (d : List ℕ) → openingReply w d ≡ none → usable (w .name) ≡ true
+opened-name w d e = tested w d e .usable-name
+
 pub fresh-fits : (w : Wish) (d : List ℕ) → openingReply w d ≡ none → Fits (freshRecord w (look d))
 unfolding freshRecord extra
 fresh-fits w d e =
-    let t = save-tested (extra (look d)) (slotsOf (look d)) (withBody w []) (else-none (checkDisk d) (openReply w (look d)) e .1) in
+    let t = tested w d e in
     let k = carried-is (w .kind) (t .carried-kind) in
     let r = and-both (leb (w .page) 31) (between 32768 (w .offset) 49151) (t .range) in
     let p : w .page ≤ 31 = leb-true (w .page) 31 (r .0) in

@@ -1,6 +1,6 @@
 -- The record of a recording as lent bytes: "VARNUCHT_RECORD_BYTES = 2,048, the front of a longer buffer is used, its rest stays". Numbers of
 -- two and of four bytes have the low byte first.
-use Prim.Native.Nat.{ℕ, _+_, _*_, _/_, _%_, _^_, _<_}
+use Prim.Native.Nat.{ℕ, _+_, _*_, _/_, _%_, _^_, _≤_, _<_}
 use mathlib.Core.List.{List, [], _∷_}
 use mathlib.Core.Path.{_≡_}
 use lib.ListN.{length, getD}
@@ -60,6 +60,11 @@ bytesOf k =
 -- a piece: how many bytes came, and the bytes that wait; all others stay
 unfoldable pub grownIn : List ℕ → Record → List ℕ
 grownIn b k = putAll b (field 8 (fourOf (k .long)) ∷ field 231 (k .first) ∷ field 732 (k .last) ∷ [])
+
+-- "the front of a longer buffer is used, its rest stays"
+pub record RestStays (b b′ : List ℕ) : Type 0 where
+  pub long : length b′ ≡ length b
+  pub rest : (i : ℕ) → recordBytes ≤ i → getD b′ i 0 ≡ getD b i 0
 
 -- ---- a record that its bytes can hold
 
