@@ -21,22 +21,21 @@ use Rattle.plans.specs.Plan.{Result, stopped, made, checked, Changed, changed}
 use Rattle.recordings.specs.Recording.{Recording, more, begin, running, openedBy, opening, adding, closing, Recorded, Straight}
 use Rattle.recordings.specs.Recording as recorded
 use Rattle.recordings.specs.Record.{recordingOf, freshRecord, grown, StandsFor}
-use Rattle.recordings.specs.Closed.{SameAsSave}
 use Rattle.recordings.specs.Calls.{openingReply}
 use Rattle.recordings.specs.declared.Record.{Record}
 use Rattle.recordings.proofs.Piece.{piece-unseen}
 use Rattle.recordings.proofs.Closing.{close-closes}
-use Rattle.recordings.proofs.Whole.{straight}
+use Rattle.recordings.proofs.Whole.{follow, straight}
 use Rattle.recordings.proofs.Kept.{held-adds, held-closes, held-more, opened-held}
 use Rattle.handfuls.specs.Parts.{piece, close}
 use Rattle.record_bytes.specs.Layout.{recordBytes, recordIn, bytesOf, grownIn, RestStays}
 use Rattle.record_bytes.proofs.Back.{opened-back, opened-rest, grown-back, grown-rest}
 use Rattle.record_bytes.proofs.Fits.{fresh-fits, opened-name, piece-few}
-use Rattle.bytelists.specs.Lists.{inBytes, numbersIn, changingBy}
+use Rattle.bytelists.specs.Lists.{numbersIn, changingBy, changing}
 use Rattle.bytelists.specs.Handfuls.{asking}
 use Rattle.bytelists.proofs.Safe.{call-of}
 use Rattle.record_calls.specs.Calls.{short, openingBytes, lent, Pieced, pieced, pieceBy, pieceBytes, closeBytes}
-use Rattle.record_calls.specs.Held.{Holds, Opens, Adds, Ends, Ours, opened, added, Unbroken, starts, goesOn}
+use Rattle.record_calls.specs.Held.{Holds, Opens, Adds, Ends, Ours, opened, added, Unbroken, starts, goesOn, OneSave}
 
 -- ---- a record that is long enough
 
@@ -150,3 +149,17 @@ unbroken w d _ _ _ (goesOn r x now b l n f u e) =
     let p = unbroken w d b now r u in
     let t = adds r x now b l (p .1) n f e in
     (recorded.goesOn r x now (length l / 2) _ _ (p .0) (t .accepted), t .holds)
+
+pub one-save : (w : Wish) (d b now : List ℕ) (r : Recording) → Unbroken w d b now r → OneSave w d b now r
+unfolding changing
+one-save w d b now r u =
+    let p = unbroken w d b now r u in
+    let s = straight w d r now (p .0) in
+    record {
+      joined = follow w d r now (p .0) .wish;
+      new = s .new;
+      ofSave = s .ofSave;
+      ofClose = s .ofClose;
+      saves = λ l. ap (λ (y : Result). changingBy y d l) (s .saves (length l / 2));
+      closes = λ l. close-held r now b l (p .1) ∙ ap (λ (y : Result). changingBy y now l) (s .closes (length l / 2));
+    }

@@ -1,17 +1,21 @@
 -- Bytes that hold a recording, and what the calls do for it: the words of document 02 (M-109), of what the app lends and gets.
 use Prim.Native.Nat.{ℕ, _/_, _≤_}
+use mathlib.Core.Bool.{cond}
 use mathlib.Core.List.{List}
 use mathlib.Core.Path.{_≡_}
+use lib.Dec.{ltb}
 use lib.ListN.{length, take}
+use Rattle.refusals.specs.Order.{refuse, SlotRow}
 use Rattle.refusals.specs.Answers.{done}
 use Rattle.disk.specs.Look.{look}
-use Rattle.plans.specs.Change.{Wish}
-use Rattle.plans.specs.Plan.{made}
-use Rattle.recordings.specs.Recording.{Recording, more, begin, running, opening, adding, closing}
+use Rattle.files.specs.Asked.{row20}
+use Rattle.plans.specs.Change.{Wish, save}
+use Rattle.plans.specs.Plan.{stopped, made}
+use Rattle.recordings.specs.Recording.{Recording, withBody, more, begin, running, opening, adding, closing}
 use Rattle.recordings.specs.Record.{StandsFor}
 use Rattle.recordings.specs.Closed.{Unseen, Closes}
 use Rattle.record_bytes.specs.Layout.{recordBytes, recordIn, RestStays}
-use Rattle.bytelists.specs.Lists.{numbersIn}
+use Rattle.bytelists.specs.Lists.{numbersIn, changingBy, changing}
 use Rattle.record_calls.specs.Calls.{openingBytes, pieceBytes, closeBytes}
 
 -- the record at the front of a buffer stands for a recording
@@ -52,3 +56,19 @@ pub data Unbroken (w : Wish) (d : List ℕ) : List ℕ → List ℕ → Recordin
   starts : (b : List ℕ) (n f : ℕ) → openingBytes w d b .outcome ≡ done n f → Unbroken w d (openingBytes w d b .buffer) d (begin w (look d))
   goesOn : (r : Recording) (x now b l : List ℕ) (n f : ℕ) → Unbroken w d b now r → pieceBytes x now b l .outcome ≡ done n f
       → Unbroken w d (pieceBytes x now b l .kept) (pieceBytes x now b l .image) (more r x)
+
+-- "the closed disk equals one save of the joined pieces.": the record's bytes b close as the pieces joined are saved on disk d, each
+-- where its list has room
+pub record OneSave (w : Wish) (d b now : List ℕ) (r : Recording) : Type 0 where
+  pub joined : r .wish ≡ withBody w (r .wish .body)
+  pub new : List ℕ
+  pub ofSave : List ℕ
+  pub ofClose : List ℕ
+  pub saves : (l : List ℕ) → changing (save (r .wish)) d l ≡ changingBy (cond (ltb (length l / 2) (length ofSave)) (stopped (refuse 20 0)) (made new ofSave)) d l
+  pub closes : (l : List ℕ) → closeBytes now b l ≡ changingBy (cond (ltb (length l / 2) (length ofClose)) (stopped (refuse 20 0)) (made new ofClose)) now l
+
+-- ---- what is refused, in C's order
+
+-- "20 where the record is too short to be one"
+abbrev pub rowShort : List ℕ → SlotRow
+rowShort b = row20 (length b) recordBytes

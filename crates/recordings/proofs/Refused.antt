@@ -42,7 +42,7 @@ use Rattle.recordings.proofs.Close.{one-sector, two-sectors}
 
 -- ---- the first of some rows
 
-first-join : (xs ys : List SlotRow) → firstRow (xs ++ ys) ≡ (firstRow xs else firstRow ys)
+pub first-join : (xs ys : List SlotRow) → firstRow (xs ++ ys) ≡ (firstRow xs else firstRow ys)
 first-join [] ys = refl
 first-join (x ∷ xs) ys = by (x .holds) (first-join xs ys)
   where
