@@ -1,4 +1,5 @@
 pub mod Clear
 pub mod Sectors
-pub mod Grown
+pub mod Longer
 pub mod Blocks
+pub mod Settle

@@ -2,14 +2,13 @@
 use Prim.Native.Nat.{ℕ, zero, suc, _+_, _-_, _*_, _/_, _≤_, _<_}
 use mathlib.Core.Path.{_≡_, refl, sym, ap, ap₂, _∙_}
 use mathlib.Core.List.{List, [], _∷_, _++_, map, map-append}
-use native.Mathlib.Nat.{zero-add}
 use native.Mathlib.Numerals.{add-one}
 use native.Mathlib.Omega.{arith}
 use lib.ListN.{length, getD, take, drop, set, length-map, length-drop}
 use lib.Seq.{length-take-le, take-suc, drop-drop, getD-drop}
 use Rattle.buffers.specs.Bytes.{put}
 use Rattle.buffers.proofs.Lists.{length-put, put-none, put-one, put-append}
-use Rattle.geometry.specs.Disk.{bitNumber, bitPlace, placeOrEnd, trackOf, sectorOf}
+use Rattle.geometry.specs.Disk.{bitNumber, bitPlace, placeOrEnd}
 use Rattle.geometry.proofs.Laws.{place-or-end, number-small}
 use Rattle.steps.specs.Steps.{putAll, enact, numbers}
 use Rattle.steps.proofs.Steps.{numbers-take}
@@ -19,7 +18,7 @@ use Rattle.plans.proofs.Laid.{data-numbers}
 use Rattle.changes.specs.Settled.{Made}
 use Rattle.taking.specs.Taken.{nextClear}
 use Rattle.payloads.specs.declared.Link.{Link}
-use Rattle.payloads.specs.Sector.{linked, linkOf}
+use Rattle.payloads.specs.Sector.{linkOf}
 use Rattle.payloads.proofs.Links.{link-bit}
 use Rattle.record_add.specs.Along.{clearFrom, along, Along}
 use Rattle.record_add.proofs.Clear.{from-next, next-same, from-clear}

@@ -162,22 +162,27 @@ close-long d r e =
     (ap length (dir-numbers (oldName d (slotFor d)) (slotFor d) (look d) 0 _ _))
 
 -- a piece
+pub chain-fits : (d : List ℕ) (r : Recording) → checkDisk d ≡ none → moved d r ≡ false → (x : List ℕ) → many (more r x .wish) ≤ free (extra (look d)) (slotsOf (look d))
+    → length (chainOf (more r x)) ≡ many (more r x .wish)
+chain-fits d r ok e x f =
+    let s = still d r e in
+    ap length (chain-taken d (more r x) (s .used) (s .tracks)) ∙ taken-long (look d) (disk-sound d ok) (more r x .wish) f
+
+pub piece-long : (r : Recording) (x d : List ℕ) → checkDisk d ≡ none → pieceReply d r x ≡ none
+    → length (numbers (pieceSteps r x)) ≡ inner (many (more r x .wish)) - inner (many (r .wish))
+piece-long r x d ok e =
+    let a = else-none (row 30 0 (moved d r)) (row 19 0 (ltb (free (extra (look d)) (slotsOf (look d))) (many (more r x .wish)))) e in
+    let f = ltb-false (free (extra (look d)) (slotsOf (look d))) (many (more r x .wish)) (row-none 19 0 (ltb (free (extra (look d)) (slotsOf (look d))) (many (more r x .wish))) (a .1)) in
+    let c = chain-fits d r ok (row-none 30 0 (moved d r) (a .0)) x f in
+    length-numbers (pieceSteps r x)
+    ∙ length-take-le (inner (many (more r x .wish)) - inner (many (r .wish))) (dataSteps (stream (more r x .wish)) (510 * (1 + inner (many (r .wish)))) (drop (1 + inner (many (r .wish))) (chainOf (more r x))))
+    (omega (arith, c, length-data (stream (more r x .wish)) (510 * (1 + inner (many (r .wish)))) (drop (1 + inner (many (r .wish))) (chainOf (more r x))), length-drop (1 + inner (many (r .wish))) (chainOf (more r x)), sectors-some (length (r .wish .body)), sectors-some (length (more r x .wish .body))))
+
 pub piece-refused : (r : Recording) (x d : List ℕ) (room : ℕ) (n : Refusal) → (adding r x d room ≡ stopped n) ↔ RefusesBy d (pieceRows d r x room) n
 unfolding adding piecePlan pieceRows
 piece-refused r x d room n =
     call-refused d room (pieceReply d r x) (row30 d r ∷ row19 (look d) (more r x .wish) ∷ []) (inner (many (more r x .wish)) - inner (many (r .wish))) (pieceSteps r x)
-    (row-else 30 0 (moved d r) (row 19 0 (ltb (free (extra (look d)) (slotsOf (look d))) (many (more r x .wish))))) long n
-  where
-    long : checkDisk d ≡ none → pieceReply d r x ≡ none → length (numbers (pieceSteps r x)) ≡ inner (many (more r x .wish)) - inner (many (r .wish))
-    long ok e =
-        let a = else-none (row 30 0 (moved d r)) (row 19 0 (ltb (free (extra (look d)) (slotsOf (look d))) (many (more r x .wish)))) e in
-        let s = still d r (row-none 30 0 (moved d r) (a .0)) in
-        let f = ltb-false (free (extra (look d)) (slotsOf (look d))) (many (more r x .wish)) (row-none 19 0 (ltb (free (extra (look d)) (slotsOf (look d))) (many (more r x .wish))) (a .1)) in
-        let c : length (chainOf (more r x)) ≡ many (more r x .wish) =
-        ap length (chain-taken d (more r x) (s .used) (s .tracks)) ∙ taken-long (look d) (disk-sound d ok) (more r x .wish) f in
-        length-numbers (pieceSteps r x)
-        ∙ length-take-le (inner (many (more r x .wish)) - inner (many (r .wish))) (dataSteps (stream (more r x .wish)) (510 * (1 + inner (many (r .wish)))) (drop (1 + inner (many (r .wish))) (chainOf (more r x))))
-        (omega (arith, length-data (stream (more r x .wish)) (510 * (1 + inner (many (r .wish)))) (drop (1 + inner (many (r .wish))) (chainOf (more r x))), length-drop (1 + inner (many (r .wish))) (chainOf (more r x)), sectors-some (length (r .wish .body)), sectors-some (length (more r x .wish .body))))
+    (row-else 30 0 (moved d r) (row 19 0 (ltb (free (extra (look d)) (slotsOf (look d))) (many (more r x .wish))))) (piece-long r x d) n
 
 -- the close
 pub close-refused : (r : Recording) (d : List ℕ) (room : ℕ) (n : Refusal) → (closing r d room ≡ stopped n) ↔ RefusesBy d (closeRows d r room) n

@@ -2,7 +2,7 @@
 use native.Mathlib.Omega.{arith}
 use denote.Ref.{now}
 use Rattle.slots.specs.Slot.{sectorsFor}
-use Rattle.record_add.proofs.Grown.{last-le, goes-on, begins-in, begins}
+use Rattle.record_add.proofs.Longer.{last-le, goes-on, begins-in, begins}
 use borrow.Author.Needs.{needs}
 use Rattle.record_add.proofs.grown_last.Statement.{statement}
 use Rattle.record_add.proofs.grown_last.Tie as tie

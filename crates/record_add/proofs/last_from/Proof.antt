@@ -1,6 +1,6 @@
 -- `record_add::last_from` meets its contract: in the first sector the body begins behind the header.
 use mathlib.Core.Path.{refl}
-use Rattle.record_add.proofs.Grown.{last-first, last-later}
+use Rattle.record_add.proofs.Longer.{last-first, last-later}
 use borrow.Author.Needs.{needs}
 use Rattle.record_add.proofs.last_from.Statement.{statement}
 use Rattle.record_add.proofs.last_from.Tie as tie
