@@ -11,7 +11,7 @@ use Rattle.buffers.proofs.Lists.{put-append, put-over, part-put}
 use Rattle.geometry.specs.Disk.{bitNumber}
 use Rattle.directory.specs.Places.{slots}
 use Rattle.disk.specs.Look.{Look, look}
-use Rattle.steps.specs.Steps.{enact}
+use Rattle.steps.specs.Steps.{Step, enact}
 use Rattle.steps.proofs.Steps.{enact-append}
 use Rattle.plans.specs.Change.{Wish}
 use Rattle.plans.specs.Saving.{stream, chained, mapWith, newSlot}
@@ -33,24 +33,30 @@ module _ (s : Start) (name exec info body : List ℕ) where
   abbrev w : Wish
   w = wishFor s name exec info body
 
-  -- the data sectors, and then the directory's part
-  pub file-written : (old : Bool) (i : ℕ) (bs d : List ℕ) → 256 ≤ length d → Writable i old s body bs → {map slot head d′ d″ : List ℕ} {first : Link} → map ≡ mapWith bs
-      → first ≡ linkTo bs → slot ≡ slotOf d i s name exec info (length body) (length bs) first map → head ≡ header s (length body)
-      → d′ ≡ enact d (dataSteps (head ++ body) 0 bs) → d″ ≡ filed old i slot d′ → d″ ≡ enact d (saveSteps old (look d) i w bs)
-  file-written old i bs d long k {map} {slot} {head} {d′} em el es eh p r =
+  -- steps that write data, and then the directory's part
+  pub steps-filed : (old : Bool) (i : ℕ) (bs d : List ℕ) → 256 ≤ length d → Writable i old s body bs → {map slot : List ℕ} {first : Link} → map ≡ mapWith bs
+      → first ≡ linkTo bs → slot ≡ slotOf d i s name exec info (length body) (length bs) first map
+      → (sts : List (Step Look)) {d′ d″ : List ℕ} → d′ ≡ enact d sts → d″ ≡ filed old i slot d′ → (sec : ℕ → List ℕ)
+      → d″ ≡ enact d (sts ++ slotSteps old (look d) i (newSlot (look d .label) i w bs) sec)
+  steps-filed old i bs d long k {map} {slot} em el es sts p r sec =
       let few : length bs < 65536 = omega (arith, k .bits .few) in
       let new : slot ≡ newSlot (look d .label) i w bs =
       es ∙ ap₂ (λ (l : Link) (m : List ℕ). slotOf d i s name exec info (length body) (length bs) l m) el em ∙ slot-new d i w bs long (k .plain) few in
-      let data′ : d′ ≡ enact d (dataSteps (stream w) 0 bs) =
-      p ∙ ap (λ (st : List ℕ). enact d (dataSteps st 0 bs)) (ap (λ (x : List ℕ). x ++ body) eh ∙ stream-is w (k .plain)) in
-      r ∙ ap₂ (filed old i) new data′
-      ∙ filed-enact old i (k .slot) (k .next) (newSlot (look d .label) i w bs) (enact d (dataSteps (stream w) 0 bs)) (look d) (chained (stream w) 0 bs)
-      ∙ sym (enact-append (dataSteps (stream w) 0 bs) (slotSteps old (look d) i (newSlot (look d .label) i w bs) (chained (stream w) 0 bs)) d)
+      r ∙ ap₂ (filed old i) new p ∙ filed-enact old i (k .slot) (k .next) (newSlot (look d .label) i w bs) (enact d sts) (look d) sec
+      ∙ sym (enact-append sts (slotSteps old (look d) i (newSlot (look d .label) i w bs) sec) d)
+
+  -- the data sectors of its chain
+  pub file-written : (old : Bool) (i : ℕ) (bs d : List ℕ) → 256 ≤ length d → Writable i old s body bs → {map slot head d′ d″ : List ℕ} {first : Link} → map ≡ mapWith bs
+      → first ≡ linkTo bs → slot ≡ slotOf d i s name exec info (length body) (length bs) first map → head ≡ header s (length body)
+      → d′ ≡ enact d (dataSteps (head ++ body) 0 bs) → d″ ≡ filed old i slot d′ → d″ ≡ enact d (saveSteps old (look d) i w bs)
+  file-written old i bs d long k em el es eh p r =
+      steps-filed old i bs d long k em el es (dataSteps (stream w) 0 bs)
+      (p ∙ ap (λ (st : List ℕ). enact d (dataSteps st 0 bs)) (ap (λ (x : List ℕ). x ++ body) eh ∙ stream-is w (k .plain))) r (chained (stream w) 0 bs)
 
 -- ---- the list
 
 -- the bits at its front
-bits-front : (buf bs l : List ℕ) (n : ℕ) → length bs ≡ n → n ≤ length buf → l ≡ put buf 0 bs → take n l ≡ bs
+pub bits-front : (buf bs l : List ℕ) (n : ℕ) → length bs ≡ n → n ≤ length buf → l ≡ put buf 0 bs → take n l ≡ bs
 unfolding part
 bits-front buf bs l n e h p =
     ap₂ (λ (k : ℕ) (x : List ℕ). take k x) (sym e) p ∙ part-put buf 0 bs (omega arith)
