@@ -94,27 +94,28 @@ mild-closing r d room = mild-settled (checkDisk d) d 4 (closePlan d r) (λ e. mi
 
 -- ---- the calls below
 
-module _ (k : Record) (x d b xs : List ℕ) (n : ℕ) (room : n ≡ min (length b / 2) (length xs)) (enough : 1558 ≤ length xs) where
-  adding-same : adding (recordingOf k) x d (min (length b / 2) (length xs)) ≡ adding (recordingOf k) x d (length b / 2)
+module _ (k : Record) (x d xs : List ℕ) (n r : ℕ) (room : n ≡ min r (length xs)) (enough : 1558 ≤ length xs) where
+  adding-same : adding (recordingOf k) x d (min r (length xs)) ≡ adding (recordingOf k) x d r
   unfolding adding
-  adding-same = same-settled (checkDisk d) d 1558 (piecePlan d (recordingOf k) x) (λ e. mild-piece d (recordingOf k) x) (length b / 2) (length xs) enough
+  adding-same = same-settled (checkDisk d) d 1558 (piecePlan d (recordingOf k) x) (λ e. mild-piece d (recordingOf k) x) r (length xs) enough
 
-  adding-fits : (m : ℕ) (new ss : List ℕ) → adding (recordingOf k) x d m ≡ made new ss → length ss ≤ m
-  unfolding adding
-  adding-fits m new ss e = made-of d (piecePlan d (recordingOf k) x) m new ss e .fits
-
-  pub added-record : (q : Record) → q ≡ addedRecord k x d (length (take n xs)) → q ≡ addedRecord k x d (length b / 2)
+  pub added-record : (q : Record) → q ≡ addedRecord k x d (length (take n xs)) → q ≡ addedRecord k x d r
   unfolding addedRecord
-  added-record q e = e ∙ ap (recordBy k x) (lent-same (adding (recordingOf k) x d) d b xs n room adding-same)
+  added-record q e = e ∙ ap (recordBy k x) (lent-same (adding (recordingOf k) x d) xs n r room adding-same)
 
+adding-fits : (k : Record) (x d : List ℕ) (m : ℕ) (new ss : List ℕ) → adding (recordingOf k) x d m ≡ made new ss → length ss ≤ m
+unfolding adding
+adding-fits k x d m new ss e = made-of d (piecePlan d (recordingOf k) x) m new ss e .fits
+
+module _ (k : Record) (x d b xs : List ℕ) (n : ℕ) (room : n ≡ min (length b / 2) (length xs)) (enough : 1558 ≤ length xs) where
   module _ (o : Outcome) (d′ ys : List ℕ) (e : changed o d′ ys ≡ added k x d (take n xs)) where
     pub added-counted : Counted o (ys ++ drop n xs) b
     unfolding added
-    added-counted = lent-counted (adding (recordingOf k) x d) d b xs n room adding-same adding-fits o d′ ys e
+    added-counted = lent-counted (adding (recordingOf k) x d) d b xs n room (adding-same k x d xs n (length b / 2) room enough) (adding-fits k x d) o d′ ys e
 
     pub added-is : (p : Outcome) → p ≡ o → (b′ : List ℕ) → b′ ≡ put b 0 (inBytes (take (valueIn o) (ys ++ drop n xs))) → changed p d′ b′ ≡ asking (piece (recordingOf k) x) d b
     unfolding added
-    added-is = lent-is (adding (recordingOf k) x d) d b xs n room adding-same adding-fits o d′ ys e
+    added-is = lent-is (adding (recordingOf k) x d) d b xs n room (adding-same k x d xs n (length b / 2) room enough) (adding-fits k x d) o d′ ys e
 
 module _ (k : Record) (d b xs : List ℕ) (n : ℕ) (room : n ≡ min (length b / 2) (length xs)) (enough : 4 ≤ length xs) where
   closing-same : closing (recordingOf k) d (min (length b / 2) (length xs)) ≡ closing (recordingOf k) d (length b / 2)

@@ -42,7 +42,7 @@ use Rattle.record_calls.specs.Held.{Holds, Opens, Adds, Ends, Ours, open
 not-short : (b : List ℕ) → recordBytes ≤ length b → short b ≡ none
 not-short b h = rw (le-ltb (length b) 2048 h)
 
-lent-is : (d b : List ℕ) (y : Result) → recordBytes ≤ length b → lent d b (checked (checkDisk d) y) ≡ checked (checkDisk d) y
+pub lent-is : (d b : List ℕ) (y : Result) → recordBytes ≤ length b → lent d b (checked (checkDisk d) y) ≡ checked (checkDisk d) y
 lent-is d b y h = ap (λ (s : Reply). checked (checkDisk d else s) (checked (checkDisk d) y)) (not-short b h) ∙ by (checkDisk d)
   where
     by : (q : Reply) → checked (q else none) (checked q y) ≡ checked q y

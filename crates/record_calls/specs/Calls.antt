@@ -13,6 +13,7 @@ use Rattle.plans.specs.Plan.{Result, stopped, made, checked, Changed}
 use Rattle.recordings.specs.Recording.{adding, closing}
 use Rattle.recordings.specs.Record.{recordingOf, freshRecord, grown}
 use Rattle.recordings.specs.Calls.{openingReply}
+use Rattle.recordings.specs.declared.Record.{Record}
 use Rattle.record_bytes.specs.Layout.{recordBytes, recordIn, bytesOf, grownIn}
 use Rattle.bytelists.specs.Lists.{inBytes, changingBy}
 
@@ -37,6 +38,11 @@ pub record Pieced : Type 0 where
 
 abbrev pub pieced : Outcome → List ℕ → List ℕ → List ℕ → Pieced
 pieced o d b l = record { outcome = o; image = d; kept = b; list = l }
+
+-- the record's bytes b, with what a piece changed where it was accepted
+abbrev pub keptBy : Outcome → Record → List ℕ → List ℕ
+keptBy (done n f) k b = grownIn b k
+keptBy (refused r) k b = b
 
 -- "Refusals, the recording then as before"
 abbrev pub pieceBy : Result → List ℕ → List ℕ → List ℕ → List ℕ → Pieced
