@@ -14,14 +14,14 @@ use Rattle.buffers.proofs.Lists.{below-or-not, past-end, length-tab, getD-tab, 
 use Rattle.geometry.specs.Disk.{bitNumber, bitPlace, placeOrEnd}
 use Rattle.geometry.proofs.Laws.{place-or-end}
 use Rattle.slots.specs.Slot.{sectorsFor}
-use Rattle.slots.proofs.Least.{sectors-some, sectors-least}
+use Rattle.slots.proofs.Least.{sectors-least}
 use Rattle.steps.specs.Steps.{putAll, enact, numbers}
 use Rattle.plans.specs.Change.{Wish}
 use Rattle.plans.specs.Accepted.{many}
 use Rattle.plans.specs.Saving.{stream, block, nextTrack, nextSector}
 use Rattle.plans.proofs.Blocks.{blocks}
 use Rattle.payloads.specs.declared.Link.{Link}
-use Rattle.payloads.specs.Sector.{startOf, Plain, header, linked, linkOf, linkTo}
+use Rattle.payloads.specs.Sector.{startOf, Plain, header, linkOf, linkTo}
 use Rattle.payloads.proofs.Links.{stream-is, to-some}
 use Rattle.payloads.proofs.Runs.{getD-right}
 use Rattle.recordings.specs.declared.Record.{Record}
@@ -29,7 +29,7 @@ use Rattle.recordings.specs.Record.{lastFrom, keptByte, recordingOf}
 use Rattle.recordings.specs.Recording.{closeData}
 use Rattle.recordings.proofs.Straight.{block-shift, stream-body}
 use Rattle.recordings.proofs.Close.{one-sector, two-sectors}
-use Rattle.record_close.specs.Close.{wishOf, ends, endNumbers, Chained}
+use Rattle.record_close.specs.Close.{wishOf, ends, endNumbers}
 
 -- ---- the bytes that the record keeps
 

@@ -1,5 +1,5 @@
 -- The plan of a close on an accepted disk, by the tests that led there, and what the writing is then entered with.
-use Prim.Native.Nat.{ℕ, suc, _+_, _≤_, _<_}
+use Prim.Native.Nat.{ℕ, _+_, _/_, _≤_, _<_, min}
 use mathlib.Core.Path.{_≡_, refl, sym, ap, ap₂, _∙_, subst}
 use mathlib.Core.Bool.{Bool, true, false}
 use mathlib.Core.List.{List}
@@ -14,15 +14,16 @@ use Rattle.slots.proofs.Least.{sectors-some}
 use Rattle.directory.specs.Directory.{held, Directory, tracksOf, directory}
 use Rattle.surveys.specs.Survey.{freeOf}
 use Rattle.surveys.specs.declared.UsedMap.{UsedMap}
-use Rattle.disk.specs.Look.{Look, look}
+use Rattle.disk.specs.Look.{Look}
 use Rattle.disk.specs.Check.{checkDisk}
 use Rattle.disk.proofs.Look.{look-slots, look-extra}
 use Rattle.disk.proofs.Examined.{accepted-size}
 use Rattle.files.specs.Calls.{at, barred}
+use Rattle.files.specs.Steps.{Accepted}
 use Rattle.steps.specs.Steps.{Step, numbers}
 use Rattle.plans.specs.Change.{Wish}
 use Rattle.plans.specs.Accepted.{many}
-use Rattle.plans.specs.Saving.{taken, slotTaken}
+use Rattle.plans.specs.Saving.{slotTaken}
 use Rattle.plans.specs.Plan.{Plan, no, go, orNo, saveReply, oldName, dirSectors, changed}
 use Rattle.changes.specs.Settled.{Made, settled}
 use Rattle.changes.proofs.Laws.{settled-no, settled-short, settled-done}
@@ -31,15 +32,23 @@ use Rattle.taking.specs.Taken.{slotFor, shutMap, lowest}
 use Rattle.payloads.specs.Sector.{startOf}
 use Rattle.filing.specs.Filed.{dirsOf}
 use Rattle.saves.specs.Write.{Open as Free}
-use Rattle.saves.proofs.Planned.{reply-barred, taken-at, taken-is, reply-at, large-few, ec, none-left, long, shut-writable, slot-few, next-few}
+use Rattle.saves.proofs.Planned.{reply-barred, taken-at, reply-at, large-few, ec, none-left, long, shut-writable}
 use Rattle.recordings.specs.declared.Record.{Record}
 use Rattle.recordings.specs.Record.{recordingOf}
 use Rattle.recordings.specs.Recording.{Recording, chainOf, moved, closeSteps, closePlan, closing}
 use Rattle.recordings.specs.Calls.{closed}
-use Rattle.recordings.proofs.Piece.{still, chain-taken}
+use Rattle.links.specs.declared.Trail.{Trail}
+use Rattle.links.specs.declared.Trail.the-variants.{Lost, On}
+use Rattle.links.specs.Trail.{trailIn}
+use Rattle.links.proofs.Followed.{chain-is, lost-moved, on-still}
 use Rattle.record_close.specs.Close.{wishOf, ends, Closing, Stays, Open}
 use Rattle.record_close.proofs.Ends.{body-long}
 use Rattle.record_close.proofs.Whole.{close-long}
+
+-- no disk has more sectors than 1,560
+sectors-capped : (l x : ℕ) → x ≡ min l 795592 → (n : ℕ) → n ≡ sectorsFor l → min ((x + 518) / 510) 1560 ≡ min n 1560
+unfolding sectorsFor
+sectors-capped l x e n q = omega arith
 
 -- ---- a close is settled by its plan, once the disk is accepted
 
@@ -57,6 +66,21 @@ module _ (k : Record) (d buf : List ℕ) where
   unfolding closePlan
   closed-moved a m x e = settled-no d buf (refuse 30 0) x e ∙ closed-planned a (no (refuse 30 0)) (rw m)
 
+-- by the trail of its sectors, whose number is not reckoned past 1,561
+module _ (k : Record) (d : List ℕ) (u : UsedMap) (a : Accepted d u) (x : ℕ) (ex : x ≡ min (k .long) 795592) (t : Trail) (et : t ≡ trailIn d u (k .used) (k .tracks) ((x + 518) / 510)) where
+  counted : min ((x + 518) / 510) 1560 ≡ min (many (wishOf k)) 1560
+  counted = sectors-capped (k .long) x ex (many (wishOf k)) (ap sectorsFor (body-long k))
+
+  pub closed-lost : t ≡ Lost → (buf : List ℕ) (o : Outcome) → o ≡ refused (refuse 30 0) → changed o d buf ≡ closed k d buf
+  unfolding recordingOf
+  closed-lost e buf = closed-moved k d buf (a .accepted) (lost-moved d u a (recordingOf k) ((x + 518) / 510) counted (sym et ∙ e))
+
+  pub stays-on : (b : ℕ) → t ≡ On b → Stays d u k
+  unfolding recordingOf
+  stays-on b e =
+      let l = on-still d u a (recordingOf k) ((x + 518) / 510) counted b (sym et ∙ e) in
+      record { disk = a; still = l .still; chain = chain-is d u a (recordingOf k) (many (wishOf k)) refl (l .used) (l .tracks) }
+
 -- where the recording is not moved, by what a save refuses
 plan-is : (d : List ℕ) (r : Recording) → moved d r ≡ false → (q : Reply) → saveReply (tracksOf d) (directory d) (r .wish) ≡ q
     → closePlan d r ≡ orNo q (go (closeSteps (oldName d (slotTaken (tracksOf d) (directory d))) d (slotTaken (tracksOf d) (directory d)) (r .wish) (chainOf r)))
@@ -64,13 +88,6 @@ unfolding closePlan
 plan-is d r m q e =
     ap₂ (λ (n : ℕ) (v : Directory). orNo (row 30 0 (moved d r) else saveReply n v (r .wish)) (go (closeSteps (oldName d (slotTaken n v)) d (slotTaken n v) (r .wish) (chainOf r)))) (look-extra d) (look-slots d)
     ∙ ap₂ (λ (t : Bool) (q : Reply). orNo (row 30 0 t else q) (go (closeSteps (oldName d (slotTaken (tracksOf d) (directory d))) d (slotTaken (tracksOf d) (directory d)) (r .wish) (chainOf r)))) m e
-
--- its chain is what a save would take
-chain-is : (d : List ℕ) (u : UsedMap) (k : Record) → Stays d u k → chainOf (recordingOf k) ≡ lowest (shutMap u) (many (wishOf k))
-chain-is d u k s =
-    let t = still d (recordingOf k) (s .still) in
-    chain-taken d (recordingOf k) (t .used) (t .tracks) ∙ ap₂ (λ (n : ℕ) (v : Directory). taken n v (wishOf k)) (look-extra d) (look-slots d)
-    ∙ sym (taken-is d u (s .disk) (wishOf k))
 
 -- what bars the slot, and the slot that it takes
 module _ (k : Record) (d : List ℕ) (u : UsedMap) (w : Stays d u k) (s : Start) (es : s ≡ startOf (wishOf k)) where
@@ -128,7 +145,7 @@ module _ (d : List ℕ) (u : UsedMap) (i : ℕ) (k : Record) (buf : List ℕ) (o
     plan-go =
         plan-is d (recordingOf k) (o .stays .still) none (none-left d u i (startOf w) (w .name) (w .exec) (w .info) (w .body) buf free f e n is-many h old eo c e₂)
         ∙ ap₂ (λ (i : ℕ) (bs : List ℕ). go (closeSteps (oldName d i) d i w bs)) (ap (held 0 (λ i. i)) (taken-at d (startOf w) (w .name) (w .exec) (w .info) (w .body) i (o .place) .1))
-        (chain-is d u k (o .stays) ∙ ap (lowest (shutMap u)) (sym is-many))
+        (o .stays .chain ∙ ap (lowest (shutMap u)) (sym is-many))
         ∙ ap (λ (t : Bool). go (closeSteps t d i w (lowest (shutMap u) n))) (sym eo)
 
     named : length (numbers steps) ≡ z + c

@@ -16,7 +16,7 @@ use Rattle.steps.specs.Steps.{enact, numbers}
 use Rattle.steps.proofs.Steps.{numbers-append}
 use Rattle.plans.specs.Change.{Wish}
 use Rattle.plans.specs.Saving.{mapWith, newSlot}
-use Rattle.plans.specs.Plan.{dirSectors, slotSteps}
+use Rattle.plans.specs.Plan.{dirSectors}
 use Rattle.plans.proofs.Ended.{dir-numbers}
 use Rattle.changes.specs.Settled.{Made}
 use Rattle.taking.specs.declared.Start.{Start}

@@ -1,23 +1,22 @@
 -- What the steps of a recording's close are entered with, and the sectors of data that it names.
-use Prim.Native.Nat.{ℕ, suc, _+_, _-_, _≤_, _<_}
+use Prim.Native.Nat.{ℕ, _+_, _-_, _≤_}
 use mathlib.Core.Path.{_≡_}
-use mathlib.Core.Bool.{Bool, true, false, cond}
+use mathlib.Core.Bool.{Bool, false, cond}
 use mathlib.Core.List.{List, [], _∷_}
 use lib.Dec.{ltb}
 use lib.ListN.{length, getD}
 use Rattle.geometry.specs.Disk.{bitNumber}
-use Rattle.directory.specs.Places.{slots}
 use Rattle.surveys.specs.declared.UsedMap.{UsedMap}
 use Rattle.files.specs.Calls.{at}
 use Rattle.files.specs.Steps.{Accepted}
 use Rattle.plans.specs.Change.{Wish}
 use Rattle.plans.specs.Plan.{dirSectors}
 use Rattle.plans.specs.Accepted.{many}
-use Rattle.taking.specs.Taken.{slotFor, lowest}
+use Rattle.taking.specs.Taken.{slotFor, shutMap, lowest}
 use Rattle.payloads.specs.Sector.{startOf, Plain}
 use Rattle.saves.specs.Write.{Bits, Writable}
 use Rattle.recordings.specs.declared.Record.{Record}
-use Rattle.recordings.specs.Recording.{moved}
+use Rattle.recordings.specs.Recording.{chainOf, moved}
 use Rattle.recordings.specs.Record.{recordingOf}
 
 -- the save that a record stands for
@@ -54,6 +53,8 @@ pub record Closing (m : List ℕ) (n i : ℕ) (old : Bool) (k : Record) (list : 
 pub record Stays (d : List ℕ) (u : UsedMap) (k : Record) : Type 0 where
   pub disk : Accepted d u
   pub still : moved d (recordingOf k) ≡ false
+  -- its chain is what a save would take there
+  pub chain : chainOf (recordingOf k) ≡ lowest (shutMap u) (many (wishOf k))
 
 -- and the slot that the close takes there
 pub record Open (d : List ℕ) (u : UsedMap) (i : ℕ) (k : Record) : Type 0 where

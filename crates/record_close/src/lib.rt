@@ -18,6 +18,7 @@ ghost use Rattle.recordings.specs.Recording.{closeData, closeSteps};
 ghost use Rattle.recordings.specs.Calls.{closed};
 ghost use Rattle.record_close.specs.Close.{wishOf, ends, endNumbers, Chained, Closable, Closing, Stays, Open};
 use files::Lookup;
+use links::Trail;
 use payloads::Link;
 use recordings::Record;
 use refusals::Answer;
@@ -205,5 +206,27 @@ fn close_still(image: &mut [u8], used: UsedMap, kept: Record, list: &mut [u16]) 
     match taking::slot_for(image, start_of(kept), &name) {
         Lookup::Barred(r) => Answer::No(r),
         Lookup::At(i) => close_at(image, used, i, kept, list),
+    }
+}
+
+// Closes a recording: the image changes, the front of `list` gets the numbers of the sectors in the order of writing, and the
+// answer says how many. A refused close changes nothing.
+pub fn close(image: &mut [u8], kept: Record, list: &mut [u16]) -> Answer
+    ensures { λ r. ⌜ changed (outcomeOf r) (now (image .exit)) (now (list .exit)) ≡ closed kept (now (image .entry)) (now (list .entry)) ⌝ }
+{
+    let found = disk::examine(image);
+    let verdict = found.verdict;
+    match verdict {
+        Verdict::Unsound(r) => Answer::No(r),
+        Verdict::Sound => {
+            let used = found.used;
+            let was = kept.used;
+            // No disk holds more sectors than 1,560, and past the largest number they could not be counted.
+            let n = (buffers::lesser(kept.long, 795592) + 518) / 510;
+            match links::follow(image, used, &was, kept.tracks, n) {
+                Trail::Lost => refusals::no(Reason::RecordingMoved, 0),
+                Trail::On(_) => close_still(image, used, kept, list),
+            }
+        }
     }
 }

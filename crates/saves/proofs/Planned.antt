@@ -115,7 +115,7 @@ pub free-le : (u : UsedMap) → freeOf u ≤ 1560
 unfolding freeOf
 free-le u = omega (arith, data-few (u .tracks))
 
-pub taken-is : (d : List ℕ) (u : UsedMap) → Accepted d u → (v : Wish) → lowest (shutMap u) (sectorsFor (length (v .body))) ≡ taken (tracksOf d) (directory d) v
+taken-is : (d : List ℕ) (u : UsedMap) → Accepted d u → (v : Wish) → lowest (shutMap u) (sectorsFor (length (v .body))) ≡ taken (tracksOf d) (directory d) v
 unfolding taken lowest usedMap
 taken-is d u a v =
     ap (take (sectorsFor (length (v .body))))
@@ -155,10 +155,10 @@ module _ (d : List ℕ) (u : UsedMap) (i : ℕ) (s : Start) (name exec info body
 
   -- c: how many sectors of the directory
   module _ (n : ℕ) (m : n ≡ sectorsFor (length body)) (h : n ≤ f) (old : Bool) (eo : old ≡ oldName d i) (c : ℕ) (e₂ : c ≡ length (dirsOf old i)) where
-    pub slot-few : i < slots
+    slot-few : i < slots
     slot-few = place-few d s name exec info body i (o .place)
 
-    pub next-few : old ≡ true → suc i < slots
+    next-few : old ≡ true → suc i < slots
     next-few q = omega (arith, old-is d i (sym eo ∙ q) .1, slots-few d)
 
     pub ec : c ≡ length (dirSectors old i)
