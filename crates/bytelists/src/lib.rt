@@ -16,7 +16,7 @@ ghost use Rattle.bytelists.specs.Lists.{inBytes, Returns, Counted};
 ghost use Rattle.bytelists.specs.Trees.{treeingBytes};
 ghost use Rattle.handfuls.specs.Handful.{erased};
 ghost use Rattle.bytelists.specs.Handfuls.{erasing, asking};
-ghost use Rattle.handfuls.specs.Parts.{piece};
+ghost use Rattle.handfuls.specs.Parts.{piece, close};
 ghost use Rattle.plans.specs.Plan.{changed};
 ghost use Rattle.recordings.specs.Record.{recordingOf};
 ghost use Rattle.recordings.specs.Calls.{addedRecord};
@@ -209,4 +209,14 @@ pub fn add_piece(image: &mut [u8], kept: Record, bytes: &[u8], list: &mut [u8]) 
     let answer = added.answer;
     put_counted(answer, &numbers, list);
     added
+}
+
+// Closes a recording: how many sectors, and their numbers to the front of the list.
+pub fn close(image: &mut [u8], kept: Record, list: &mut [u8]) -> Answer
+    ensures { λ r. ⌜ changed (outcomeOf r) (now (image .exit)) (now (list .exit)) ≡ asking (close (recordingOf kept)) (now (image .entry)) (now (list .entry)) ⌝ }
+{
+    let mut numbers = [0u16; 4];
+    let room = buffers::lesser(list.len() / 2, 4);
+    let closed = record_close::close(image, kept, &mut numbers[..room]);
+    put_counted(closed, &numbers, list)
 }

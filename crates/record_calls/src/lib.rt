@@ -77,3 +77,14 @@ pub fn add(image: &mut [u8], piece: &[u8], kept: &mut [u8], list: &mut [u8]) -> 
     let grown = added.record;
     keep(answer, grown, kept)
 }
+
+// Closes the recording whose record `kept` is: how many sectors, and their numbers to the front of the list.
+pub fn close(image: &mut [u8], kept: &[u8], list: &mut [u8]) -> Answer
+    ensures { λ r. ⌜ changed (outcomeOf r) (now (image .exit)) (now (list .exit)) ≡ closeBytes (now (image .entry)) (now (kept .entry)) (now (list .entry)) ⌝ }
+{
+    if kept.len() < record_bytes::RECORD_BYTES {
+        return too_short(image);
+    }
+    let held = record_bytes::record_in(kept);
+    bytelists::close(image, held, list)
+}
