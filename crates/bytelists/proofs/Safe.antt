@@ -49,7 +49,7 @@ asking-is (handful ns abuf) d b = by (runMany ns d (length abuf) (length b / 2))
 module _ (a : Ask) (d b : List ℕ) where
   -- what holds of the new disk and the sectors named, holds where the call answers how many of the image at return and the first
   -- so many numbers of the list at return
-  call-of : (P : List ℕ → List ℕ → Type 0) → ((new ss : List ℕ) → ran a d (length b / 2) ≡ made new ss → P new ss) → (n f : ℕ) → asking a d b .outcome ≡ done n f
+  pub call-of : (P : List ℕ → List ℕ → Type 0) → ((new ss : List ℕ) → ran a d (length b / 2) ≡ made new ss → P new ss) → (n f : ℕ) → asking a d b .outcome ≡ done n f
       → P (asking a d b .image) (take n (numbersIn (asking a d b .list)))
   call-of P h n f e =
       subst (λ (x : Changed). P (x .image) (take n (numbersIn (x .list)))) (sym (asking-is a d b))

@@ -84,7 +84,6 @@ ran-room (single c) d room new ss e = let r = run-room c d room new ss e in (r .
 ran-room (handful ns abuf) d room new ss e =
     let g = run-grants d ns (length abuf) room new ss e in
     (g .0 .disk, subst (λ (l : List ℕ). length l ≤ room) (g .2) (g .0 .list))
-
 ran-room (piece r x) d room new ss e = let m = made-of d (piecePlan d r x) room new ss e in (m .accepted, m .fits)
 ran-room (close r) d room new ss e = let m = made-of d (closePlan d r) room new ss e in (m .accepted, m .fits)
 

@@ -96,8 +96,8 @@ released-of d ok new ss finds s unseen after k h =
     release-exactly (cut d new ss k) .1 (
       s .accepts k h,
       ⊎-elim (λ (q : k ≡ length ss). subst (λ (x : List ℕ). Lean (look x)) (sym (ap (cut d new ss) q ∙ s .whole)) after)
-      (λ (q : k < length ss). subst Lean (sym (unseen k q)) (release-exactly d .0 ok .1))
-      (eq-or-lt-of-le h),
+          (λ (q : k < length ss). subst Lean (sym (unseen k q)) (release-exactly d .0 ok .1))
+          (eq-or-lt-of-le h),
     )
 
 -- ---- every change

@@ -236,7 +236,7 @@ module _ (k : Record) (r : Recording) (h : StandsFor k r) where
 
 -- ---- every recording of our calls
 
-opened-held : (w : Wish) (d : List ℕ) → usable (w .name) ≡ true → StandsFor (freshRecord w (look d)) (begin w (look d))
+pub opened-held : (w : Wish) (d : List ℕ) → usable (w .name) ≡ true → StandsFor (freshRecord w (look d)) (begin w (look d))
 unfolding freshRecord
 opened-held w d u = record {
   kind = refl;

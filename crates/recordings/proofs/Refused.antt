@@ -42,7 +42,7 @@ use Rattle.recordings.proofs.Close.{one-sector, two-sectors}
 
 -- ---- the first of some rows
 
-first-join : (xs ys : List SlotRow) → firstRow (xs ++ ys) ≡ (firstRow xs else firstRow ys)
+pub first-join : (xs ys : List SlotRow) → firstRow (xs ++ ys) ≡ (firstRow xs else firstRow ys)
 first-join [] ys = refl
 first-join (x ∷ xs) ys = by (x .holds) (first-join xs ys)
   where
@@ -140,7 +140,7 @@ open-refused w d n = (λ e. to (checkDisk d) refl e, from)
     from (by-row c f) = rw (c, save-rows (look d) (withBody w []) ∙ first-row (openRows (look d) w) n f) refl
 
 -- how many sectors: of a list of data steps as many as bits, of a close one or two and the directory's
-length-data : (st : List ℕ) (f : ℕ) (bs : List ℕ) → length (dataSteps st f bs) ≡ length bs
+pub length-data : (st : List ℕ) (f : ℕ) (bs : List ℕ) → length (dataSteps st f bs) ≡ length bs
 unfolding dataSteps
 length-data st f [] = refl
 length-data st f (b ∷ bs) = ap suc (length-data st (f + 510) bs)
