@@ -6,19 +6,21 @@ use mathlib.Core.Option.{none, some}
 use borrow.Author.Tests.{lt-ltb, le-ltb}
 use lib.ListN.{length}
 use Rattle.buffers.specs.Bytes.{put}
-use Rattle.refusals.specs.Order.{refuse, Reply, _else_}
-use Rattle.refusals.specs.Answers.{Outcome, done, refused, unless, Out, out, filled, refusalOf}
+use Rattle.refusals.specs.Order.{Refusal, refuse, Reply, _else_}
+use Rattle.refusals.specs.Answers.{Outcome, done, refused, unless, Out, out, filled, outcomeOf}
 use Rattle.refusals.specs.declared.Refused.{Refused}
+use Rattle.refusals.specs.declared.Answer.{Answer}
+use Rattle.refusals.specs.declared.Answer.the-variants.{Done, No}
 use Rattle.disk.specs.Look.{look}
 use Rattle.disk.specs.Check.{checkDisk}
 use Rattle.plans.specs.Change.{Wish}
 use Rattle.plans.specs.Plan.{Result, stopped, made, checked, Changed, changed}
 use Rattle.recordings.specs.Recording.{adding, closing}
-use Rattle.recordings.specs.Record.{recordingOf, recordBy}
+use Rattle.recordings.specs.Record.{recordingOf, freshRecord, recordBy}
 use Rattle.recordings.specs.Calls.{openingReply, recordOr, openedRecord, addedRecord}
 use Rattle.recordings.specs.declared.Record.{Record}
 use Rattle.handfuls.specs.Parts.{piece, close}
-use Rattle.record_bytes.specs.Layout.{recordIn, bytesOf}
+use Rattle.record_bytes.specs.Layout.{recordIn, bytesOf, grownIn}
 use Rattle.bytelists.specs.Lists.{changingBy}
 use Rattle.bytelists.specs.Handfuls.{asking}
 use Rattle.record_calls.specs.Calls.{short, openingBytes, lent, Pieced, pieced, keptBy, pieceBy, pieceBytes, closeBytes}
@@ -27,9 +29,9 @@ use Rattle.record_calls.proofs.Held.{lent-is}
 -- ---- opening
 
 module _ (w : Wish) (d b : List ℕ) where
-  pub opening-barred : (r : Refused) → some (refusalOf r) ≡ openingReply w d → out (refused (refusalOf r)) b ≡ openingBytes w d b
+  pub opening-barred : (n : Refusal) → some n ≡ openingReply w d → out (refused n) b ≡ openingBytes w d b
   unfolding openingBytes
-  opening-barred r e = rw (← e)
+  opening-barred n e = rw (← e)
 
   pub opening-short : none ≡ openingReply w d → length b < 2048 → (o : Outcome) → o ≡ refused (refuse 20 0) → out o b ≡ openingBytes w d b
   unfolding openingBytes
@@ -39,9 +41,16 @@ module _ (w : Wish) (d b : List ℕ) where
       → out (done 0 0) b′ ≡ openingBytes w d b
   unfolding openingBytes openedRecord
   opening-done e h k p b′ q =
-      ap (out (done 0 0)) (q ∙ ap (λ (k : Record). put b 0 (bytesOf k)) (p ∙ ap (λ (q : Reply). recordOr q _) (sym e))) ∙ rw (← e, le-ltb (length b) 2048 h)
+      ap (out (done 0 0)) (q ∙ ap (λ (k : Record). put b 0 (bytesOf k)) (p ∙ ap (λ (q : Reply). recordOr q (freshRecord w (look d))) (sym e))) ∙ rw (← e, le-ltb (length b) 2048 h)
 
 -- ---- a record that is too short
+
+module _ (d : List ℕ) where
+  pub short-barred : (n : Refusal) → checkDisk d ≡ some n → refused n ≡ unless (checkDisk d) (refused (refuse 20 0))
+  short-barred n e = rw e
+
+  pub short-sound : checkDisk d ≡ none → (o : Outcome) → o ≡ refused (refuse 20 0) → o ≡ unless (checkDisk d) (refused (refuse 20 0))
+  short-sound e o p = rw e p
 
 lent-short : (d b : List ℕ) (y : Result) → length b < 2048 → lent d b y ≡ checked (checkDisk d else some (refuse 20 0)) y
 lent-short d b y h = rw (lt-ltb (length b) 2048 h)
@@ -68,6 +77,13 @@ module _ (d b l : List ℕ) (h : length b < 2048) (o : Outcome) (e : o ≡ unles
       by (some r) = refl
 
 -- ---- and of one that is not
+
+module _ (a : Answer) where
+  pub kept-done : (v f : ℕ) → a ≡ Done v f → (q : Record) (b b′ : List ℕ) → b′ ≡ grownIn b q → b′ ≡ keptBy (outcomeOf a) q b
+  kept-done v f e q b b′ p = p ∙ ap (λ (a : Answer). keptBy (outcomeOf a) q b) (sym e)
+
+  pub kept-no : (r : Refused) → a ≡ No r → (q : Record) (b : List ℕ) → b ≡ keptBy (outcomeOf a) q b
+  kept-no r e q b = ap (λ (a : Answer). keptBy (outcomeOf a) q b) (sym e)
 
 module _ (d b l : List ℕ) (h : 2048 ≤ length b) (k : Record) (e : k ≡ recordIn b) where
   pub piece-is : (x : List ℕ) (o : Outcome) (d′ l′ : List ℕ) → changed o d′ l′ ≡ asking (piece (recordingOf k) x) d l → (q : Record) → q ≡ addedRecord k x d (length l / 2)

@@ -293,8 +293,8 @@ pub extern "C" fn varnucht_record_add(
 ) -> u64
     ensures { λ r. ⌜ ReturnsPiece (now (piece .entry)) (now (image .entry)) (now (kept .entry)) (now (list .entry)) r (now (image .exit)) (now (kept .exit)) (now (list .exit)) ⌝ }
 {
-    let added = record_calls::add(image, piece, kept, list);
-    packing::pack(added)
+    let wrote = record_calls::add(image, piece, kept, list);
+    packing::pack(wrote)
 }
 
 // Closes a recording: how many sectors, and their numbers to the front of `list`. The record stays as it is.
