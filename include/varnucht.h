@@ -25,8 +25,8 @@
  * Nothing outside is called but memcpy, memset and their like. On x86-64 a save needs less than 8 KiB of stack, an erase of many
  * less than 5 KiB, a gather less than 3 KiB, every other call less than 2 KiB; but varnucht_tree less than 7 KiB where no more
  * than ten subdirectories lie inside each other, and 96 bytes more for each beyond them: less than 30 KiB on any disk. "Stack:"
- * at a call is x86-64 too. README.md has a table of each call on each target (section 8): on none is it more than 8 KiB, but that
- * varnucht_tree takes up to 41 KiB on iOS and 37 KiB on other phones.
+ * at a call is x86-64's too. README.md has a table of each call on each target (section 8): on none is it 8 KiB, but of varnucht_tree
+ * less than 41 KiB on iOS and less than 37 KiB on other phones.
  *
  * Every call answers one number with four parts, which the functions below take apart:
  *

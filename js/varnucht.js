@@ -219,8 +219,8 @@ function callsOf(exports, memory) {
       const all = slicesOf(name, kinds, given);
       const slices = all.filter((slice) => slice.bytes);
       // What lies in the library's memory is lent where it lies; the rest is copied there.
-      const copied = slices.filter((slice) => slice.bytes.buffer !== memory.buffer);
-      for (const slice of slices) slice.at = copied.includes(slice) ? null : slice.from;
+      const copied = slices.filter((slice) => slice.length > 0 && slice.bytes.buffer !== memory.buffer);
+      for (const slice of slices) slice.at = copied.includes(slice) ? null : slice.length > 0 ? slice.from : 0;
       const top = stack.value;
       try {
         for (const slice of copied) slice.at = memory.take(slice.length);
