@@ -2,7 +2,7 @@
 import assert from 'node:assert/strict';
 import { execFileSync } from 'node:child_process';
 import { readFileSync } from 'node:fs';
-import { signatures, text as header } from '../cross/compare/header.mjs';
+import { refusals, signatures, text as header } from '../cross/compare/header.mjs';
 import * as module from './varnucht.js';
 
 const { IMAGE_LENGTH, Kind, Name, NewName, Refused, Start, WriteError, blank, escape, load, unescape, words } = module;
@@ -55,6 +55,17 @@ const tests = {
           else call(...twice);
         });
       });
+    }
+  },
+
+  'the driver counts what the header says that each call can refuse'() {
+    const lines = readFileSync(`${folder}/said.x86_64`, 'utf8').split('\n').filter((line) => /^[a-z_]+ 0:/.test(line));
+    const counted = new Map(lines.map((line) => line.split(' ')).map(([call, ...rows]) => [call, rows.map((row) => Number(row.split(':')[0]))]));
+    counted.delete('erase_many_of_a_name');
+    const said = refusals(header);
+    assert.deepEqual([...counted.keys()].sort(), signatures(header).map(({ name }) => name).sort());
+    for (const [call, numbers] of counted) {
+      assert.deepEqual(numbers, [0, ...said.get(call)].sort((a, b) => a - b), call);
     }
   },
 
@@ -111,6 +122,7 @@ const tests = {
         } finally {
           WebAssembly.validate = real;
         }
+        await (await load(new URL(`data:application/wasm;base64,${wasm.toString('base64')}`))).check(blank()); // by fetch, as in a page
         await assert.rejects(load('varnucht.wasm'), TypeError);
         await assert.rejects(load(new Uint8Array(8)), WebAssembly.CompileError);
         const empty = new WebAssembly.Module(Uint8Array.of(0, 97, 115, 109, 1, 0, 0, 0));
@@ -247,6 +259,15 @@ const tests = {
     // What fits is the library's to refuse: a body of 100 MB, after which the memory is greater and the disk still there.
     refused(19, null, () => disk.save(code('A', new Uint8Array(100_000_000))));
     assert.deepEqual(disk.image, sample);
+  },
+
+  'a call that the engine gives up leaves the library whole'() {
+    const disk = varnucht.open(sample);
+    const deeper = () => { disk.checkRelease(); deeper(); };
+    for (let i = 0; i < 3; i++) assert.throws(deeper, RangeError);
+    assert.deepEqual(disk.image, sample);
+    assert.equal(disk.tree().length, disk.listing.entries.length);
+    disk.close();
   },
 
   'places in the memory are apart and come back'() {

@@ -19,3 +19,22 @@ export function signatures(header) {
     return { name, js: name.replace(/_([a-z])/g, (_, letter) => letter.toUpperCase()), kinds };
   });
 }
+
+// What the header says that each call can refuse: the numbers behind "Refusals:" in the comment above it. Calls that stand together
+// share one. 3 is given no more.
+export function refusals(header) {
+  const said = new Map();
+  let numbers;
+  for (const [, comment, call] of header.matchAll(/\/\*([^]*?)\*\/|^uint64_t varnucht_(\w+)\(/gm)) {
+    if (call !== undefined) {
+      said.set(call, numbers);
+      continue;
+    }
+    const sentence = /Refusals: ([^.]*)\./.exec(comment.replace(/\n \*/g, ' ').replace(/\s+/g, ' '))?.[1];
+    if (sentence === undefined) continue;
+    const plain = sentence.replace(/\([^)]*\)/g, '').replace('1 to 11', '1, 2, 4, 5, 6, 7, 8, 9, 10, 11');
+    const written = [...plain.matchAll(/\d+(,\d{3})*/g)].map(([number]) => number);
+    numbers = [...new Set(written.filter((number) => !number.includes(',')).map(Number))];
+  }
+  return said;
+}
