@@ -12,7 +12,8 @@
  *
  * A slice is a pointer and then its length in bytes. It may have any length and any content: every call on every input ends
  * and answers. NULL with length 0 is an empty slice. A length has 64 bits on every machine (varnucht_length), also where size_t
- * has 32: C widens a size_t by itself, and whoever declares these calls in another language must declare 64 bits.
+ * has 32: C widens a size_t by itself, and whoever declares these calls in another language must declare 64 bits. Where pointers
+ * have 32 bits no slice may be longer than 2^31 - 1 bytes, as no object of C is there.
  *
  * A slice with a `const` pointer is only read. A slice without one (`out`, `slots`, `answers`, `list`, the `image` of a
  * change) may be changed, and must not overlap any other slice of the same call. Slices that are only read may overlap each

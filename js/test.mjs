@@ -248,11 +248,12 @@ const tests = {
     const size = own.memory.buffer.byteLength;
     const huge = new Uint8Array(2 ** 32 - 1); // of zeros that nobody touches
     assert.throws(() => own.check(huge), RangeError);
-    assert.throws(() => own.calls.check(huge.subarray(0, 2 ** 32 - 65536)), RangeError);
+    assert.throws(() => own.calls.check(huge.subarray(0, 2 ** 31)), RangeError);
+    assert.throws(() => own.calls.eraseMany(disk.image, huge.subarray(0, 2 ** 31), huge.subarray(2 ** 31), new Uint8Array(2)), RangeError);
     assert.throws(() => own.calls.list(disk.image, huge), RangeError);
     assert.throws(() => disk.save(code('A', huge)), RangeError);
     assert.throws(() => disk.reader('TUNES').read(huge), RangeError);
-    assert.throws(() => own.memory.take(2 ** 33), RangeError);
+    for (const length of [2 ** 32 - 65536, 2 ** 32, 2 ** 33]) assert.throws(() => own.memory.take(length), RangeError);
     assert.ok(own.memory.buffer.byteLength <= size + 2 ** 21);
     assert.deepEqual(disk.image, sample);
     assert.equal(disk.read('TUNES').length, 10000);

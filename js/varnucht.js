@@ -169,6 +169,9 @@ const CALLS = {
   gather: [LENT, READ, LENT],
 };
 
+// In a memory of 32 bits no slice is longer: varnucht.h says so, since the compiler counts on it.
+const LONGEST = 2 ** 31 - 1;
+
 const exportOf = (name) => `varnucht_${name.replace(/[A-Z]/g, (letter) => `_${letter.toLowerCase()}`)}`;
 
 // Also of a Uint8Array of another frame, and of node's Buffer.
@@ -199,6 +202,7 @@ function slicesOf(name, kinds, given) {
     const what = `argument ${i + 1} of ${name}`;
     if (kinds[i] === NUMBER) return { number: numberOf(value, what) };
     if (!isBytes(value)) throw new TypeError(`${what} must be a Uint8Array`);
+    if (value.byteLength > LONGEST) throw new RangeError(`${what} is longer than the library's memory allows`);
     return { bytes: value, from: value.byteOffset, length: value.byteLength, lent: kinds[i] === LENT };
   });
   const slices = all.filter((slice) => slice.bytes && slice.length > 0);
