@@ -111,6 +111,10 @@ static uint32_t ask_name(uint8_t *to) {
 }
 /* A list: mostly long enough, or too short for most. */
 static size_t list_room(void) { return one_in(6) ? draw(4) : 4096; }
+/* A number at an edge: just `at`, or beside it. */
+static uint32_t edge(uint32_t at) { return at - 1 + draw(3); }
+/* A length of a body, now and then one that just fills its sectors. */
+static uint32_t body_size(uint32_t most) { return one_in(3) ? edge(510 * (1 + draw(most / 510)) - 9) : draw(most); }
 
 static void draw_body(uint32_t size) {
     uint32_t seed = draw(256);
@@ -240,7 +244,7 @@ static void make_disk(void) {
     for (uint32_t n = draw(24); n > 0; n--) {
         uint8_t name[16];
         uint32_t len = any_name(name);
-        uint32_t size = one_in(10) ? draw(300000) : draw(6000);
+        uint32_t size = one_in(10) ? draw(300000) : body_size(6000);
         draw_body(size);
         mix(put(name, len, 16 + draw(5), size));
         list_again();
@@ -315,7 +319,9 @@ static void do_check_release(void) { told(varnucht_check_release(image, image_le
 static void do_list(void) {
     size_t room = one_in(4) ? draw(3000) : VARNUCHT_LISTING_BYTES;
     PAINT(out);
-    told(varnucht_list(image, image_len, out, room));
+    uint64_t answer = told(varnucht_list(image, image_len, out, room));
+    MIX(out);
+    told(varnucht_list(image, image_len, out, edge(VARNUCHT_ENTRY_BYTES * varnucht_value(answer) + 1)));
     MIX(out);
 }
 static void do_read(void) {
@@ -323,7 +329,9 @@ static void do_read(void) {
     uint32_t len = ask_name(name);
     size_t room = one_in(4) ? draw(3000) : ROOM;
     PAINT(out);
-    told(varnucht_read(image, image_len, name, len, out, room));
+    uint64_t answer = told(varnucht_read(image, image_len, name, len, out, room));
+    MIX(out);
+    told(varnucht_read(image, image_len, name, len, out, edge(varnucht_value(answer) + 1)));
     MIX(out);
 }
 static void do_open(void) {
@@ -346,9 +354,9 @@ static void do_next(void) {
         reader.left -= varnucht_value(answer);
         MIX(out);
     }
-    uint32_t sector = draw(1700);
-    uint32_t offset = draw(520);
-    uint32_t left = one_in(4) ? draw(900000) : draw(5000);
+    uint32_t sector = one_in(4) ? edge(1600) : draw(1600);
+    uint32_t offset = one_in(4) ? edge(510) : draw(510);
+    uint32_t left = one_in(4) ? edge(VARNUCHT_BODY_BYTES) : draw(5000);
     told(varnucht_next(image, image_len, sector, offset, left, out, ROOM));
     MIX(out);
 }
@@ -362,8 +370,12 @@ static void do_tree(void) {
     uint32_t len = one_in(2) ? 0 : ask_name(name);
     size_t room = one_in(4) ? draw(20) : VARNUCHT_TREE_BYTES;
     PAINT(slots);
-    told(varnucht_tree(image, image_len, name, len, slots, room));
+    uint64_t answer = told(varnucht_tree(image, image_len, name, len, slots, room));
     MIX(slots);
+    if (varnucht_value(answer) > 0) {
+        told(varnucht_tree(image, image_len, name, len, slots, 2 * varnucht_value(answer) - draw(2)));
+        MIX(slots);
+    }
 }
 static void do_sector(void) {
     uint32_t drive = draw(4);
@@ -382,7 +394,7 @@ static void draw_report(uint8_t *to) {
         to[1] = 255;
     }
 }
-static size_t report_room(void) { return one_in(6) ? draw(VARNUCHT_REPORT_BYTES) : VARNUCHT_REPORT_BYTES + draw(8); }
+static size_t report_room(void) { return one_in(3) ? edge(VARNUCHT_REPORT_BYTES) : VARNUCHT_REPORT_BYTES + draw(8); }
 static void do_report_add(void) {
     PAINT(report);
     draw_report(report);
@@ -405,12 +417,12 @@ static void do_save(void) {
     for (int n = 0; n < 2; n++) {
         uint32_t len = one_in(4) ? ask_name(name) : any_name(name);
         uint32_t kind = one_in(8) ? draw(64) : 16 + draw(5);
-        uint32_t page = one_in(8) ? draw(64) : draw(32);
-        uint32_t offset = one_in(8) ? draw(65536) : 32768 + draw(16384);
+        uint32_t page = one_in(4) ? edge(32) : draw(32);
+        uint32_t offset = one_in(4) ? edge(32768 + 16384 * draw(2)) : 32768 + draw(16384);
         size_t execs = draw(5);
         size_t infos = draw(13);
-        uint32_t size = one_in(4) ? draw(ROOM) : draw(9000);
-        size_t room = list_room();
+        uint32_t size = one_in(4) ? draw(ROOM) : body_size(9000);
+        size_t room = one_in(4) ? 2 * edge((9 + size + 509) / 510 + 1) : list_room();
         draw_body(size);
         PAINT(list);
         changed(varnucht_save(image, image_len, kind, name, len, page, offset, exec, execs, info, infos, body, size, list, room));
@@ -458,7 +470,7 @@ static void do_erase_many(void) {
             names[10 * i] = 0;
         }
     }
-    size_t room = one_in(6) ? draw(many + 1) : MOST_NAMES;
+    size_t room = one_in(3) ? many - (many > 0 ? draw(2) : 0) : MOST_NAMES;
     size_t list_len = one_in(8) ? draw(6) : 4096;
     uint64_t answer = varnucht_erase_many(image, image_len, names, names_len, answers, room, list, list_len);
     changed(answer);
