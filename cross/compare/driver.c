@@ -241,7 +241,7 @@ static void make_disk(void) {
     }
     memcpy(image + 210, "\xcd" "AGAZINE 7", 10);
     list_again();
-    for (uint32_t n = draw(24); n > 0; n--) {
+    for (uint32_t n = one_in(12) ? 0 : draw(24); n > 0; n--) {
         uint8_t name[16];
         uint32_t len = any_name(name);
         uint32_t size = one_in(10) ? draw(300000) : body_size(6000);
@@ -421,7 +421,8 @@ static void do_save(void) {
         uint32_t offset = one_in(4) ? edge(32768 + 16384 * draw(2)) : 32768 + draw(16384);
         size_t execs = draw(5);
         size_t infos = draw(13);
-        uint32_t size = one_in(4) ? draw(ROOM) : body_size(9000);
+        /* on an empty disk the longest body there is */
+        uint32_t size = files == 0 && one_in(2) ? edge(VARNUCHT_BODY_BYTES) : one_in(4) ? draw(ROOM) : body_size(9000);
         size_t room = one_in(4) ? 2 * edge((9 + size + 509) / 510 + 1) : list_room();
         draw_body(size);
         PAINT(list);
@@ -429,21 +430,21 @@ static void do_save(void) {
     }
 }
 /* The changes that take a name and nothing else. */
-static void by_name(uint64_t (*call)(uint8_t *, varnucht_length, const uint8_t *, varnucht_length, uint8_t *, varnucht_length)) {
+static void by_name(uint64_t (*call)(uint8_t *, varnucht_length, const uint8_t *, varnucht_length, uint8_t *, varnucht_length),
+                    size_t room) {
     uint8_t name[16];
     uint32_t len = ask_name(name);
-    size_t room = list_room();
     PAINT(list);
     changed(call(image, image_len, name, len, list, room));
 }
-static void do_erase(void) { by_name(varnucht_erase); }
-static void do_hide(void) { by_name(varnucht_hide); }
-static void do_show(void) { by_name(varnucht_show); }
-static void do_protect(void) { by_name(varnucht_protect); }
-static void do_release(void) { by_name(varnucht_release); }
+static void do_erase(void) { by_name(varnucht_erase, list_room()); }
+static void do_hide(void) { by_name(varnucht_hide, list_room()); }
+static void do_show(void) { by_name(varnucht_show, list_room()); }
+static void do_protect(void) { by_name(varnucht_protect, list_room()); }
+static void do_release(void) { by_name(varnucht_release, list_room()); }
 static void do_gather(void) {
     for (int n = 0; n < 3; n++) {
-        by_name(varnucht_gather);
+        by_name(varnucht_gather, one_in(3) ? draw(12) : 4096);
     }
 }
 static void do_rename(void) {
