@@ -11,9 +11,9 @@
  * 1. WHAT A CALL TAKES AND ANSWERS
  *
  * A slice is a pointer and then its length in bytes. It may have any length and any content: every call on every input ends
- * and answers. NULL with length 0 is an empty slice. A length has 64 bits on every machine (varnucht_length), also where size_t
- * has 32: C widens a size_t by itself, and whoever declares these calls in another language must declare 64 bits. Where pointers
- * have 32 bits no slice may be longer than 2^31 - 1 bytes, as no object of C is there.
+ * and answers. NULL with length 0 is an empty slice. A length has 64 bits on every machine (varnucht_length), also where
+ * size_t has 32: C widens a size_t by itself, and whoever declares these calls in another language must declare 64 bits.
+ * Where pointers have 32 bits no slice may be longer than 2^31 - 1 bytes, as no object of C is there.
  *
  * A slice with a `const` pointer is only read. A slice without one (`out`, `slots`, `answers`, `list`, the `image` of a
  * change) may be changed, and must not overlap any other slice of the same call. Slices that are only read may overlap each
@@ -23,11 +23,11 @@
  * You own every buffer before, during and after a call. The library allocates nothing, keeps no pointer and has no state:
  * what a call does depends on its arguments alone. So calls on different buffers may run at once on different threads, and
  * calls that only read may share an image. Nobody may read or write a buffer while a call that may change it is running.
- * Nothing outside is called but memcpy, memset and their like. On x86-64 a save needs less than 8 KiB of stack, an erase of many
- * less than 5 KiB, a gather less than 3 KiB, every other call less than 2 KiB; but varnucht_tree less than 7 KiB where no more
- * than ten subdirectories lie inside each other, and 96 bytes more for each beyond them: less than 30 KiB on any disk. "Stack:"
- * at a call is x86-64's too. README.md has a table of each call on each target (section 8): on none is it 8 KiB, but of varnucht_tree
- * less than 41 KiB on iOS and less than 37 KiB on other phones.
+ * Nothing outside is called but memcpy, memset and their like. On x86-64 a save needs less than 8 KiB of stack, an erase of
+ * many less than 5 KiB, a gather less than 3 KiB, every other call less than 2 KiB; but varnucht_tree less than 7 KiB where
+ * no more than ten subdirectories lie inside each other, and 96 bytes more for each beyond them: less than 30 KiB on any
+ * disk. "Stack:" at a call is x86-64's too. README.md has a table of each call on each target (section 8): on none is it 8
+ * KiB, but of varnucht_tree less than 41 KiB on iOS and less than 37 KiB on other phones.
  *
  * Every call answers one number with four parts, which the functions below take apart:
  *
@@ -644,10 +644,11 @@ enum varnucht_kind {
  * keeps the rules on slices of section 1 and writes as section 5 says. The small functions of this header are plain C: they
  * are tested and not proved.
  *
- * libvarnucht.a for x86-64 is what the toolchain that proves the library also builds. cross/build compiles the same proved
- * module by the same compiler for aarch64 Linux, Android, iOS and wasm32: that is outside the toolchain's verdict, and is tested
- * instead, against the build for x86-64, with every call, every number that each can refuse, and every buffer compared. Linux and
- * Android run under an emulator there, wasm32 in node; iOS is compiled and was never run. README.md says how much was compared. */
+ * libvarnucht.a for x86-64 is what the toolchain that proves the library also builds. cross/build compiles the same
+ * proved module by the same compiler for aarch64 Linux, Android, iOS and wasm32: that is outside the toolchain's
+ * verdict, and is tested instead, against the build for x86-64, with every call, every number that each can refuse, and
+ * every buffer compared. Linux and Android run under an emulator there, wasm32 in node; iOS is compiled and was never
+ * run. README.md says how much was compared. */
 
 #ifdef __cplusplus
 }
