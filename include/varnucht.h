@@ -12,7 +12,9 @@
  * 1. WHAT A CALL TAKES AND ANSWERS
  *
  * A slice is a pointer and then its length in bytes. It may have any length and any content: every call on every input ends
- * and answers. NULL with length 0 is an empty slice.
+ * and answers. NULL with length 0 is an empty slice. A length has 64 bits on every machine (varnucht_length), also where
+ * size_t has 32: C widens a size_t by itself, and whoever declares these calls in another language must declare 64 bits.
+ * Where pointers have 32 bits no slice may be longer than 2^31 - 1 bytes, as no object of C is there.
  *
  * A slice with a `const` pointer is only read. A slice without one (`out`, `slots`, `answers`, `list`, `record`, the
  * `image` of a change) may be changed, and must not overlap any other slice of the same call. Slices that are only read may
@@ -22,10 +24,11 @@
  * You own every buffer before, during and after a call. The library allocates nothing, keeps no pointer and has no state:
  * what a call does depends on its arguments alone. So calls on different buffers may run at once on different threads, and
  * calls that only read may share an image. Nobody may read or write a buffer while a call that may change it is running.
- * Nothing outside is called but memcpy, memset and their like. A save and the calls of a recording need less than 8 KiB of
- * stack, an erase of many less than 5 KiB, a gather less than 3 KiB, every other call less than 2 KiB; but varnucht_tree less
- * than 7 KiB where no more than ten subdirectories lie inside each other, and 96 bytes more for each beyond them: less than
- * 30 KiB on any disk.
+ * Nothing outside is called but memcpy, memset and their like. On x86-64 a save needs less than 8 KiB of stack, the calls of
+ * a recording less than 9 KiB, an erase of many less than 5 KiB, a gather less than 3 KiB, every other call less than 2 KiB;
+ * but varnucht_tree less than 7 KiB where no more than ten subdirectories lie inside each other, and 96 bytes more for each
+ * beyond them: less than 30 KiB on any disk. "Stack:" at a call is x86-64's too. README.md has a table of each call on each
+ * target (section 8): on none is it 10 KiB, but of varnucht_tree less than 41 KiB on iOS and less than 37 KiB on other phones.
  *
  * Every call answers one number with four parts, which the functions below take apart:
  *
@@ -68,6 +71,9 @@
 #ifdef __cplusplus
 extern "C" {
 #endif
+
+/* The length of a slice, in bytes. It has 64 bits on every machine, also where size_t has 32, as on wasm32. */
+typedef uint64_t varnucht_length;
 
 static inline unsigned varnucht_refusal(uint64_t answer) { return (unsigned)(answer & 0xff); }
 static inline unsigned varnucht_slot(uint64_t answer) { return (unsigned)(answer >> 8 & 0xffff); }
@@ -229,24 +235,24 @@ static inline const char *varnucht_words(unsigned refusal) {
 
 /* Whether the disk is good. Its directory up to its end, sector maps and chains agree exactly when this accepts. Value: 0.
  * Refusals: 1 to 11, 24, 25. */
-uint64_t varnucht_check(const uint8_t *image, size_t image_len);
+uint64_t varnucht_check(const uint8_t *image, varnucht_length image_len);
 
 /* Whether the disk is good and fit to go out: no file of a carried kind has waste sectors behind it, where old texts hide. A
  * file has them where its count is above the least that its length needs. Every other call accepts such a disk still.
  * Value: 0. Refusals: 1 to 11, 22, 24, 25. Stack: 1,592 bytes. */
-uint64_t varnucht_check_release(const uint8_t *image, size_t image_len);
+uint64_t varnucht_check_release(const uint8_t *image, varnucht_length image_len);
 
 /* Every file, hidden ones too, by rising slot, at 258 bytes each from the front of `out`; section 6 says how to read them.
  * Value: how many files, 0 to 778. Free: the free sectors, 0 to 1,560. `out`: 258 bytes for each file, and
  * VARNUCHT_LISTING_BYTES always suffice. Refusals: 1 to 11, 24, 25, 20. */
-uint64_t varnucht_list(const uint8_t *image, size_t image_len, uint8_t *out, size_t out_len);
+uint64_t varnucht_list(const uint8_t *image, varnucht_length image_len, uint8_t *out, varnucht_length out_len);
 
 /* A file's body, of kind 16 to 20 or 1 to 4, to the front of `out`. Value: its length in bytes, 0 to 795,591, and of kinds 1
  * to 4 at most 65,535. `out`: as long as the body, and VARNUCHT_BODY_BYTES always suffice. varnucht_open tells the length of
  * every file that can be read, and a listing that of kinds 16 to 20 (varnucht_entry_length).
  * Refusals: 1 to 11, 24, 25, 12, 13, 15, 20. */
-uint64_t varnucht_read(const uint8_t *image, size_t image_len, const uint8_t *name, size_t name_len, uint8_t *out,
-                       size_t out_len);
+uint64_t varnucht_read(const uint8_t *image, varnucht_length image_len, const uint8_t *name, varnucht_length name_len,
+                       uint8_t *out, varnucht_length out_len);
 
 /* A file piece by piece: varnucht_open finds it, and varnucht_next gives the next bytes of its body. A reader is three
  * numbers that the app keeps between the calls. Two functions over them spare it taking these answers apart:
@@ -272,7 +278,7 @@ uint64_t varnucht_read(const uint8_t *image, size_t image_len, const uint8_t *na
 /* Finds a file. Value: the length of its body in bytes, 0 to 795,591. Slot: the sector that the body begins in, 0 to 1,599.
  * Free: the place of its first byte there, 9. Refusals: 1 to 11, 24, 25, 12, 13, 15, as varnucht_read has them.
  * Stack: 1,672 bytes. */
-uint64_t varnucht_open(const uint8_t *image, size_t image_len, const uint8_t *name, size_t name_len);
+uint64_t varnucht_open(const uint8_t *image, varnucht_length image_len, const uint8_t *name, varnucht_length name_len);
 
 /* The next bytes, to the front of `out`: as many as it holds or as are left.
  *   sector, offset   where the next byte stands: slot and free of the answer before
@@ -282,8 +288,8 @@ uint64_t varnucht_open(const uint8_t *image, size_t image_len, const uint8_t *na
  * The disk is not checked. Of an image of another length, and of numbers that can be no reader's (a sector above 1,599, an
  * offset above 509, more than 795,591 left), nothing comes; of other numbers that no call gave, what stands there along the
  * links, or less. Refusals: none. Stack: 104 bytes. */
-uint64_t varnucht_next(const uint8_t *image, size_t image_len, uint32_t sector, uint32_t offset, uint32_t left, uint8_t *out,
-                       size_t out_len);
+uint64_t varnucht_next(const uint8_t *image, varnucht_length image_len, uint32_t sector, uint32_t offset, uint32_t left,
+                       uint8_t *out, varnucht_length out_len);
 
 /* A reader. `left` is what an app may look at: how many bytes of the body are still to come. */
 struct varnucht_reader {
@@ -317,7 +323,7 @@ static inline size_t varnucht_reader_next(struct varnucht_reader *reader, const 
 /* The address that a file is loaded to. Value: page * 16,384 + offset - 16,384, which is 16,384 to 540,671; of kinds 1 to 4
  * the start in the file's header as it stands, 0 to 65,535, and never 14.
  * Refusals: 1 to 11, 24, 25, 12, 13, 14, 15. */
-uint64_t varnucht_start(const uint8_t *image, size_t image_len, const uint8_t *name, size_t name_len);
+uint64_t varnucht_start(const uint8_t *image, varnucht_length image_len, const uint8_t *name, varnucht_length name_len);
 
 /* What lies beneath a subdirectory: the files and subdirectories in it, those in these, and so on, to whatever depth. To the
  * front of `slots` come the numbers of their slots, each once, two bytes to a number, low byte first (varnucht_listed reads
@@ -328,8 +334,8 @@ uint64_t varnucht_start(const uint8_t *image, size_t image_len, const uint8_t *n
  * which of them is in which.
  * Refusals: 1 to 11, 24, 25, 26, 27, 28, 12, 13 (not a subdirectory), 15, 20. On a disk with 255 subdirectories, each inside
  * the one before, which are as many as there can be, Stack: 29,408 bytes. */
-uint64_t varnucht_tree(const uint8_t *image, size_t image_len, const uint8_t *name, size_t name_len, uint8_t *slots,
-                       size_t slots_len);
+uint64_t varnucht_tree(const uint8_t *image, varnucht_length image_len, const uint8_t *name, varnucht_length name_len,
+                       uint8_t *slots, varnucht_length slots_len);
 
 /* A raw sector of one of two disks, whatever they hold: no directory is looked at.
  *   one, two   the images of drives 1 and 2. Both must have 819,200 bytes, whichever is chosen; they may be the same bytes
@@ -338,8 +344,8 @@ uint64_t varnucht_tree(const uint8_t *image, size_t image_len, const uint8_t *na
  *   sector     1 to 10
  * Any other drive, track or sector is refused 21. Value: where the sector's 512 bytes begin in the image of that drive, a
  * multiple of 512. Nothing is copied. Refusals: 1, 21. */
-uint64_t varnucht_sector(const uint8_t *one, size_t one_len, const uint8_t *two, size_t two_len, uint32_t drive,
-                         uint32_t track, uint32_t sector);
+uint64_t varnucht_sector(const uint8_t *one, varnucht_length one_len, const uint8_t *two, varnucht_length two_len,
+                         uint32_t drive, uint32_t track, uint32_t sector);
 
 /* A SHELF IN NUMBERS. A report counts disks: how many are accepted and how many refused, by number; and of the accepted ones
  * their files by kind, the sectors of these files, the free sectors, and the files by how many sectors they have. It is
@@ -372,12 +378,12 @@ enum varnucht_report_place {
 /* Adds a disk to a report: any bytes, which are only read. A disk that varnucht_check refuses is counted by the number that
  * it gives, and nowhere else. Value: how many disks are in the report then, 1 to 65,535. Refusals: 20 where `report` is too
  * short to be one, then 31 where 65,535 disks are in it. Stack: 1,640 bytes. */
-uint64_t varnucht_report_add(const uint8_t *image, size_t image_len, uint8_t *report, size_t report_len);
+uint64_t varnucht_report_add(const uint8_t *image, varnucht_length image_len, uint8_t *report, varnucht_length report_len);
 
 /* Joins `other`, which is only read, to `report`. Value: how many disks are in the report then, 0 to 65,535. Refusals: 20
  * where one of them is too short to be a report, then 31 where they have more than 65,535 disks together.
  * Stack: 112 bytes. */
-uint64_t varnucht_report_join(uint8_t *report, size_t report_len, const uint8_t *other, size_t other_len);
+uint64_t varnucht_report_join(uint8_t *report, varnucht_length report_len, const uint8_t *other, varnucht_length other_len);
 
 /* The number at a place of a report, 0 to 123. */
 static inline uint32_t varnucht_report_number(const uint8_t *report, unsigned place) {
@@ -441,14 +447,15 @@ static inline unsigned varnucht_listed(const uint8_t *list, size_t i) { return l
  * the disk: its name, its random word and its directory tracks (bytes 210 to 219, 252, 253 and 255).
  * Value: n + 1 or n + 2. `list`: two bytes for each, 2 * (n + 2) always suffice. Refusals: 1 to 11, 24, 25, 12, 13, 14, 16,
  * 18, 19, 20. */
-uint64_t varnucht_save(uint8_t *image, size_t image_len, uint32_t kind, const uint8_t *name, size_t name_len, uint32_t page,
-                       uint32_t offset, const uint8_t *exec, size_t exec_len, const uint8_t *info, size_t info_len,
-                       const uint8_t *body, size_t body_len, uint8_t *list, size_t list_len);
+uint64_t varnucht_save(uint8_t *image, varnucht_length image_len, uint32_t kind,
+                       const uint8_t *name, varnucht_length name_len, uint32_t page, uint32_t offset,
+                       const uint8_t *exec, varnucht_length exec_len, const uint8_t *info, varnucht_length info_len,
+                       const uint8_t *body, varnucht_length body_len, uint8_t *list, varnucht_length list_len);
 
 /* Erases a file: its slot and its sectors are free from then on. A subdirectory is erased where nothing is in it, else it is
  * refused 29. Value: 1. Refusals: 1 to 11, 24, 25, 12, 15, 17, 29, 20. */
-uint64_t varnucht_erase(uint8_t *image, size_t image_len, const uint8_t *name, size_t name_len, uint8_t *list,
-                        size_t list_len);
+uint64_t varnucht_erase(uint8_t *image, varnucht_length image_len, const uint8_t *name, varnucht_length name_len,
+                        uint8_t *list, varnucht_length list_len);
 
 /* Erases a handful of files at once: those of the names, one after the other, as varnucht_erase does. The disk is checked
  * once for all of them.
@@ -465,26 +472,26 @@ uint64_t varnucht_erase(uint8_t *image, size_t image_len, const uint8_t *name, s
  * gone, all others are still there, and varnucht_check accepts the disk. A file may be left there whose subdirectory is
  * gone: varnucht_tree refuses such a disk 27, and the same names given again erase the rest.
  * Refusals: 1 to 11, 24, 25, 23, 20 (`answers` or `list` too short). Stack: 4,440 bytes. */
-uint64_t varnucht_erase_many(uint8_t *image, size_t image_len, const uint8_t *names, size_t names_len, uint8_t *answers,
-                             size_t answers_len, uint8_t *list, size_t list_len);
+uint64_t varnucht_erase_many(uint8_t *image, varnucht_length image_len, const uint8_t *names, varnucht_length names_len,
+                             uint8_t *answers, varnucht_length answers_len, uint8_t *list, varnucht_length list_len);
 
 /* Gives a file a new name (section 7). It may be the file's own with other capitals. Refused 16 where another file has the
  * name, capitals or not (slot: that file's), or where the file has it already, byte for byte (slot: its own). Value: 1.
  * Refusals: 1 to 11, 24, 25, 12 (either name), 15, 16, 17, 20. */
-uint64_t varnucht_rename(uint8_t *image, size_t image_len, const uint8_t *name, size_t name_len, const uint8_t *new_name,
-                         size_t new_name_len, uint8_t *list, size_t list_len);
+uint64_t varnucht_rename(uint8_t *image, varnucht_length image_len, const uint8_t *name, varnucht_length name_len,
+                         const uint8_t *new_name, varnucht_length new_name_len, uint8_t *list, varnucht_length list_len);
 
 /* Mark a file: hide sets the mark that show clears, protect the one that release clears. Nothing else changes. Where the
  * mark is so already the call is accepted and names its sector all the same. A hidden file is listed and found like any
  * other. A protected one cannot be erased or renamed. Value: 1. Refusals: 1 to 11, 24, 25, 12, 15, 20. */
-uint64_t varnucht_hide(uint8_t *image, size_t image_len, const uint8_t *name, size_t name_len, uint8_t *list,
-                       size_t list_len);
-uint64_t varnucht_show(uint8_t *image, size_t image_len, const uint8_t *name, size_t name_len, uint8_t *list,
-                       size_t list_len);
-uint64_t varnucht_protect(uint8_t *image, size_t image_len, const uint8_t *name, size_t name_len, uint8_t *list,
-                          size_t list_len);
-uint64_t varnucht_release(uint8_t *image, size_t image_len, const uint8_t *name, size_t name_len, uint8_t *list,
-                          size_t list_len);
+uint64_t varnucht_hide(uint8_t *image, varnucht_length image_len, const uint8_t *name, varnucht_length name_len,
+                       uint8_t *list, varnucht_length list_len);
+uint64_t varnucht_show(uint8_t *image, varnucht_length image_len, const uint8_t *name, varnucht_length name_len,
+                       uint8_t *list, varnucht_length list_len);
+uint64_t varnucht_protect(uint8_t *image, varnucht_length image_len, const uint8_t *name, varnucht_length name_len,
+                          uint8_t *list, varnucht_length list_len);
+uint64_t varnucht_release(uint8_t *image, varnucht_length image_len, const uint8_t *name, varnucht_length name_len,
+                          uint8_t *list, varnucht_length list_len);
 
 /* Gathers a scattered file, so that a drive need not click through it: moves it, all 510 bytes of each of its sectors in
  * their order, to the lowest run of consecutive free map bits that is as long as its count, chained rising. Its own sectors
@@ -496,8 +503,8 @@ uint64_t varnucht_release(uint8_t *image, size_t image_len, const uint8_t *name,
  * Value: the file's sectors and one of the directory, named in this order, the first in that of the chain; 0 where the file
  * is left. `list`: two bytes for each; a file that moves has at most 780 sectors, so VARNUCHT_GATHER_LIST_BYTES always
  * suffice. Refusals: 1 to 11, 24, 25, 12, 13 (kind 21), 15, 32, 20. Stack: 2,104 bytes. */
-uint64_t varnucht_gather(uint8_t *image, size_t image_len, const uint8_t *name, size_t name_len, uint8_t *list,
-                         size_t list_len);
+uint64_t varnucht_gather(uint8_t *image, varnucht_length image_len, const uint8_t *name, varnucht_length name_len,
+                         uint8_t *list, varnucht_length list_len);
 
 /* SAVE WHILE RECORDING. A save whose body comes in pieces, when nobody knows yet how many: varnucht_record_open begins it
  * with a save's particulars, varnucht_record_add adds a piece, and varnucht_record_close makes it a file. Between the calls
@@ -530,26 +537,27 @@ uint64_t varnucht_gather(uint8_t *image, size_t image_len, const uint8_t *name, 
 
 /* Begins a recording: `record` gets its record. The image is only read. The arguments are those of varnucht_save, but for
  * the body and the list. Value: 0. `record`: VARNUCHT_RECORD_BYTES. Refusals: those of a save with an empty body, 1 to 11,
- * 24, 25, 12, 13, 14, 16, 18, 19; then 20 (`record` too short). Stack: 9,999 bytes. */
-uint64_t varnucht_record_open(const uint8_t *image, size_t image_len, uint32_t kind, const uint8_t *name, size_t name_len,
-                              uint32_t page, uint32_t offset, const uint8_t *exec, size_t exec_len, const uint8_t *info,
-                              size_t info_len, uint8_t *record, size_t record_len);
+ * 24, 25, 12, 13, 14, 16, 18, 19; then 20 (`record` too short). Stack: 2,248 bytes. */
+uint64_t varnucht_record_open(const uint8_t *image, varnucht_length image_len, uint32_t kind, const uint8_t *name,
+                              varnucht_length name_len, uint32_t page, uint32_t offset, const uint8_t *exec,
+                              varnucht_length exec_len, const uint8_t *info, varnucht_length info_len, uint8_t *record,
+                              varnucht_length record_len);
 
 /* Adds a piece, of any length, 0 allowed. Each sector after the first is written and named, with the address of the next,
  * when a byte beyond it comes; till then its bytes wait in the record. Value: how many sectors, in the order of the chain;
  * 0 is usual for a small piece. `list`: two bytes for each, and a piece of L bytes names at most L / 510 + 1;
  * VARNUCHT_PIECE_LIST_BYTES always suffice. Refusals: 1 to 11, 24, 25, 20 (`record` too short), 30, 19 (the joined pieces
- * take more sectors than are free), 20 (`list` too short). Stack: 9,999 bytes. */
-uint64_t varnucht_record_add(uint8_t *image, size_t image_len, const uint8_t *piece, size_t piece_len, uint8_t *record,
-                             size_t record_len, uint8_t *list, size_t list_len);
+ * take more sectors than are free), 20 (`list` too short). Stack: 8,360 bytes. */
+uint64_t varnucht_record_add(uint8_t *image, varnucht_length image_len, const uint8_t *piece, varnucht_length piece_len,
+                             uint8_t *record, varnucht_length record_len, uint8_t *list, varnucht_length list_len);
 
 /* Makes the recording a file: writes and names its last sector, then its first if it is another, then the directory's as
  * varnucht_save does. The record is only read. Value: 2 to 4. `list`: VARNUCHT_CLOSE_LIST_BYTES always suffice. Refusals: 1
  * to 11, 24, 25, 20 (`record` too short), 30, 12, 13, 14, 16 (the name was given to a file since), 18 (the last slot was
  * taken since), 19, 20 (`list` too short); of a record made by these calls 12, 13, 14 and 19 do not come.
- * Stack: 9,999 bytes. */
-uint64_t varnucht_record_close(uint8_t *image, size_t image_len, const uint8_t *record, size_t record_len, uint8_t *list,
-                               size_t list_len);
+ * Stack: 9,016 bytes. */
+uint64_t varnucht_record_close(uint8_t *image, varnucht_length image_len, const uint8_t *record,
+                               varnucht_length record_len, uint8_t *list, varnucht_length list_len);
 
 /* 6. READING A LISTING. An entry is the slot's number, 2 bytes, low byte first, and then the slot's 256 bytes. These are the
  * places of its fields in the entry; the functions below read them. */
@@ -706,7 +714,13 @@ enum varnucht_kind {
  * every lent buffer at return are those that the rules give, and that a stop between two writes leaves what section 5 says.
  * The proof is about the library's source. It takes for granted that the compiler keeps its meaning, and that the caller
  * keeps the rules on slices of section 1 and writes as section 5 says. The small functions of this header are plain C: they
- * are tested and not proved. libvarnucht.a is compiled for x86-64 alone as of now; the header names no processor. */
+ * are tested and not proved.
+ *
+ * libvarnucht.a for x86-64 is what the toolchain that proves the library also builds. cross/build compiles the same
+ * proved module by the same compiler for aarch64 Linux, Android, iOS and wasm32: that is outside the toolchain's
+ * verdict, and is tested instead, against the build for x86-64, with every call, every number that each can refuse, and
+ * every buffer compared. Linux and Android run under an emulator there, wasm32 in node; iOS is compiled and was never
+ * run. README.md says how much was compared. */
 
 #ifdef __cplusplus
 }

@@ -1,6 +1,9 @@
 //! The calls of the C layer, as `include/varnucht.h` declares them. A slice is a pointer and a number of bytes; a slice that
 //! a call may change overlaps no other. Every call answers refusal + 256 × slot + 2^24 × value + 2^48 × free.
 
+// The header's lengths have 64 bits, also where a `usize` has 32.
+const _: () = assert!(usize::BITS == 64, "on this machine a length must be declared as a u64");
+
 unsafe extern "C" {
     pub fn varnucht_check(image: *const u8, image_len: usize) -> u64;
     pub fn varnucht_check_release(image: *const u8, image_len: usize) -> u64;

@@ -62,7 +62,8 @@ fn stack_said() -> Vec<(String, usize)> {
 
 /// `stack.c` says of each call how many bytes of painted stack it wrote over. A save took less than 5,900 bytes, the calls on
 /// reports less than 3,000 and every other call less than 2,030 when bigger directories came; an erase of many 6,392 when it
-/// came, the most of it an index of the names and the list as numbers. The frames in the compiled code
+/// came, the most of it an index of the names and the list as numbers; a piece of a recording 8,360 and its close 9,016, of which the
+/// record by value is 1,300 wherever it is handed on. The frames in the compiled code
 /// have fixed sizes and no call leads back to itself, so that their sum, about the same, holds for every input; but for the tree,
 /// which calls itself once for each directory around: at most 255 times, and one of the disks is as deep as that.
 #[test]
@@ -84,7 +85,8 @@ fn the_calls_need_little_stack() {
         let said = said.iter().find(|(name, _)| name == call).map(|(_, most)| *most);
         assert!(said.is_none_or(|most| bytes <= most), "{line}: the header says {said:?}");
         let most = match call {
-            "save" | "record_open" | "record_add" | "record_close" => 8192,
+            "save" => 8192,
+            "record_open" | "record_add" | "record_close" => 9216,
             "erase_many" => 5120,
             "gather" => 3072,
             "tree" => 30 * 1024,

@@ -46,7 +46,8 @@ fn rust_type(c: &str) -> String {
     match c {
         "const uint8_t *" => "*const u8".to_string(),
         "uint8_t *" => "*mut u8".to_string(),
-        "size_t" => "usize".to_string(),
+        // It has 64 bits on every machine, and a `usize` has where the crate is built.
+        "varnucht_length" => "usize".to_string(),
         "uint32_t" => "u32".to_string(),
         other => panic!("the header has an argument of another type: {other}"),
     }
