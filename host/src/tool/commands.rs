@@ -1,7 +1,9 @@
 //! The table of commands.
 use super::failure::Outcome;
 use super::words::Given;
-use super::{add, blank, change, check, dump, erase, extract, gather, list, map, read, record, report, salvage, save, sector, tree};
+use super::{
+    add, blank, change, check, dump, erase, extract, gather, list, map, read, record, report, salvage, save, sector, tree,
+};
 
 /// A command of the tool.
 pub struct Command {
