@@ -76,8 +76,11 @@ impl fmt::Debug for Record {
 
 /// Save while recording, with a [`Record`] and with what each call gives to write. [`record`](Disk::record) does both.
 impl Disk {
-    /// Opens a recording of this file. Nothing is changed. Refused as a save with an empty body is: 16 with the slot that has
-    /// the name, 18 and 19.
+    /// Opens a recording of this file. Nothing is changed.
+    ///
+    /// # Errors
+    ///
+    /// Refused as a save with an empty body is: 16 with the slot that has the name, 18 and 19.
     pub fn open_record(&self, file: &Particulars) -> Result<Record, Refused> {
         let mut record = [0; RECORD_LENGTH];
         calls::record_open(self.image().as_bytes(), &wish(file), &mut record).decode()?;
@@ -87,11 +90,13 @@ impl Disk {
     /// Adds a piece, of any length, to a recording. Each of its sectors after the first is to be written when a byte beyond it
     /// has come, so that often there is none. Nothing that is seen of the disk changes, whether they are written or not.
     ///
+    /// A piece costs its own bytes, a look at the disk, and one at each link that the recording has so far.
+    ///
+    /// # Errors
+    ///
     /// Refused 30 where the disk is not the one that was recorded on: its used sectors or its directory tracks are not what
     /// they were at opening, or a sector that the pieces have written leads elsewhere. Refused 19 where the pieces do not fit.
     /// Then the record is as before.
-    ///
-    /// A piece costs its own bytes, a look at the disk, and one at each link that the recording has so far.
     pub fn add_piece(&mut self, record: &mut Record, piece: &[u8]) -> Result<Sectors<'_>, Refused> {
         let mut list = [0; PIECE_LENGTH];
         let image = self.image_mut().as_bytes_mut();
@@ -102,19 +107,24 @@ impl Disk {
     /// Makes a recording a file: its last sector, its first and the directory's are to be written, in this order, and until
     /// the last of them is, all files are as before. The record stays as it is, so that this can be asked again.
     ///
-    /// Refused 30 as [`add_piece`](Disk::add_piece) is, 16 with the slot where a file got the name since, and 18 where the last
-    /// slot was taken since.
-    ///
     /// Where nothing else changed the disk since the recording was opened, it is now as one save of the joined pieces would
     /// have left it, byte for byte. Else the file reads as its sectors do, and no other file is altered.
+    ///
+    /// # Errors
+    ///
+    /// Refused 30 as [`add_piece`](Disk::add_piece) is, 16 with the slot where a file got the name since, and 18 where the last
+    /// slot was taken since.
     pub fn close_record(&mut self, record: &Record) -> Result<Sectors<'_>, Refused> {
         let mut list = [0; CLOSE_LENGTH];
         let done = calls::record_close(self.image_mut().as_bytes_mut(), &record.0, &mut list).decode()?;
         self.changed(&list, done.value)
     }
 
-    /// Opens a recording of this file that writes to a store, which holds this disk, as its pieces come. Refused as
-    /// [`open_record`](Disk::open_record) is.
+    /// Opens a recording of this file that writes to a store, which holds this disk, as its pieces come.
+    ///
+    /// # Errors
+    ///
+    /// Refused as [`open_record`](Disk::open_record) is.
     pub fn record<'d, S: Store>(&'d mut self, file: &Particulars, store: &'d mut S) -> Result<Recording<'d, S>, Refused> {
         let record = self.open_record(file)?;
         Ok(Recording::go_on(self, store, record, 0))
@@ -221,6 +231,8 @@ impl<'d, S: Store> Recording<'d, S> {
 
     /// Adds a piece and writes the sectors that it completes. Gives how many they are. [`Write`](std::io::Write) does the same.
     ///
+    /// # Errors
+    ///
     /// Where the piece is refused, [19 or 30](Disk::add_piece), the recording is as before. Where a sector cannot be written
     /// it cannot go on: every later piece and the close fail with [`WriteError::Skipped`].
     pub fn add(&mut self, piece: &[u8]) -> Result<usize, RecordError> {
@@ -231,8 +243,12 @@ impl<'d, S: Store> Recording<'d, S> {
         Ok(many)
     }
 
-    /// Makes the recording a file, and writes its last sectors. Gives how many they are. Refused as
-    /// [`close_record`](Disk::close_record) is.
+    /// Makes the recording a file, and writes its last sectors. Gives how many they are.
+    ///
+    /// # Errors
+    ///
+    /// Refused as [`close_record`](Disk::close_record) is; or a sector cannot be written, and then all files are as before until the
+    /// last one is.
     pub fn close(self) -> Result<usize, RecordError> {
         let mut sectors = self.disk.close_record(&self.record)?;
         sectors.write_to(self.store, |_, _| {})?;
