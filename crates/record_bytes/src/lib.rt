@@ -131,6 +131,9 @@ pub fn put_grown(bytes: &mut [u8], held: Record)
 {
     let long = four_of(held.long);
     buffers::copy_into(bytes, LONG, &long);
-    buffers::copy_into(bytes, FIRST, &held.first);
-    buffers::copy_into(bytes, LAST, &held.last);
+    // Copied first, or the record would stand on the stack once more.
+    let first = held.first;
+    buffers::copy_into(bytes, FIRST, &first);
+    let last = held.last;
+    buffers::copy_into(bytes, LAST, &last);
 }
