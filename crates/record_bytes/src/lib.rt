@@ -96,18 +96,12 @@ fn bytes_of(held: Record) -> [u8; 2048]
     let mut bytes = [0u8; 2048];
     let front = front_of(held);
     buffers::copy_into(&mut bytes, 0, &front);
-    let name = held.name;
-    buffers::copy_into(&mut bytes, NAME, &name);
-    let exec = held.exec;
-    buffers::copy_into(&mut bytes, EXEC, &exec);
-    let info = held.info;
-    buffers::copy_into(&mut bytes, INFO, &info);
-    let used = held.used;
-    buffers::copy_into(&mut bytes, USED, &used);
-    let first = held.first;
-    buffers::copy_into(&mut bytes, FIRST, &first);
-    let last = held.last;
-    buffers::copy_into(&mut bytes, LAST, &last);
+    buffers::copy_into(&mut bytes, NAME, &held.name);
+    buffers::copy_into(&mut bytes, EXEC, &held.exec);
+    buffers::copy_into(&mut bytes, INFO, &held.info);
+    buffers::copy_into(&mut bytes, USED, &held.used);
+    buffers::copy_into(&mut bytes, FIRST, &held.first);
+    buffers::copy_into(&mut bytes, LAST, &held.last);
     bytes
 }
 
@@ -137,6 +131,7 @@ pub fn put_grown(bytes: &mut [u8], held: Record)
 {
     let long = four_of(held.long);
     buffers::copy_into(bytes, LONG, &long);
+    // Copied first, or the record would stand on the stack once more.
     let first = held.first;
     buffers::copy_into(bytes, FIRST, &first);
     let last = held.last;

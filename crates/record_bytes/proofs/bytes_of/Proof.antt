@@ -19,53 +19,35 @@ copy-into-requires c κs = search needs
 slice-aggregate-copy-into-3 : tie.Need-slice-aggregate-copy-into-3
 slice-aggregate-copy-into-3 c = search needs
 
-slice-aggregate-copy-into-4 : tie.Need-slice-aggregate-copy-into-4
-slice-aggregate-copy-into-4 c = search needs
-
 copy-into-requires-2 : tie.Need-copy-into-requires-2
 copy-into-requires-2 c κs = search needs
 
-slice-aggregate-copy-into-5 : tie.Need-slice-aggregate-copy-into-5
-slice-aggregate-copy-into-5 c = search needs
-
-slice-aggregate-copy-into-6 : tie.Need-slice-aggregate-copy-into-6
-slice-aggregate-copy-into-6 c = search needs
+slice-aggregate-copy-into-4 : tie.Need-slice-aggregate-copy-into-4
+slice-aggregate-copy-into-4 c = search needs
 
 copy-into-requires-3 : tie.Need-copy-into-requires-3
 copy-into-requires-3 c κs = search needs
 
-slice-aggregate-copy-into-7 : tie.Need-slice-aggregate-copy-into-7
-slice-aggregate-copy-into-7 c = search needs
-
-slice-aggregate-copy-into-8 : tie.Need-slice-aggregate-copy-into-8
-slice-aggregate-copy-into-8 c = search needs
+slice-aggregate-copy-into-5 : tie.Need-slice-aggregate-copy-into-5
+slice-aggregate-copy-into-5 c = search needs
 
 copy-into-requires-4 : tie.Need-copy-into-requires-4
 copy-into-requires-4 c κs = search needs
 
-slice-aggregate-copy-into-9 : tie.Need-slice-aggregate-copy-into-9
-slice-aggregate-copy-into-9 c = search needs
-
-slice-aggregate-copy-into-10 : tie.Need-slice-aggregate-copy-into-10
-slice-aggregate-copy-into-10 c = let g = c .before .before .before .before .before .before .before .before .before .before .before .before .before .before .before .before .before .before .before .before .before .before .before .good .0 in search (needs, g)
+slice-aggregate-copy-into-6 : tie.Need-slice-aggregate-copy-into-6
+slice-aggregate-copy-into-6 c = search needs
 
 copy-into-requires-5 : tie.Need-copy-into-requires-5
 copy-into-requires-5 c κs = search needs
 
-slice-aggregate-copy-into-11 : tie.Need-slice-aggregate-copy-into-11
-slice-aggregate-copy-into-11 c = search needs
-
-slice-aggregate-copy-into-12 : tie.Need-slice-aggregate-copy-into-12
-slice-aggregate-copy-into-12 c = let g = c .before .before .before .before .before .before .before .before .before .before .before .before .before .before .before .before .before .before .before .before .before .before .before .before .before .before .before .before .good .0 in search (needs, g)
+slice-aggregate-copy-into-7 : tie.Need-slice-aggregate-copy-into-7
+slice-aggregate-copy-into-7 c = search needs
 
 copy-into-requires-6 : tie.Need-copy-into-requires-6
 copy-into-requires-6 c κs = search needs
 
-slice-aggregate-copy-into-13 : tie.Need-slice-aggregate-copy-into-13
-slice-aggregate-copy-into-13 c = search needs
-
-slice-aggregate-copy-into-14 : tie.Need-slice-aggregate-copy-into-14
-slice-aggregate-copy-into-14 c = let g = c .before .before .before .before .before .before .before .before .before .before .before .before .before .before .before .before .before .before .before .before .before .before .before .before .before .before .before .before .before .before .before .before .before .good .0 in search (needs, g)
+slice-aggregate-copy-into-8 : tie.Need-slice-aggregate-copy-into-8
+slice-aggregate-copy-into-8 c = search needs
 
 copy-into-requires-7 : tie.Need-copy-into-requires-7
 copy-into-requires-7 c κs = search needs
@@ -73,12 +55,12 @@ copy-into-requires-7 c κs = search needs
 returns : tie.Need-returns
 returns c =
     let z = c .before in
-    let y = z .before .before .before .before .before in
-    let x = y .before .before .before .before .before in
-    let w = x .before .before .before .before .before in
-    let v = w .before .before .before .before .before in
-    let u = v .before .before .before .before .before in
-    let t = u .before .before .before .before .before in
+    let y = z .before .before .before .before .before .before in
+    let x = y .before .before .before .before .before .before in
+    let w = x .before .before .before .before .before .before in
+    let v = w .before .before .before .before .before .before in
+    let u = v .before .before .before .before .before .before in
+    let t = u .before .before .before .before .before .before in
     bytes-put _ (t .before .before .before .front-of .ensures) (t .copy-into .ensures) (u .copy-into2 .ensures) (v .copy-into3 .ensures) (w .copy-into4 .ensures) (x .copy-into5 .ensures) (y .copy-into6 .ensures) (z .copy-into7 .ensures)
 
 pub bytes-of-spec : {M : Type 1} → statement M
@@ -90,21 +72,15 @@ bytes-of-spec =
     slice-aggregate-copy-into-2
     copy-into-requires
     slice-aggregate-copy-into-3
-    slice-aggregate-copy-into-4
     copy-into-requires-2
-    slice-aggregate-copy-into-5
-    slice-aggregate-copy-into-6
+    slice-aggregate-copy-into-4
     copy-into-requires-3
-    slice-aggregate-copy-into-7
-    slice-aggregate-copy-into-8
+    slice-aggregate-copy-into-5
     copy-into-requires-4
-    slice-aggregate-copy-into-9
-    slice-aggregate-copy-into-10
+    slice-aggregate-copy-into-6
     copy-into-requires-5
-    slice-aggregate-copy-into-11
-    slice-aggregate-copy-into-12
+    slice-aggregate-copy-into-7
     copy-into-requires-6
-    slice-aggregate-copy-into-13
-    slice-aggregate-copy-into-14
+    slice-aggregate-copy-into-8
     copy-into-requires-7
     returns)
