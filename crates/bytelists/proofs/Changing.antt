@@ -37,7 +37,7 @@ use Rattle.plans.proofs.Ended.{dirs-some}
 use Rattle.plans.proofs.Saved.{save-long}
 use Rattle.plans.proofs.Sure.{save-tested}
 use Rattle.plans.proofs.Demand3.{run-room}
-use Rattle.saves.proofs.Planned.{free-le}
+use Rattle.taking.proofs.Shut.{free-le}
 use Rattle.packing.specs.Packed.{valueIn}
 use Rattle.bytelists.specs.Lists.{inBytes, changing, Counted}
 use Rattle.bytelists.proofs.Table.{Small, small-else, small-row, check-small}

@@ -11,7 +11,6 @@ use lib.ListN.{length, getD, length-take}
 use Rattle.refusals.specs.Order.{Refusal, refuse}
 use Rattle.refusals.specs.Answers.{Outcome, done, refused}
 use Rattle.slots.specs.Slot.{sectorsFor}
-use Rattle.slots.proofs.Tracks.{data-few}
 use Rattle.surveys.specs.Survey.{free, freeOf}
 use Rattle.surveys.specs.declared.UsedMap.{UsedMap}
 use Rattle.disk.specs.Look.{look, slotsOf, extra}
@@ -25,6 +24,7 @@ use Rattle.changes.specs.Settled.{settled, Made}
 use Rattle.changes.proofs.Laws.{settled-no, settled-short, settled-done}
 use Rattle.taking.specs.Taken.{shutMap, lowest}
 use Rattle.taking.proofs.Next.{clearBits}
+use Rattle.taking.proofs.Shut.{free-le}
 use Rattle.recordings.specs.declared.Record.{Record}
 use Rattle.recordings.specs.Recording.{Recording, more, chainOf, inner, moved, pieceSteps, pieceReply, piecePlan, adding}
 use Rattle.recordings.specs.Record.{recordingOf, grown, recordBy}
@@ -91,10 +91,6 @@ module _ (k : Record) (x d buf : List ℕ) where
 free-is : (d : List ℕ) (u : UsedMap) → Accepted d u → free (extra (look d)) (slotsOf (look d)) ≡ freeOf u
 unfolding free
 free-is d u a = ap₂ free (look-extra d) (look-slots d) ∙ sym (ap freeOf (a .used))
-
-free-le : (u : UsedMap) → freeOf u ≤ 1560
-unfolding freeOf
-free-le u = omega (arith, data-few (u .tracks))
 
 -- f: the free sectors, n: those of the body with the piece
 module _ (d : List ℕ) (u : UsedMap) (b : ℕ) (k : Record) (x buf : List ℕ) (o : Onward d u k b) (f : ℕ) (ef : f ≡ freeOf u) (n : ℕ) (en : n ≡ capped (k .long + length x)) where

@@ -13,7 +13,6 @@ use Rattle.refusals.specs.Order.{Refusal, refuse, Reply, _else_, row}
 use Rattle.refusals.specs.Answers.{Outcome, done, refused}
 use Rattle.slots.specs.Slot.{carried, sectorsFor}
 use Rattle.slots.specs.Tracks.{dataBit}
-use Rattle.slots.proofs.Tracks.{data-few}
 use Rattle.directory.specs.Places.{slots}
 use Rattle.directory.specs.Directory.{held, Directory, tracksOf, directory}
 use Rattle.surveys.specs.Survey.{union, usedMap, freeOf, free}
@@ -40,7 +39,7 @@ use Rattle.changes.specs.Settled.{Made}
 use Rattle.changes.proofs.Laws.{change-planned, settled-no, settled-short, settled-done}
 use Rattle.taking.specs.declared.Start.{Start}
 use Rattle.taking.specs.Taken.{askedReply, soughtIn, slotFor, shutMap, lowest}
-use Rattle.taking.proofs.Shut.{left-is}
+use Rattle.taking.proofs.Shut.{left-is, free-le}
 use Rattle.filing.specs.Filed.{dirsOf}
 use Rattle.filing.proofs.Laws.{dirs-are}
 use Rattle.saves.specs.Write.{wishFor, Writable, Savable, Open}
@@ -110,10 +109,6 @@ module _ (d : List ℕ) (s : Start) (name exec info body : List ℕ) where
 free-is : (d : List ℕ) (u : UsedMap) → Accepted d u → (f : ℕ) → f ≡ freeOf u → free (tracksOf d) (directory d) ≡ f
 unfolding free
 free-is d u a f e = sym (e ∙ ap freeOf (a .used))
-
-pub free-le : (u : UsedMap) → freeOf u ≤ 1560
-unfolding freeOf
-free-le u = omega (arith, data-few (u .tracks))
 
 taken-is : (d : List ℕ) (u : UsedMap) → Accepted d u → (v : Wish) → lowest (shutMap u) (sectorsFor (length (v .body))) ≡ taken (tracksOf d) (directory d) v
 unfolding taken lowest usedMap

@@ -1,5 +1,5 @@
 -- The bits that a save cannot take: all but those that are data and clear in the used map.
-use Prim.Native.Nat.{ℕ, zero, suc, _+_, _<_}
+use Prim.Native.Nat.{ℕ, zero, suc, _+_, _≤_, _<_}
 use mathlib.Core.Path.{_≡_, refl, ap, ap₂, _∙_}
 use mathlib.Core.Bool.{Bool, true, false, cond, not, _&&_, _||_}
 use mathlib.Core.List.{List, _∷_}
@@ -7,7 +7,8 @@ use native.Mathlib.Omega.{arith}
 use Rattle.maps.specs.Bits.{has, join}
 use Rattle.maps.proofs.Laws.{has-join}
 use Rattle.slots.specs.Tracks.{dataBit, innerMap}
-use Rattle.slots.proofs.Tracks.{length-inner, has-inner}
+use Rattle.slots.proofs.Tracks.{data-few, length-inner, has-inner}
+use Rattle.surveys.specs.Survey.{freeOf}
 use Rattle.surveys.specs.declared.UsedMap.{UsedMap}
 use Rattle.plans.specs.Saving.{passing}
 use Rattle.taking.specs.Taken.{unset, shutMap}
@@ -38,3 +39,8 @@ passing-cong (suc n) i p q h =
 -- the bits that are left
 pub left-is : (u : UsedMap) → passing 1560 0 (unset (shutMap u)) ≡ passing 1560 0 (λ b. dataBit (u .tracks) b && not (has (u .bytes) b))
 left-is u = passing-cong 1560 0 (unset (shutMap u)) (λ b. dataBit (u .tracks) b && not (has (u .bytes) b)) (λ b h. shut-is u b (omega arith))
+
+-- how many are left
+pub free-le : (u : UsedMap) → freeOf u ≤ 1560
+unfolding freeOf
+free-le u = omega (arith, data-few (u .tracks))
