@@ -526,12 +526,12 @@ const tests = {
       const { disk, recording } = begun();
       disk.hide('TUNES');
       const reader = disk.reader('TUNES');
-      recording.add(Uint8Array.of(7));
+      assert.equal(recording.add(bytes(600)).length, 1);
       assert.equal(recording.add(new Uint8Array(0)).length, 0);
       assert.equal(reader.read(new Uint8Array(100)), 100);
       assert.equal(recording.close().length, 3);
       assert.throws(() => reader.read(new Uint8Array(100)), /changed/);
-      assert.deepEqual(disk.read('TUNE'), whole);
+      assert.deepEqual(disk.read('TUNE'), Uint8Array.of(...bytes(2300), ...bytes(600)));
       refused(30, null, () => recording.close()); // once more
       disk.close();
     }
@@ -607,7 +607,8 @@ const tests = {
       assert.equal(look(store), before);
       // The rest by the bytes that were kept, on a disk that was opened anew.
       const anew = varnucht.open(store);
-      const rest = anew.goOn(recording.bytes);
+      const kept = recording.bytes;
+      const rest = anew.goOn(kept);
       if (room < 3) {
         refused(30, null, () => rest.add(bytes(2900).subarray(2300)));
         refused(30, null, () => rest.close());
@@ -616,6 +617,7 @@ const tests = {
       } else {
         const last = rest.add(bytes(2900).subarray(2300));
         assert.equal(last.length, 1);
+        assert.deepEqual(kept, recording.bytes); // it goes on with a copy
         if (room < 4) await cut(last, 0, /the recording cannot go on$/);
         else await last.writeTo(write);
         assert.equal(look(store), before);
