@@ -527,9 +527,10 @@ uint64_t varnucht_gather(uint8_t *image, varnucht_length image_len, const uint8_
  * the body was cut.
  *
  * The disk may be changed in between, and two recordings may be open at once. Where that gave sectors to others, or took
- * what was recorded already, the next call is refused 30, and so it is where sectors of a piece were not written: open a
- * new recording then. Where it is not refused, the close leaves a good disk and alters no other file; the file then reads
- * as its sectors do. So if a change in between wrote into them and gave them back, the bytes there are that change's.
+ * what was recorded already, the next call is refused 30, and so it is where sectors of a piece were not written, unless an
+ * erased file left the same links in them: open a new recording then. Where it is not refused, the close leaves a good disk
+ * and alters no other file; the file then reads as its sectors do. So if a change in between wrote into them and gave them
+ * back, the bytes there are that change's.
  *
  * A refused call leaves the record as it was, and a close never changes it: a close whose writing was stopped can be made
  * again. Of a record that was not made by these calls alone no more is promised than that each call answers, and that a
