@@ -416,6 +416,17 @@ export class Directory {
   get dataSectors() {
     return this.tracks === 4 ? DATA_SECTORS : SECTORS + 1 - 10 * this.tracks;
   }
+
+  // Track 4 sector 1 is never the directory's.
+  holds(number) {
+    return trackOf(number) < this.tracks && number !== sectorNumber(4, 1);
+  }
+
+  static sectorOfSlot(slot) {
+    const place = Math.floor((slot - 1) / 2);
+    const [track, sector] = place < 40 ? [Math.floor(place / 10), place % 10] : [Math.floor((place + 1) / 10), (place + 1) % 10];
+    return sectorNumber(track, sector + 1);
+  }
 }
 
 // The disk's name in slot 1; null where it has none. Bit 7 of its first byte is no part of it.

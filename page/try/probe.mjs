@@ -1,0 +1,31 @@
+import { startBrowser } from './browser.mjs';
+import { openTab } from './tab.mjs';
+import { resolve } from 'node:path';
+import { writeFileSync, copyFileSync, readFileSync } from 'node:fs';
+const b = await startBrowser();
+try {
+  const t0=Date.now();
+  const t = await openTab(b, `file://${resolve('target/page/varnucht.html')}`);
+  console.log(b.product, Date.now()-t0, await t.evaluate('isSecureContext + " " + typeof showOpenFilePicker'));
+  copyFileSync('samples/sample.mgt','/tmp/p.mgt');
+  await t.drop(['/tmp/p.mgt']);
+  await t.says(/accepted/);
+  console.log(await t.text('#verdict'), await t.text('#list'));
+  writeFileSync('/tmp/p1.png', await t.picture());
+  await t.click('#list button','TUNES');
+  await t.says(/chosen/);
+  writeFileSync('/tmp/p2.png', await t.picture());
+  await t.click('#file-tools button','Hex');
+  await t.until('x', async()=> (await t.text('#view-said'))==='10,000 bytes');
+  await t.click('#file-tools button','Hide');
+  await t.says(/hidden/);
+  writeFileSync('/tmp/p3.png', await t.picture({captureBeyondViewport:true}));
+  console.log(await t.text('#tools'), await t.text('#said'));
+  await t.click('#tools button','Save back').catch(e=>console.log(String(e)));
+  await new Promise(r=>setTimeout(r,1500));
+  console.log(await t.text('#said'), 'faults', t.faults, t.requests.map(u=>u.slice(0,60)));
+  await t.narrow(360,740);
+  await t.evaluate('scrollTo(0,0)');
+  console.log(await t.evaluate('document.documentElement.scrollWidth + " " + innerWidth'));
+  writeFileSync('/tmp/p4.png', await t.picture());
+} catch (e) { console.log(e); } finally { await b.stop(); }
