@@ -9,14 +9,15 @@ import { moveTo, ownerOf } from './map.mjs';
 import { attempt, say, whyNot } from './said.mjs';
 import { entries, state, tickedEntries } from './state.mjs';
 
-// A change: done, drawn and said. `what` is what can be undone then.
-function change(what, act, said) {
-  attempt(() => {
-    const done = state.item.change(what, act);
+// A change: done, drawn and said; whether it was done. `what` is what can be undone then.
+function change(what, run, said) {
+  return attempt(() => {
+    const done = state.item.change(what, run);
     closeView();
     draw();
     say(said(done));
-  });
+    return true;
+  }) === true;
 }
 
 const MARKED = { hide: 'hidden', show: 'shown', protect: 'protected', release: 'released' };
@@ -80,7 +81,8 @@ const redo = () => goBack('redo', 'Redone');
 function choose(slot) {
   state.slot = slot;
   draw();
-  if (slot !== null) say(`${byId('file-title').textContent} is chosen: ${byId('file-said').textContent}`);
+  byId('file').scrollIntoView({ block: 'nearest' });
+  say(`${byId('file-title').textContent} is chosen: ${byId('file-said').textContent}`);
 }
 
 function tick(slot, on) {

@@ -72,8 +72,9 @@ export function getDisk() {
   const { item } = state;
   const name = stampedName(item.label, state.given);
   state.given.add(name);
-  download(plain(item.image), name);
-  item.stored();
+  const image = item.image;
+  download(plain(image), name);
+  item.stored(image);
   say(`The disk is given as ${name}`);
 }
 
@@ -105,6 +106,6 @@ export async function saveBack() {
     say(`${item.label} does not hold what was written: download the disk`, true);
     return;
   }
-  if (sameBytes(item.image, image)) item.stored();
+  item.stored(image);
   say(`${item.label} is replaced by the disk as it is now`);
 }

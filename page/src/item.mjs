@@ -57,8 +57,9 @@ export class Item {
     return this.#back((image) => this.history.redo(image));
   }
 
-  stored() {
-    this.#stored = null;
+  // This image is stored somewhere now.
+  stored(image) {
+    this.#stored = sameBytes(image, this.image) ? null : image;
   }
 
   close() {

@@ -71,12 +71,13 @@ function readyForms() {
   });
   on('save-form', async () => {
     const body = new Uint8Array(await byId('save-body').files[0].arrayBuffer());
-    act.save({
+    const saved = act.save({
       kind: Number(byId('save-kind').value), text: byId('save-name').value, page: Number(byId('save-page').value),
       offset: Number(byId('save-offset').value), body,
     });
+    if (saved) for (const id of ['save-body', 'save-name']) byId(id).value = '';
   });
-  on('rename', () => act.rename(chosenEntry(), byId('rename-to').value));
+  on('rename', () => { if (act.rename(chosenEntry(), byId('rename-to').value)) byId('rename-to').value = ''; });
   on('go', () => act.chooseSector(sectorNumber(Number(byId('go-track').value), Number(byId('go-sector').value))));
 }
 

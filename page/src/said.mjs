@@ -1,5 +1,5 @@
 // What the page says of what was done: one line that screen readers read out.
-import { Refused, WriteError } from '../../js/varnucht.js';
+import { Refused } from '../../js/varnucht.js';
 import { byId } from './dom.mjs';
 
 export function say(text, refused = false) {
@@ -12,14 +12,14 @@ export const refusedWords = ({ number, slot, words: why }) => `Refused ${number}
 export const whyNot = (error) => (error instanceof Refused ? refusedWords(error) : error.message);
 
 // Does something that may be refused. A refusal is said and nothing else happens; what is no refusal is a fault, and is said too.
-export function attempt(act) {
+export function attempt(run) {
   const failed = (error) => {
     say(whyNot(error), true);
-    const known = [Refused, WriteError, SyntaxError, RangeError, TypeError, DOMException];
+    const known = [Refused, SyntaxError, RangeError, DOMException];
     if (!known.some((kind) => error instanceof kind)) throw error;
   };
   try {
-    const done = act();
+    const done = run();
     return done instanceof Promise ? done.catch(failed) : done;
   } catch (error) {
     return failed(error);

@@ -8,7 +8,7 @@ import { drawReport } from './report.mjs';
 import { attempt, refusedWords, say } from './said.mjs';
 import { state } from './state.mjs';
 
-const wordsFor = ({ disk, refusal }) => (disk ? `accepted, ${counted(disk.listing.entries.length, 'file')}` : refusedWords(refusal).toLowerCase());
+const wordsFor = ({ disk, refusal }) => (disk ? `accepted, ${counted(disk.listing.entries.length, 'file')}` : `r${refusedWords(refusal).slice(1)}`);
 
 export function showItem(item) {
   Object.assign(state, { item, slot: null, hover: null, sector: 0, ticked: new Set() });
