@@ -62,7 +62,7 @@ function row(entry, choose, tick) {
   const swatch = make('span', { class: 'swatch', 'aria-hidden': 'true' });
   swatch.style.background = entry.sectorCount > 0 ? colourOf(entry.slot) : 'transparent';
   const cells = columns().map(({ key, text, of }) => {
-    if (key === 'name') return make('td', { class: 'text' }, swatch, nameButton(entry, choose, 'name'));
+    if (key === 'name') return make('th', { scope: 'row', class: 'text' }, swatch, nameButton(entry, choose, 'name'));
     return make('td', { class: text ? 'text' : null }, text ? of(entry) : shown(of(entry)));
   });
   const point = () => pointAt(entry.slot);

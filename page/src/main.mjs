@@ -1,5 +1,5 @@
 // What starts the page, and what its fixed parts do.
-import { Kind, kindWords, load, sectorNumber } from '../../js/varnucht.js';
+import { Kind, LONGEST_BODY, kindWords, load, sectorNumber } from '../../js/varnucht.js';
 import { act } from './actions.mjs';
 import { closeView } from './bytes.mjs';
 import { byId, make } from './dom.mjs';
@@ -70,7 +70,8 @@ function readyForms() {
     attempt(run);
   });
   on('save-form', async () => {
-    const body = new Uint8Array(await byId('save-body').files[0].arrayBuffer());
+    // No more is read than shows that the body fits on no disk.
+    const body = new Uint8Array(await byId('save-body').files[0].slice(0, LONGEST_BODY + 1).arrayBuffer());
     const saved = act.save({
       kind: Number(byId('save-kind').value), text: byId('save-name').value, page: Number(byId('save-page').value),
       offset: Number(byId('save-offset').value), body,

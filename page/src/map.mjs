@@ -50,7 +50,7 @@ let owned = [];
 export const ownerOf = (number) => entries().find((entry) => entry.slot === owned[number]) ?? null;
 
 // What is said of a sector.
-export function sectorWords(number) {
+function sectorWords(number) {
   const where = `Track ${trackOf(number)}, sector ${sectorOf(number)}`;
   const entry = ownerOf(number);
   if (entry === null) return `${where}: ${{ [DIRECTORY]: 'the directory', [FREE]: 'free', [UNKNOWN]: 'not told, the disk is refused' }[owned[number]]}`;
@@ -72,7 +72,7 @@ function paint() {
   pen.scale(ratio, ratio);
   owned.forEach((owner, number) => {
     const { x, y } = placeIn(form, number);
-    pen.globalAlpha = hot !== null && owner > 0 && owner !== hot ? 0.3 : 1;
+    pen.globalAlpha = hot !== null && owner > 0 && owner !== hot ? 0.35 : 1;
     pen.fillStyle = owner > 0 ? colourOf(owner) : plain[owner];
     pen.fillRect(x, y, form.cell - 1, form.cell - 1);
   });

@@ -10,7 +10,7 @@ import { state } from './state.mjs';
 
 const wordsFor = ({ disk, refusal }) => (disk ? `accepted, ${counted(disk.listing.entries.length, 'file')}` : `r${refusedWords(refusal).slice(1)}`);
 
-export function showItem(item) {
+function showItem(item) {
   Object.assign(state, { item, slot: null, hover: null, sector: 0, ticked: new Set() });
   closeView();
   draw();
@@ -37,6 +37,7 @@ export function drawShelf() {
 
 // Opens files, or handles of files that can be saved back. The first of them is shown.
 export async function openAll(sources) {
+  if (sources.length === 0) return say('That was no file');
   const opened = [];
   const failed = [];
   for (const { file, handle } of sources) {
@@ -50,7 +51,7 @@ export async function openAll(sources) {
   if (opened.length > 0) showItem(opened[0]);
   const bad = opened.filter(({ disk }) => !disk);
   const told = opened.length === 1 ? `${opened[0].label}: ${wordsFor(opened[0])}` : `${counted(opened.length, 'image')} opened, ${bad.length} refused`;
-  say([told, ...failed].join('. '), failed.length > 0 || (opened.length === 1 && bad.length === 1));
+  return say([told, ...failed].join('. '), failed.length > 0 || (opened.length === 1 && bad.length === 1));
 }
 
 export const report = () => attempt(() => {

@@ -34,7 +34,18 @@ function nested() {
   ['LETTER', 'CHESS', 'PONG'].forEach((name, i) => disk.save({ kind: Kind.CODE, name, start: START, body: drawn(300 + i) }));
   const after = disk.image;
   [0, 7, 8].forEach((parent, i) => { after[256 * (3 + i) + 254] = parent; });
+  after[256 * 3] = Kind.ZX_GENERIC; // the headers of a code file and of the Spectrum's have length and start in the same places
   return after;
+}
+
+// The sample with more on it, as a disk that was used for years: for the picture of README.md.
+function used(sample) {
+  const disk = varnucht.open(sample);
+  const save = (i, length) => disk.save({ kind: i % 3 ? Kind.CODE : Kind.SCREEN, name: `PART ${i}`, start: START, body: drawn(length, i) });
+  for (let i = 1; i <= 24; i++) save(i, 3000 + ((i * 9973) % 41000));
+  for (let i = 2; i <= 24; i += 2) disk.erase(`PART ${i}`);
+  disk.save({ kind: Kind.CODE, name: 'ENDING', start: START, body: drawn(60000) });
+  return disk.image;
 }
 
 // A file whose length was made less, in its slot and in its header: a sector is left over.
@@ -55,7 +66,7 @@ function broken(sample) {
 }
 
 export function makeDisks(room, sample) {
-  const disks = { sample, short: sample.subarray(0, 1000), long: Buffer.concat([sample, Uint8Array.of(0)]), broken: broken(sample), nested: nested(), waste: wasteful() };
+  const disks = { sample, short: sample.subarray(0, 1000), long: Buffer.concat([sample, Uint8Array.of(0)]), broken: broken(sample), nested: nested(), waste: wasteful(), compilation: used(sample) };
   const paths = Object.fromEntries(Object.entries(disks).map(([name, bytes]) => {
     writeFileSync(`${room}/${name}.mgt`, bytes);
     return [name, `${room}/${name}.mgt`];

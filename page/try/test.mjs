@@ -34,7 +34,7 @@ const body = (name, length) => {
 const tab = await openTab(browser, pathToFileURL(PAGE).href);
 
 const chooseFile = async (name) => {
-  await tab.click('#list td button', name);
+  await tab.click('#list tbody button', name);
   await tab.until(`${name} is chosen`, async () => (await tab.text('#file-title')) === name);
 };
 const onFile = async (name, button) => {
@@ -109,7 +109,7 @@ const steps = {
     await tab.until('the other file is told', async () => /TITLE/.test(await tab.text('#map-said')));
     assert.notEqual(await colourAt(title), faded);
     assert.notEqual(await colourAt(tunes), full);
-    const row = await tab.placeOf('#list td button', 'TUNES');
+    const row = await tab.placeOf('#list tbody button', 'TUNES');
     await tab.mouse('mouseMoved', row);
     assert.equal(await tab.evaluate(`document.getElementById('map').getContext('2d').getImageData(4.5 * document.getElementById('map').clientWidth / 80, 1.5 * document.getElementById('map').clientWidth / 80, 1, 1).data.join()`), full);
   },
@@ -327,6 +327,9 @@ const steps = {
     await tab.choose('#images', disks.nested);
     await tab.says('nested.mgt: accepted, 6 files');
     assert.deepEqual((await rows()).map((row) => row.at(-1)), ['', 'GAMES', '', '', 'GAMES', 'ARCADE']);
+    // A file of the Spectrum has its length and its start in its header.
+    const [, name, , kind, , length, start] = (await rows())[3];
+    assert.deepEqual([name, kind, Number(length), start], ['LETTER', 'ZX generic', tool('read', disks.nested, 'LETTER').length, '32,768']);
     await tab.click('#tree-box summary');
     const depth = await tab.evaluate(`[...document.querySelectorAll('#tree button')].map((each) => { let n = 0; for (let at = each; at.id !== 'tree'; at = at.parentElement) n += at.tagName === 'UL'; return [n - 1, each.textContent]; })`);
     const lines = tool('tree', disks.nested).toString().trimEnd().split('\n').slice(1, -1);
@@ -399,7 +402,7 @@ const steps = {
       const parts = (colour) => colour.match(/[\\d.]+/g).slice(0, 3).map((part) => { const c = part / 255; return c <= 0.03928 ? c / 12.92 : ((c + 0.055) / 1.055) ** 2.4; });
       const light = (colour) => { const [r, g, b] = parts(colour); return 0.2126 * r + 0.7152 * g + 0.0722 * b; };
       const behind = (each) => { for (let at = each; at; at = at.parentElement) { const back = getComputedStyle(at).backgroundColor; if (!/, 0\\)|transparent/.test(back)) return back; } };
-      const all = [...document.querySelectorAll('h1, h2, p, td, th, td button, #tools button:not(:disabled), label')].filter((each) => each.offsetParent && each.textContent.trim());
+      const all = [...document.querySelectorAll('h1, h2, p, td, th, th button, #tools button:not(:disabled), label')].filter((each) => each.offsetParent && each.textContent.trim());
       return Math.min(...all.map((each) => { const [one, two] = [light(getComputedStyle(each).color), light(behind(each))].sort(); return (two + 0.05) / (one + 0.05); }));
     })()`;
     const backs = [];
@@ -466,7 +469,7 @@ async function savesBack() {
     await other.drop([disks.sample]);
     await other.says('sample.mgt: accepted, 13 files');
     const erase = async (name) => {
-      await other.click('#list td button', name);
+      await other.click('#list tbody button', name);
       await other.click('#file-tools button', 'Erase');
       await other.says(`${name} is erased; it can be undone`);
     };
@@ -507,14 +510,15 @@ async function savesBack() {
 
 // The picture of README.md, taken where a folder is named for it.
 async function takePicture(path) {
-  await tab.narrow(1100, 1010);
+  await tab.narrow(1240, 1290);
   await tab.evaluate(`location.reload(); 0`);
   await tab.until('the page is new', () => tab.evaluate(`document.body?.dataset.ready === 'yes' && document.getElementById('disk').hidden`));
-  await tab.drop([disks.sample, disks.broken, disks.nested]);
-  await tab.says('3 images opened, 1 refused');
-  await chooseFile('TUNES');
+  await tab.drop([disks.compilation, disks.broken]);
+  await tab.says('2 images opened, 1 refused');
+  await onFile('TUNES', 'Hide');
+  await tab.says('TUNES is hidden');
   await tab.evaluate('scrollTo(0, 0)');
-  writeFileSync(path, await tab.picture());
+  writeFileSync(path, await tab.picture({ clip: { x: 0, y: 0, width: 1240, height: 1290, scale: 0.75 } }));
 }
 
 const began = Date.now();
