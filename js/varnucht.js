@@ -433,8 +433,9 @@ export class Directory {
 function diskName(image) {
   const bytes = image.slice(210, 220);
   bytes[0] &= 127;
-  const last = bytes.findLastIndex((byte) => byte !== 32 && byte !== 0);
-  return bytes[0] === 0 || bytes[0] === 127 || last < 0 ? null : bytes.slice(0, last + 1);
+  let length = bytes.length;
+  while (length > 0 && (bytes[length - 1] === 32 || bytes[length - 1] === 0)) length--;
+  return bytes[0] === 0 || bytes[0] === 127 || length === 0 ? null : bytes.slice(0, length);
 }
 
 export function blank(tracks = 4) {

@@ -1,6 +1,7 @@
 // Numbers, counts and file names as the page writes them.
 
-export const grouped = (number) => number.toLocaleString('en');
+const GROUPS = new Intl.NumberFormat('en');
+export const grouped = (number) => GROUPS.format(number);
 
 export const counted = (number, one, many = `${one}s`) => `${grouped(number)} ${number === 1 ? one : many}`;
 

@@ -28,9 +28,8 @@ export class History {
     if (altered.length === 0) return;
     this.#back.push({ what, sectors: altered.map((number) => ({ number, bytes: sectorAt(before, number).slice() })) });
     this.#forth = [];
-    let kept = 0;
-    const from = this.#back.findLastIndex(({ sectors }) => (kept += sectors.length * SECTOR_LENGTH) > MOST_BYTES);
-    this.#back.splice(0, from + 1);
+    let kept = this.#back.reduce((sum, { sectors }) => sum + sectors.length, 0);
+    while (kept * SECTOR_LENGTH > MOST_BYTES) kept -= this.#back.shift().sectors.length;
   }
 
   // Each alters the image, and gives what was undone or redone.

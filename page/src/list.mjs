@@ -42,9 +42,9 @@ const DIRECTORY_COLUMN = { key: 'in', text: true, of: inWhich };
 
 const columns = () => (entries().some((entry) => entry.isDirectory || entry.parentCode !== 0) ? [...COLUMNS, DIRECTORY_COLUMN] : COLUMNS);
 
-function sorted() {
+function sorted(shownColumns) {
   const { by, down } = state.sort;
-  const { of } = columns().find(({ key }) => key === by) ?? COLUMNS[0];
+  const { of } = shownColumns.find(({ key }) => key === by) ?? COLUMNS[0];
   const rank = (one, two) => (one < two ? -1 : one > two ? 1 : 0);
   const keyed = entries().map((entry) => ({ entry, value: of(entry) ?? -1 }));
   keyed.sort((one, two) => (down ? -1 : 1) * rank(one.value, two.value) || one.entry.slot - two.entry.slot);
@@ -54,14 +54,14 @@ function sorted() {
 export const nameButton = (entry, choose, key) =>
   button(String(entry.name), () => choose(entry.slot), { 'data-key': `${key} ${entry.slot}`, 'aria-pressed': String(entry.slot === state.slot) });
 
-function row(entry, choose, tick) {
+function row(entry, shownColumns, { choose, tick }) {
   const box = make('input', {
     type: 'checkbox', 'data-key': `tick ${entry.slot}`, 'aria-label': `Tick ${entry.name}`, checked: state.ticked.has(entry.slot),
     on: { change: (event) => tick(entry.slot, event.target.checked) },
   });
   const swatch = make('span', { class: 'swatch', 'aria-hidden': 'true' });
   swatch.style.background = entry.sectorCount > 0 ? colourOf(entry.slot) : 'transparent';
-  const cells = columns().map(({ key, text, of }) => {
+  const cells = shownColumns.map(({ key, text, of }) => {
     if (key === 'name') return make('th', { scope: 'row', class: 'text' }, swatch, nameButton(entry, choose, 'name'));
     return make('td', { class: text ? 'text' : null }, text ? of(entry) : shown(of(entry)));
   });
@@ -73,20 +73,21 @@ function row(entry, choose, tick) {
   }, make('td', {}, box), ...cells);
 }
 
-export function drawList({ choose, tick, sort, eraseTicked, tickAll }) {
-  const heads = columns().map(({ key, text }) => {
+export function drawList(act) {
+  const shownColumns = columns();
+  const heads = shownColumns.map(({ key, text }) => {
     const now = state.sort.by === key;
     const sign = now ? (state.sort.down ? ' ▼' : ' ▲') : '';
     return make('th', { scope: 'col', class: text ? 'text' : null, 'aria-sort': now ? (state.sort.down ? 'descending' : 'ascending') : 'none' },
-      button(`${key}${sign}`, () => sort(key), { 'data-key': `sort ${key}` }));
+      button(`${key}${sign}`, () => act.sort(key), { 'data-key': `sort ${key}` }));
   });
   const corner = make('td', {});
   byId('list').replaceChildren(make('table', {},
     make('caption', {}, `${counted(entries().length, 'file')}. A name chooses the file; a heading sorts.`),
     make('thead', {}, make('tr', {}, corner, ...heads)),
-    make('tbody', {}, ...sorted().map((entry) => row(entry, choose, tick)))));
+    make('tbody', {}, ...sorted(shownColumns).map((entry) => row(entry, shownColumns, act)))));
   const many = tickedEntries().length;
   byId('ticked').replaceChildren(
-    button(many === entries().length && many > 0 ? 'Tick none' : 'Tick all', tickAll, { 'data-key': 'tick all', disabled: entries().length === 0 }),
-    button(many ? `Erase ${counted(many, 'ticked file')}` : 'Erase ticked files', eraseTicked, { 'data-key': 'erase ticked', disabled: many === 0 }));
+    button(many === entries().length && many > 0 ? 'Tick none' : 'Tick all', act.tickAll, { 'data-key': 'tick all', disabled: entries().length === 0 }),
+    button(many ? `Erase ${counted(many, 'ticked file')}` : 'Erase ticked files', act.eraseTicked, { 'data-key': 'erase ticked', disabled: many === 0 }));
 }

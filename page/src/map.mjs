@@ -46,6 +46,7 @@ function owners() {
 }
 
 let owned = [];
+let ownedOf = null; // the listing that it was made of: another one after every change
 
 export const ownerOf = (number) => entries().find((entry) => entry.slot === owned[number]) ?? null;
 
@@ -92,7 +93,9 @@ function tell() {
 }
 
 export function drawMap() {
-  owned = owners();
+  const listing = state.item.disk?.listing ?? null;
+  if (listing === null || listing !== ownedOf) owned = owners();
+  ownedOf = listing;
   paint();
   tell();
 }
