@@ -22,9 +22,15 @@ async function sourcesOf(transfer) {
 
 function readyDrop() {
   const over = (on) => document.body.classList.toggle('over', on);
-  window.addEventListener('dragover', (event) => { event.preventDefault(); over(true); });
+  const hasFiles = (event) => event.dataTransfer.types.includes('Files'); // text that is dragged is the browser's affair
+  window.addEventListener('dragover', (event) => {
+    if (!hasFiles(event)) return;
+    event.preventDefault();
+    over(true);
+  });
   window.addEventListener('dragleave', (event) => { if (event.relatedTarget === null) over(false); });
   window.addEventListener('drop', (event) => {
+    if (!hasFiles(event)) return;
     event.preventDefault();
     over(false);
     // On the form of a save it is the file to be saved.
@@ -70,8 +76,13 @@ function readyForms() {
     attempt(run);
   });
   on('save-form', async () => {
+    const { item } = state;
     // No more is read than shows that the body fits on no disk.
     const body = new Uint8Array(await byId('save-body').files[0].slice(0, LONGEST_BODY + 1).arrayBuffer());
+    if (state.item !== item) {
+      say('Another disk is shown meanwhile: nothing was saved', true);
+      return;
+    }
     const saved = act.save({
       kind: Number(byId('save-kind').value), text: byId('save-name').value, page: Number(byId('save-page').value),
       offset: Number(byId('save-offset').value), body,

@@ -5,7 +5,7 @@ import { mkdtempSync, rmSync } from 'node:fs';
 import { tmpdir } from 'node:os';
 import { join } from 'node:path';
 
-const DEADLINE = 15000;
+const DEADLINE = 30000;
 
 export async function startBrowser() {
   const room = mkdtempSync(join(tmpdir(), 'varnucht-page-'));
@@ -24,6 +24,11 @@ export async function startBrowser() {
     for (const { fail } of waiting.values()) fail(ended);
     waiting.clear();
   };
+  // Whatever ends the test ends the browser too.
+  process.on('exit', () => {
+    child.kill('SIGKILL');
+    rmSync(room, { recursive: true, force: true, maxRetries: 10, retryDelay: 50 });
+  });
   child.on('error', (error) => end(`chromium cannot be started: ${error.message}`));
   child.on('exit', (status) => end(`chromium ended with status ${status}`));
   child.stderr.on('data', (part) => { complaints += part; });

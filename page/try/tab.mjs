@@ -3,7 +3,7 @@ import assert from 'node:assert/strict';
 import { existsSync, mkdirSync, readFileSync, readdirSync } from 'node:fs';
 import { join, resolve } from 'node:path';
 
-const PATIENCE = 8000;
+const PATIENCE = 20000;
 const pause = (ms) => new Promise((done) => setTimeout(done, ms));
 
 export async function openTab(browser, url) {

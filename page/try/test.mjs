@@ -1,7 +1,7 @@
 // The page in a real browser, from a file: node page/try/test.mjs. What comes out of it is compared with what the host's tool does.
 import assert from 'node:assert/strict';
 import { execFileSync } from 'node:child_process';
-import { copyFileSync, readFileSync, readdirSync, writeFileSync } from 'node:fs';
+import { copyFileSync, readFileSync, writeFileSync } from 'node:fs';
 import { createServer } from 'node:http';
 import { resolve } from 'node:path';
 import { pathToFileURL } from 'node:url';
@@ -433,6 +433,24 @@ const steps = {
     await tab.says('Undone: hide AUTO');
     await tab.ask('Emulation.setEmulatedMedia', { features: [] });
     await tab.narrow(1000, 900);
+  },
+
+  async 'a file that is dropped on the form is the one to be saved'() {
+    const before = (await shelf()).length;
+    const host = `${browser.room}/dropped.mgt`;
+    copyFileSync(`${browser.room}/host.mgt`, host);
+    const note = body('note.one.txt', 1000);
+    await tab.drop([note], await tab.placeOf('#save-title'));
+    await tab.until('it has a name', () => tab.evaluate(`document.getElementById('save-name').value === 'note.one'`));
+    await tab.evaluate(`document.getElementById('save-kind').value = 16`);
+    await tab.fill('#save-page', '2');
+    await tab.fill('#save-offset', '32768');
+    await tab.key('Enter', { text: '\r' });
+    await tab.says('note.one is saved');
+    tool('save', host, 'note.one', note, '--kind', 'basic', '--page', '2');
+    assert.equal((await shelf()).length, before);
+    const got = await tab.download(() => toDisk('Download the disk'));
+    assert.ok(got.bytes.equals(readFileSync(host)));
   },
 
   async 'a disk is taken off the shelf, and a changed one only when that is meant'() {
