@@ -33,6 +33,9 @@ const gather = (entry) =>
   change(`gather ${entry.name}`, (disk) => disk.gather(entry.name), (sectors) =>
     (sectors.length === 0 ? `${entry.name} lies in a row already` : `${entry.name} is moved to sectors in a row`));
 
+// Those of several files that were refused, each with its reason.
+const leftWords = (left) => (left.length === 0 ? '' : `. Left: ${left.join('; ')}`);
+
 // Each file by rising slot, into what those before it left free. Those that find no room stay, and are named.
 function gatherEach(disk) {
   const told = { moved: 0, left: [] };
@@ -49,13 +52,13 @@ function gatherEach(disk) {
 }
 
 const gatherAll = () =>
-  change('gather all', gatherEach, ({ moved, left }) => `${counted(moved, 'file is', 'files are')} moved${left.length ? `. Left: ${left.join('; ')}` : ''}`);
+  change('gather all', gatherEach, ({ moved, left }) => `${counted(moved, 'file is', 'files are')} moved${leftWords(left)}`);
 
 function eraseTicked() {
   const ticked = tickedEntries();
   change(`erase ${counted(ticked.length, 'file')}`, (disk) => disk.eraseMany(ticked.map(({ name }) => name)), ({ answers }) => {
     const left = answers.flatMap((why, i) => (why === null ? [] : [`${ticked[i].name}: ${whyNot(why)}`]));
-    return `${counted(answers.length - left.length, 'file is', 'files are')} erased${left.length ? `. Left: ${left.join('; ')}` : ''}`;
+    return `${counted(answers.length - left.length, 'file is', 'files are')} erased${leftWords(left)}`;
   });
 }
 
@@ -145,6 +148,6 @@ const writeBack = () => attempt(async () => {
 
 // All of them, for what draws the buttons.
 export const act = Object.freeze({
-  mark, erase, rename, gather, gatherAll, eraseTicked, save, undo, redo, choose, tick, tickAll, sort, chooseSector, view, checkRelease, get, getEach,
-  downloadDisk, writeBack,
+  mark, erase, rename, gather, gatherAll, eraseTicked, save, undo, redo,
+  choose, tick, tickAll, sort, chooseSector, view, checkRelease, get, getEach, downloadDisk, writeBack,
 });

@@ -13,7 +13,8 @@ const two = (byte) => byte.toString(16).padStart(2, '0');
 function hexLine(bytes, at, digits) {
   const cells = Array.from(bytes, two);
   const half = (from) => cells.slice(from, from + LINE / 2).join(' ');
-  return `${at.toString(16).padStart(digits, '0')}  ${`${half(0)}  ${half(LINE / 2)}`.padEnd(3 * LINE + 1)} |${Array.from(bytes, sign).join('')}|`;
+  const all = `${half(0)}  ${half(LINE / 2)}`.padEnd(3 * LINE + 1);
+  return `${at.toString(16).padStart(digits, '0')}  ${all} |${Array.from(bytes, sign).join('')}|`;
 }
 
 function hexOf(bytes, from, digits) {

@@ -14,8 +14,12 @@ import { drawTree } from './tree.mjs';
 function verdict({ disk }) {
   const { listing, directory } = disk;
   const room = listing.room === null ? 'no room for a file' : `room for a file of ${counted(listing.room, 'byte')}`;
-  return `Accepted. ${disk.name === null ? '' : `The disk's name is ${disk.name}. `}${counted(listing.entries.length, 'file')}, ` +
-    `${counted(listing.free, 'sector')} free: ${room}. ${directory.tracks} directory tracks: ${grouped(directory.slots)} slots, ${grouped(listing.freeSlots)} free.`;
+  return [
+    'Accepted.',
+    disk.name === null ? '' : ` The disk's name is ${disk.name}.`,
+    ` ${counted(listing.entries.length, 'file')}, ${counted(listing.free, 'sector')} free: ${room}.`,
+    ` ${directory.tracks} directory tracks: ${grouped(directory.slots)} slots, ${grouped(listing.freeSlots)} free.`,
+  ].join('');
 }
 
 function drawDisk() {
@@ -28,9 +32,13 @@ function drawDisk() {
   byId('tools').replaceChildren(...(item.disk ? diskTools(item) : refusedTools(item)));
 }
 
+// Undo and Redo say what they undo.
+const backButton = (word, what, run) =>
+  button(what === null ? word : `${word} ${what}`, run, { 'data-key': word.toLowerCase(), disabled: what === null });
+
 const diskTools = (item) => [
-  button(item.history.last === null ? 'Undo' : `Undo ${item.history.last}`, act.undo, { 'data-key': 'undo', disabled: item.history.last === null }),
-  button(item.history.next === null ? 'Redo' : `Redo ${item.history.next}`, act.redo, { 'data-key': 'redo', disabled: item.history.next === null }),
+  backButton('Undo', item.history.last, act.undo),
+  backButton('Redo', item.history.next, act.redo),
   button('Download the disk', act.downloadDisk),
   item.handle ? button('Save back', act.writeBack, { disabled: !item.changed }) : null,
   button('Get all files', act.getEach, { disabled: entries().length === 0 }),
@@ -42,7 +50,8 @@ const diskTools = (item) => [
 function refusedTools({ refusal }) {
   if (refusal.slot === null) return [];
   const number = Directory.sectorOfSlot(refusal.slot);
-  return [button(`Show slot ${refusal.slot}: track ${trackOf(number)}, sector ${sectorOf(number)}`, () => act.chooseSector(number), { 'data-key': 'slot' })];
+  const text = `Show slot ${refusal.slot}: track ${trackOf(number)}, sector ${sectorOf(number)}`;
+  return [button(text, () => act.chooseSector(number), { 'data-key': 'slot' })];
 }
 
 function drawSections() {

@@ -44,8 +44,11 @@ function pathsOf(disk) {
 const LISTING_NAME = 'varnucht-listing.txt';
 
 function listingText(paths) {
-  const line = (entry) => [entry.slot, entry.name, paths.get(entry.slot), kindWords(entry.kind), marksOf(entry), entry.sectorCount, lengthOf(entry) ?? '', startOf(entry) ?? ''].join('\t');
-  return `slot\tname\tpath\tkind\tmarks\tsectors\tlength\tstart\n${entries().map((entry) => `${line(entry)}\n`).join('')}`;
+  const heads = ['slot', 'name', 'path', 'kind', 'marks', 'sectors', 'length', 'start'];
+  const cells = (entry) => [
+    entry.slot, entry.name, paths.get(entry.slot), kindWords(entry.kind), marksOf(entry), entry.sectorCount, lengthOf(entry) ?? '', startOf(entry) ?? '',
+  ];
+  return [heads, ...entries().map(cells)].map((line) => `${line.join('\t')}\n`).join('');
 }
 
 export function getAll() {

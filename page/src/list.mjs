@@ -52,7 +52,9 @@ function sorted(shownColumns) {
 }
 
 export const nameButton = (entry, choose, key) =>
-  button(String(entry.name), () => choose(entry.slot), { 'data-key': `${key} ${entry.slot}`, 'aria-pressed': String(entry.slot === state.slot) });
+  button(String(entry.name), () => choose(entry.slot), {
+    'data-key': `${key} ${entry.slot}`, 'aria-pressed': String(entry.slot === state.slot),
+  });
 
 function row(entry, shownColumns, { choose, tick }) {
   const box = make('input', {
@@ -78,7 +80,8 @@ export function drawList(act) {
   const heads = shownColumns.map(({ key, text }) => {
     const now = state.sort.by === key;
     const sign = now ? (state.sort.down ? ' ▼' : ' ▲') : '';
-    return make('th', { scope: 'col', class: text ? 'text' : null, 'aria-sort': now ? (state.sort.down ? 'descending' : 'ascending') : 'none' },
+    const order = now ? (state.sort.down ? 'descending' : 'ascending') : 'none';
+    return make('th', { scope: 'col', class: text ? 'text' : null, 'aria-sort': order },
       button(`${key}${sign}`, () => act.sort(key), { 'data-key': `sort ${key}` }));
   });
   const corner = make('td', {});
@@ -86,8 +89,12 @@ export function drawList(act) {
     make('caption', {}, `${counted(entries().length, 'file')}. A name chooses the file; a heading sorts.`),
     make('thead', {}, make('tr', {}, corner, ...heads)),
     make('tbody', {}, ...sorted(shownColumns).map((entry) => row(entry, shownColumns, act)))));
-  const many = tickedEntries().length;
+  drawTicked(act);
+}
+
+function drawTicked({ tickAll, eraseTicked }) {
+  const [many, all] = [tickedEntries().length, entries().length];
   byId('ticked').replaceChildren(
-    button(many === entries().length && many > 0 ? 'Tick none' : 'Tick all', act.tickAll, { 'data-key': 'tick all', disabled: entries().length === 0 }),
-    button(many ? `Erase ${counted(many, 'ticked file')}` : 'Erase ticked files', act.eraseTicked, { 'data-key': 'erase ticked', disabled: many === 0 }));
+    button(many === all && all > 0 ? 'Tick none' : 'Tick all', tickAll, { 'data-key': 'tick all', disabled: all === 0 }),
+    button(many > 0 ? `Erase ${counted(many, 'ticked file')}` : 'Erase ticked files', eraseTicked, { 'data-key': 'erase ticked', disabled: many === 0 }));
 }

@@ -17,7 +17,8 @@ async function sourcesOf(transfer) {
   const items = [...transfer.items].filter((item) => item.kind === 'file');
   const plainFiles = items.map((item) => item.getAsFile());
   const handles = await Promise.all(items.map((item) => item.getAsFileSystemHandle?.().catch(() => null) ?? null));
-  return plainFiles.map((file, i) => ({ file, handle: handles[i]?.kind === 'file' ? handles[i] : null })).filter(({ file }) => file !== null);
+  const both = plainFiles.map((file, i) => ({ file, handle: handles[i]?.kind === 'file' ? handles[i] : null }));
+  return both.filter(({ file }) => file !== null);
 }
 
 function readyDrop() {

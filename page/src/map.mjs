@@ -36,6 +36,7 @@ function numberAt({ across, cell, bands, band }, x, y) {
 const DIRECTORY = -1;
 const FREE = 0;
 const UNKNOWN = -2;
+const OWNER_WORDS = { [DIRECTORY]: 'the directory', [FREE]: 'free', [UNKNOWN]: 'not told, the disk is refused' };
 
 function owners() {
   const { disk } = state.item;
@@ -54,7 +55,7 @@ export const ownerOf = (number) => entries().find((entry) => entry.slot === owne
 function sectorWords(number) {
   const where = `Track ${trackOf(number)}, sector ${sectorOf(number)}`;
   const entry = ownerOf(number);
-  if (entry === null) return `${where}: ${{ [DIRECTORY]: 'the directory', [FREE]: 'free', [UNKNOWN]: 'not told, the disk is refused' }[owned[number]]}`;
+  if (entry === null) return `${where}: ${OWNER_WORDS[owned[number]]}`;
   const chain = state.item.disk.chain(entry.name);
   return `${where}: ${entry.name}, its sector ${chain.indexOf(number) + 1} of ${chain.length}`;
 }

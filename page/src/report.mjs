@@ -9,16 +9,22 @@ const table = (caption, heads, rows) =>
     make('tbody', {}, ...rows.map(([first, ...rest]) =>
       make('tr', {}, make('th', { scope: 'row', class: 'text' }, first), ...rest.map((number) => make('td', {}, grouped(number)))))));
 
-const classWords = ({ from, to }) => (to === null ? `${grouped(from)} and more` : from === to ? grouped(from) : `${grouped(from)} to ${grouped(to)}`);
+function classWords({ from, to }) {
+  if (to === null) return `${grouped(from)} and more`;
+  return from === to ? grouped(from) : `${grouped(from)} to ${grouped(to)}`;
+}
+
+const shelfWords = ({ disks, accepted: good, files, fileSectors, freeSectors }) =>
+  `${counted(disks, 'disk')}, ${grouped(good)} accepted; ${counted(files, 'file')} with ${counted(fileSectors, 'sector')}, ${counted(freeSectors, 'sector')} free`;
 
 export function drawReport() {
   const report = state.library.report();
   for (const item of state.items) report.add(item.image);
+  const refused = report.refusals.map(({ number, words: why, disks }) => [`${number}: ${why}`, disks]);
   byId('report').hidden = false;
   byId('report').replaceChildren(...[
-    make('p', { id: 'report-said' }, `${counted(report.disks, 'disk')}, ${grouped(report.accepted)} accepted; ${counted(report.files, 'file')} with ` +
-      `${counted(report.fileSectors, 'sector')}, ${counted(report.freeSectors, 'sector')} free`),
-    report.refusals.length === 0 ? null : table('Refused disks', ['reason', 'disks'], report.refusals.map(({ number, words: why, disks }) => [`${number}: ${why}`, disks])),
+    make('p', { id: 'report-said' }, shelfWords(report)),
+    refused.length === 0 ? null : table('Refused disks', ['reason', 'disks'], refused),
     table('Files by kind', ['kind', 'files'], report.kinds.map(({ kind, words: name, files }) => [`${kind} ${name}`, files])),
     table('Files by their sectors', ['sectors', 'files'], report.classes.map((each) => [classWords(each), each.files])),
   ].filter((part) => part !== null));

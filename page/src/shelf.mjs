@@ -8,7 +8,8 @@ import { drawReport } from './report.mjs';
 import { attempt, refusedWords, say } from './said.mjs';
 import { state } from './state.mjs';
 
-const wordsFor = ({ disk, refusal }) => (disk ? `accepted, ${counted(disk.listing.entries.length, 'file')}` : `r${refusedWords(refusal).slice(1)}`);
+const wordsFor = ({ disk, refusal }) =>
+  (disk ? `accepted, ${counted(disk.listing.entries.length, 'file')}` : refusedWords(refusal).replace(/^R/, 'r'));
 
 function showItem(item) {
   Object.assign(state, { item, slot: null, hover: null, sector: 0, ticked: new Set() });
@@ -25,11 +26,16 @@ function removeItem(item) {
   say(`${item.label} is off the shelf`);
 }
 
+function chooseItem(item) {
+  showItem(item);
+  byId('title').focus();
+}
+
 export function drawShelf() {
   byId('shelf').hidden = state.items.length === 0;
   byId('report').hidden = true; // it would tell of disks as they were
   byId('items').replaceChildren(...state.items.map((item, i) => make('li', {},
-    button(item.label, () => { showItem(item); byId('title').focus(); }, { 'data-key': `item ${i}`, 'aria-current': String(item === state.item) }),
+    button(item.label, () => chooseItem(item), { 'data-key': `item ${i}`, 'aria-current': String(item === state.item) }),
     make('span', { class: item.disk ? null : 'refused' }, wordsFor(item)),
     item.changed ? make('span', { class: 'unsaved' }, 'not downloaded yet') : null,
     button('Take off', () => removeItem(item), { 'data-key': `off ${i}`, 'aria-label': `Take ${item.label} off the shelf` }))));
@@ -50,8 +56,9 @@ export async function openAll(sources) {
   state.items.push(...opened);
   if (opened.length > 0) showItem(opened[0]);
   const bad = opened.filter(({ disk }) => !disk);
-  const told = opened.length === 1 ? `${opened[0].label}: ${wordsFor(opened[0])}` : `${counted(opened.length, 'image')} opened, ${bad.length} refused`;
-  return say([told, ...failed].join('. '), failed.length > 0 || (opened.length === 1 && bad.length === 1));
+  const one = opened.length === 1;
+  const told = one ? `${opened[0].label}: ${wordsFor(opened[0])}` : `${counted(opened.length, 'image')} opened, ${bad.length} refused`;
+  return say([told, ...failed].join('. '), failed.length > 0 || (one && bad.length === 1));
 }
 
 export const report = () => attempt(() => {

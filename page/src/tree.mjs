@@ -11,7 +11,8 @@ function listOf(tree, choose) {
   const around = [make('ul', {})];
   for (const { entry, depth } of tree.all) {
     around.length = depth + 1;
-    const line = make('li', {}, nameButton(entry, choose, 'tree'), ` ${entry.isDirectory ? 'directory' : `${kindWords(entry.kind)}, ${counted(entry.sectorCount, 'sector')}`}`);
+    const about = entry.isDirectory ? '' : `, ${counted(entry.sectorCount, 'sector')}`;
+    const line = make('li', {}, nameButton(entry, choose, 'tree'), ` ${kindWords(entry.kind)}${about}`);
     around[depth].append(line);
     if (entry.isDirectory) {
       const inner = make('ul', {});

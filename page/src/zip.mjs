@@ -29,7 +29,8 @@ export function zipOf(files) {
   const put = (bytes) => { parts.push(bytes); at += bytes.length; };
   for (const { name, bytes } of files) {
     const path = new TextEncoder().encode(name);
-    const about = [[2, 20], [2, UTF8], [2, 0], [2, 0], [2, DATE], [4, sumOf(bytes)], [4, bytes.length], [4, bytes.length], [2, path.length], [2, 0]];
+    const sizes = [[4, bytes.length], [4, bytes.length], [2, path.length], [2, 0]];
+    const about = [[2, 20], [2, UTF8], [2, 0], [2, 0], [2, DATE], [4, sumOf(bytes)], ...sizes];
     index.push(record([4, 0x02014b50], [2, 20], ...about, [2, 0], [2, 0], [2, 0], [4, 0], [4, at]), path);
     put(record([4, 0x04034b50], ...about));
     put(path);

@@ -48,7 +48,10 @@ export async function startBrowser() {
   const ask = (method, params = {}, sessionId = undefined) => new Promise((done, fail) => {
     if (ended) return fail(ended);
     const id = ++last;
-    const late = setTimeout(() => { waiting.delete(id); fail(new Error(`chromium did not answer ${method} within ${DEADLINE / 1000} s: ${complaints.slice(-2000)}`)); }, DEADLINE);
+    const late = setTimeout(() => {
+      waiting.delete(id);
+      fail(new Error(`chromium did not answer ${method} within ${DEADLINE / 1000} s: ${complaints.slice(-2000)}`));
+    }, DEADLINE);
     const settled = (then) => (value) => { clearTimeout(late); then(value); };
     waiting.set(id, { done: settled(done), fail: settled(fail) });
     child.stdio[3].write(`${JSON.stringify({ id, method, params, sessionId })}\0`);

@@ -66,7 +66,10 @@ function broken(sample) {
 }
 
 export function makeDisks(room, sample) {
-  const disks = { sample, short: sample.subarray(0, 1000), long: Buffer.concat([sample, Uint8Array.of(0)]), broken: broken(sample), nested: nested(), waste: wasteful(), compilation: used(sample) };
+  const disks = {
+    sample, short: sample.subarray(0, 1000), long: Buffer.concat([sample, Uint8Array.of(0)]), broken: broken(sample), nested: nested(),
+    waste: wasteful(), compilation: used(sample),
+  };
   const paths = Object.fromEntries(Object.entries(disks).map(([name, bytes]) => {
     writeFileSync(`${room}/${name}.mgt`, bytes);
     return [name, `${room}/${name}.mgt`];

@@ -1,6 +1,6 @@
 // The page in a tab, worked as a user works it: by mouse, by keys, by dropped and chosen files, by downloads.
 import assert from 'node:assert/strict';
-import { existsSync, mkdirSync, readFileSync, readdirSync } from 'node:fs';
+import { mkdirSync, readFileSync, readdirSync } from 'node:fs';
 import { join, resolve } from 'node:path';
 
 const PATIENCE = 20000;
@@ -32,7 +32,8 @@ export async function openTab(browser, url) {
   for (const part of ['Page', 'Runtime', 'Log', 'DOM', 'Network']) await ask(`${part}.enable`);
 
   const evaluate = async (expression) => {
-    const { result, exceptionDetails } = await ask('Runtime.evaluate', { expression, awaitPromise: true, returnByValue: true, userGesture: true });
+    const how = { awaitPromise: true, returnByValue: true, userGesture: true };
+    const { result, exceptionDetails } = await ask('Runtime.evaluate', { expression, ...how });
     if (exceptionDetails) throw new Error(`${exceptionDetails.exception?.description ?? exceptionDetails.text} in ${expression}`);
     return result.value;
   };
@@ -94,7 +95,8 @@ export async function openTab(browser, url) {
     const [before, ready] = [new Set(readdirSync(got)), downloads.length];
     await act();
     await until('a download is done', () => downloads.length > ready);
-    const name = await until('the download is there', () => readdirSync(got).find((each) => !before.has(each) && !each.endsWith('.crdownload') && existsSync(join(got, each))));
+    const isNew = (each) => !before.has(each) && !each.endsWith('.crdownload');
+    const name = await until('the download is there', () => readdirSync(got).find(isNew));
     return { name, bytes: readFileSync(join(got, name)) };
   };
   const narrow = (width, height) => ask('Emulation.setDeviceMetricsOverride', { width, height, deviceScaleFactor: 1, mobile: width < 600 });
@@ -103,7 +105,7 @@ export async function openTab(browser, url) {
   await ask('Page.navigate', { url });
   await until('the page is ready', () => evaluate('document.body?.dataset.ready === "yes"'));
   return {
-    ask, evaluate, text, until, says, placeOf, mouse, clickAt, click, key, fill, choose, drop, download, narrow, picture, faults, dialogs, requests,
-    answerDialogs: (accept) => { answer = accept; },
+    ask, evaluate, text, until, says, placeOf, mouse, clickAt, click, key, fill, choose, drop, download, narrow, picture,
+    faults, dialogs, requests, answerDialogs: (accept) => { answer = accept; },
   };
 }
