@@ -57,6 +57,7 @@ function refusedTools({ refusal }) {
 function drawSections() {
   drawShelf();
   const { item } = state;
+  document.title = item === null ? 'Varnucht: disks of the SAM Coupé' : `${item.changed ? '* ' : ''}${item.label} - Varnucht`;
   for (const id of ['disk', 'sectors']) byId(id).hidden = item === null;
   for (const id of ['files', 'save']) byId(id).hidden = !item?.disk;
   if (chosenEntry() === null) state.slot = null;
