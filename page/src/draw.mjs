@@ -54,10 +54,12 @@ function refusedTools({ refusal }) {
   return [button(text, () => act.chooseSector(number), { 'data-key': 'slot' })];
 }
 
+const TITLE = document.title;
+
 function drawSections() {
   drawShelf();
   const { item } = state;
-  document.title = item === null ? 'Varnucht: disks of the SAM Coupé' : `${item.changed ? '* ' : ''}${item.label} - Varnucht`;
+  document.title = item === null ? TITLE : [item.changed ? '* ' : '', item.label, ' - Varnucht'].join('');
   for (const id of ['disk', 'sectors']) byId(id).hidden = item === null;
   for (const id of ['files', 'save']) byId(id).hidden = !item?.disk;
   if (chosenEntry() === null) state.slot = null;
