@@ -23,8 +23,8 @@ export const button = (text, act, given = {}) => make('button', { type: 'button'
 export function keepingFocus(draw, ...headings) {
   const key = document.activeElement?.dataset?.key;
   draw();
-  if (key === undefined || document.activeElement?.dataset?.key === key) return;
-  const again = [...document.querySelectorAll('[data-key]')].find((each) => each.dataset.key === key && !each.disabled);
-  const seen = headings.map(byId).find((each) => each.offsetParent !== null);
-  (again ?? seen)?.focus();
+  if (key === undefined) return;
+  const isSeen = (each) => each.offsetParent !== null;
+  const again = [...document.querySelectorAll('[data-key]')].find((each) => each.dataset.key === key && !each.disabled && isSeen(each));
+  (again ?? headings.map(byId).find(isSeen))?.focus();
 }

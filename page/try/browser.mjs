@@ -13,8 +13,8 @@ export async function startBrowser() {
     '--headless', '--disable-gpu', '--disable-dev-shm-usage', '--no-first-run', '--disable-extensions', '--disable-background-networking',
     '--disable-component-update', '--hide-scrollbars', '--force-device-scale-factor=1', '--lang=en', '--window-size=1000,900',
     '--remote-debugging-pipe', `--user-data-dir=${room}/profile`,
+    '--no-sandbox', // root has none, and many containers; the page is our own
   ];
-  if (process.getuid?.() === 0) flags.push('--no-sandbox'); // chromium's sandbox does not work for root
   const child = spawn('chromium', [...flags, 'about:blank'], { stdio: ['ignore', 'ignore', 'pipe', 'pipe', 'pipe'] });
   const waiting = new Map();
   const listeners = [];

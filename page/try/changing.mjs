@@ -24,6 +24,7 @@ export default ({ browser, tab, disks, body, sample, chooseFile, onFile, toDisk,
     await tab.says('Refused 17, slot 7: protected (erase, rename)');
     await onFile('TITLE', 'Erase');
     await tab.says('TITLE is erased; it can be undone');
+    assert.equal(await focus(), 'title'); // what had the focus is gone
     tool('erase', host, 'TITLE');
 
     await chooseFile('FINAL');
