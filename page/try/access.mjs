@@ -1,6 +1,20 @@
 // By keyboard, with a screen reader, on a phone's width, in light and dark.
 import assert from 'node:assert/strict';
 
+// The least contrast of a text with what is behind it, by the rule of WCAG 2.
+const contrast = `(() => {
+  const line = (part) => (part / 255 <= 0.03928 ? part / 255 / 12.92 : ((part / 255 + 0.055) / 1.055) ** 2.4);
+  const light = (colour) => { const [r, g, b] = colour.match(/[\\d.]+/g).map(line); return 0.2126 * r + 0.7152 * g + 0.0722 * b; };
+  const back = (each) => getComputedStyle(each).backgroundColor;
+  const behind = (each) => (/, 0\\)|transparent/.test(back(each)) ? behind(each.parentElement) : back(each));
+  const texts = document.querySelectorAll('h1, h2, p, td, th, th button, #tools button:not(:disabled), label');
+  const ratio = (each) => {
+    const [dark, bright] = [light(getComputedStyle(each).color), light(behind(each))].sort((one, two) => one - two);
+    return (bright + 0.05) / (dark + 0.05);
+  };
+  return Math.min(...[...texts].filter((each) => each.offsetParent && each.textContent.trim()).map(ratio));
+})()`;
+
 export default ({ tab, chooseFile, toDisk, showItem, focus }) => ({
   async 'it goes by keyboard alone'() {
     await showItem('sample.mgt');
@@ -36,27 +50,24 @@ export default ({ tab, chooseFile, toDisk, showItem, focus }) => ({
   },
 
   async 'on a phone\'s width nothing is cut off, in light and dark'() {
-    const contrast = `(() => {
-      const parts = (colour) => colour.match(/[\\d.]+/g).slice(0, 3).map((part) => { const c = part / 255; return c <= 0.03928 ? c / 12.92 : ((c + 0.055) / 1.055) ** 2.4; });
-      const light = (colour) => { const [r, g, b] = parts(colour); return 0.2126 * r + 0.7152 * g + 0.0722 * b; };
-      const behind = (each) => { for (let at = each; at; at = at.parentElement) { const back = getComputedStyle(at).backgroundColor; if (!/, 0\\)|transparent/.test(back)) return back; } };
-      const all = [...document.querySelectorAll('h1, h2, p, td, th, th button, #tools button:not(:disabled), label')].filter((each) => each.offsetParent && each.textContent.trim());
-      return Math.min(...all.map((each) => { const [one, two] = [light(getComputedStyle(each).color), light(behind(each))].sort(); return (two + 0.05) / (one + 0.05); }));
-    })()`;
+    // The width, and the map drawn anew for it: the whole width, and no more.
+    const narrowTo = async (width, height = 740) => {
+      await tab.narrow(width, height);
+      const mapWidth = () => tab.evaluate(`innerWidth === ${width} ? document.getElementById('map').getBoundingClientRect().right : null`);
+      await tab.until(`it is drawn for ${width}`, async () => { const right = await mapWidth(); return right > 0.85 * width && right <= width; });
+    };
     const backs = [];
     for (const value of ['light', 'dark']) {
       await tab.ask('Emulation.setEmulatedMedia', { features: [{ name: 'prefers-color-scheme', value }] });
       for (const width of [360, 320, 1000]) {
-        await tab.narrow(width, 740);
-        await tab.until(`${width} is drawn`, async () => (await tab.evaluate('innerWidth')) === width);
+        await narrowTo(width);
         assert.ok((await tab.evaluate('document.documentElement.scrollWidth')) <= width, `at ${width}`);
-        assert.ok((await tab.evaluate('document.getElementById("map").getBoundingClientRect().right')) <= width);
       }
       assert.ok((await tab.evaluate(contrast)) >= 4.5, `contrast, ${value}: ${await tab.evaluate(contrast)}`);
       backs.push(await tab.evaluate('getComputedStyle(document.body).backgroundColor'));
     }
     assert.notEqual(backs[0], backs[1]);
-    await tab.narrow(360, 740);
+    await narrowTo(360);
     // The map has two bands to a side here, and is worked by touch.
     const { left, top } = await tab.placeOf('#map');
     const cell = await tab.evaluate('document.getElementById("map").clientWidth / 40');
@@ -70,6 +81,6 @@ export default ({ tab, chooseFile, toDisk, showItem, focus }) => ({
     await toDisk('undo');
     await tab.says('Undone: hide AUTO');
     await tab.ask('Emulation.setEmulatedMedia', { features: [] });
-    await tab.narrow(1000, 900);
+    await narrowTo(1000, 900);
   },
 });
