@@ -40,7 +40,7 @@ const diskTools = (item) => [
   backButton('Undo', item.history.last, act.undo),
   backButton('Redo', item.history.next, act.redo),
   button('Download the disk', act.downloadDisk),
-  item.handle ? button('Save back', act.writeBack, { disabled: !item.changed }) : null,
+  item.handle ? button('Save back', act.writeBack, { disabled: !item.ahead }) : null,
   button('Get all files', act.getEach, { disabled: entries().length === 0 }),
   button('Gather all', act.gatherAll, { disabled: entries().length === 0 }),
   button('Check for release', act.checkRelease),

@@ -28,6 +28,11 @@ export class Item {
     return this.#stored !== null;
   }
 
+  // Whether the file that it can be saved back to holds another image, as it does too after a change that was only downloaded.
+  get ahead() {
+    return this.handle !== null && !sameBytes(this.there, this.image);
+  }
+
   get image() {
     return this.disk ? this.disk.image : this.raw;
   }

@@ -47,6 +47,8 @@ export async function savesBack({ browser, disks, sample, page }) {
     assert.ok((await held()).equals(readFileSync(host)));
     // Altered elsewhere meanwhile: it asks, and leaves it where that is not meant.
     await erase('AUTO');
+    await other.download(() => other.click('#tools button', 'Download the disk'));
+    assert.equal(await other.text('#unsaved'), '');
     await other.evaluate('put(new Uint8Array(3))');
     other.answerDialogs(false);
     await back();
