@@ -393,6 +393,20 @@ const tests = {
     disk.close();
   },
 
+  'a slot lies in the sector that its mark writes'() {
+    for (const tracks of [4, 5, 39]) {
+      const disk = varnucht.open(blank(tracks));
+      const held = Array.from({ length: module.SECTORS }, (_, number) => number).filter((number) => disk.directory.holds(number));
+      assert.equal(held.length, disk.directory.sectors);
+      for (let slot = 1; slot <= Math.min(disk.directory.slots, 120); slot++) {
+        disk.save(code(`F${slot}`, bytes(1)));
+        assert.deepEqual(disk.hide(`F${slot}`).numbers, [module.Directory.sectorOfSlot(slot)]);
+      }
+      assert.ok(held.includes(module.Directory.sectorOfSlot(disk.directory.slots)) && held.includes(module.Directory.sectorOfSlot(1)));
+      disk.close();
+    }
+  },
+
   async 'sectors are written in order, and no change is left out'() {
     const disk = varnucht.open(sample);
     const store = sample.slice();

@@ -177,6 +177,10 @@ export class Directory {
   readonly slots: number;
   readonly sectors: number;
   readonly dataSectors: number;
+  /** Whether a sector, by its number, is one of its own. */
+  holds(number: number): boolean;
+  /** The number of the sector that a slot lies in, in the directory of whatever size. */
+  static sectorOfSlot(slot: number): number;
 }
 
 /** The image of a new disk without a file, with 4 to 39 directory tracks. */

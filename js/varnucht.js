@@ -421,14 +421,26 @@ export class Directory {
   get dataSectors() {
     return this.tracks === 4 ? DATA_SECTORS : SECTORS + 1 - 10 * this.tracks;
   }
+
+  // Track 4 sector 1 is never the directory's.
+  holds(number) {
+    return trackOf(number) < this.tracks && number !== sectorNumber(4, 1);
+  }
+
+  static sectorOfSlot(slot) {
+    const place = Math.floor((slot - 1) / 2);
+    const [track, sector] = place < 40 ? [Math.floor(place / 10), place % 10] : [Math.floor((place + 1) / 10), (place + 1) % 10];
+    return sectorNumber(track, sector + 1);
+  }
 }
 
 // The disk's name in slot 1; null where it has none. Bit 7 of its first byte is no part of it.
 function diskName(image) {
   const bytes = image.slice(210, 220);
   bytes[0] &= 127;
-  const last = bytes.findLastIndex((byte) => byte !== 32 && byte !== 0);
-  return bytes[0] === 0 || bytes[0] === 127 || last < 0 ? null : bytes.slice(0, last + 1);
+  let length = bytes.length;
+  while (length > 0 && (bytes[length - 1] === 32 || bytes[length - 1] === 0)) length--;
+  return bytes[0] === 0 || bytes[0] === 127 || length === 0 ? null : bytes.slice(0, length);
 }
 
 export function blank(tracks = 4) {
