@@ -1,11 +1,12 @@
 /* Varnucht: disk images of the SAM Coupé. Check a disk, list it, read a file's body, whole or piece by piece, give its start
  * address, tell what lies beneath a subdirectory, find a raw sector; save, erase, rename, hide, show, protect and release
- * files, erase a handful at once, gather a scattered one; count a shelf of disks. C99 and C++. Link libvarnucht.a.
+ * files, erase a handful at once, gather a scattered one, save while recording; count a shelf of disks. C99 and C++. Link
+ * libvarnucht.a.
  *
  * Contents: 1 what a call takes and answers, 2 sizes, 3 refusals, 4 the calls that read, 5 the calls that change, and how
  * to write what they changed, 6 reading a listing, and what a disk says of itself, 7 names and kinds, 8 what is proved and
- * where it runs. A whole program stands in examples/tunes.c, one that reads piece by piece in examples/play.c, and one that
- * counts a shelf of disks in examples/shelf.c.
+ * where it runs. A whole program stands in examples/tunes.c, one that reads piece by piece in examples/play.c, one that saves
+ * while it records in examples/record.c, and one that counts a shelf of disks in examples/shelf.c.
  *
  *
  * 1. WHAT A CALL TAKES AND ANSWERS
@@ -15,19 +16,19 @@
  * size_t has 32: C widens a size_t by itself, and whoever declares these calls in another language must declare 64 bits.
  * Where pointers have 32 bits no slice may be longer than 2^31 - 1 bytes, as no object of C is there.
  *
- * A slice with a `const` pointer is only read. A slice without one (`out`, `slots`, `answers`, `list`, the `image` of a
- * change) may be changed, and must not overlap any other slice of the same call. Slices that are only read may overlap each
- * other. The likely mistake is a name that points into the image that the call changes, or into the buffer that it fills:
- * copy the name out first.
+ * A slice with a `const` pointer is only read. A slice without one (`out`, `slots`, `answers`, `list`, `record`, the
+ * `image` of a change) may be changed, and must not overlap any other slice of the same call. Slices that are only read may
+ * overlap each other. The likely mistake is a name that points into the image that the call changes, or into the buffer
+ * that it fills: copy the name out first.
  *
  * You own every buffer before, during and after a call. The library allocates nothing, keeps no pointer and has no state:
  * what a call does depends on its arguments alone. So calls on different buffers may run at once on different threads, and
  * calls that only read may share an image. Nobody may read or write a buffer while a call that may change it is running.
- * Nothing outside is called but memcpy, memset and their like. On x86-64 a save needs less than 8 KiB of stack, an erase of
- * many less than 5 KiB, a gather less than 3 KiB, every other call less than 2 KiB; but varnucht_tree less than 7 KiB where
- * no more than ten subdirectories lie inside each other, and 96 bytes more for each beyond them: less than 30 KiB on any
- * disk. "Stack:" at a call is x86-64's too. README.md has a table of each call on each target (section 8): on none is it 8
- * KiB, but of varnucht_tree less than 41 KiB on iOS and less than 37 KiB on other phones.
+ * Nothing outside is called but memcpy, memset and their like. On x86-64 a save needs less than 8 KiB of stack, the calls of
+ * a recording less than 9 KiB, an erase of many less than 5 KiB, a gather less than 3 KiB, every other call less than 2 KiB;
+ * but varnucht_tree less than 7 KiB where no more than ten subdirectories lie inside each other, and 96 bytes more for each
+ * beyond them: less than 30 KiB on any disk. "Stack:" at a call is x86-64's too. README.md has a table of each call on each
+ * target (section 8): on none is it 10 KiB, but of varnucht_tree less than 41 KiB on iOS and less than 37 KiB on other phones.
  *
  * Every call answers one number with four parts, which the functions below take apart:
  *
@@ -96,23 +97,28 @@ enum varnucht_size {
     VARNUCHT_GATHER_LIST_BYTES = 1562,  /* `list` of varnucht_gather: 2 * 781, half of all data sectors and one of the
                                            directory, since a file moves to as many sectors as it leaves */
     VARNUCHT_ERASE_LIST_BYTES = 778,    /* `list` of varnucht_erase_many: 2 * 389, every sector of the biggest directory */
+    VARNUCHT_PIECE_LIST_BYTES = 3116,   /* `list` of varnucht_record_add: 2 * 1,558, all data sectors but the first and the
+                                           last of a recording */
+    VARNUCHT_CLOSE_LIST_BYTES = 8,      /* `list` of varnucht_record_close: two data sectors and two of the directory */
     VARNUCHT_CHANGE_LIST_BYTES = 2,     /* `list` of every other change */
+    VARNUCHT_RECORD_BYTES = 2048,       /* the record of a recording */
     VARNUCHT_REPORT_BYTES = 496         /* a report: 124 numbers of four bytes */
 };
 
-/* 3. REFUSALS, in the words of the rules (document 01), in the order in which they are tested: 1 first; then 24; then 2 to 9
- * at every live slot, the lowest slot first and at a slot the lowest number; then 10, 11 and 25 likewise; then the lowest
+/* 3. REFUSALS, in the words of the rules (document 01), in the order in which they are tested: 1 first; then 24; then 2 to
+ * 9 at every live slot, the lowest slot first and at a slot the lowest number; then 10, 11 and 25 likewise; then the lowest
  * that applies of 12 to 20. So 12 to 20 say that the disk itself is good. varnucht_check_release alone tests 22 too,
  * directly after 7 at a slot. varnucht_tree alone tests 26 at every live slot, the lowest slot first, and then 27 and 28
  * likewise; both come before 12 to 20. varnucht_erase alone tests 29, after 17 and before 20, and varnucht_gather alone 32,
- * after 15 and before 20. varnucht_erase_many tests 23 and then 20, and of each name 12, 15, 17 and 29, which it answers for
- * that name and which refuse nothing of the call. varnucht_sector tests 1 and then 21, and looks at no directory. varnucht_next refuses nothing. The
- * calls on reports test 20 and then 31. 3 is given no more, by any call: its number stays reserved, and "1 to 11" below is
- * without it.
+ * after 15 and before 20. varnucht_erase_many tests 23 and then 20, and of each name 12, 15, 17 and 29, which it answers
+ * for that name and which refuse nothing of the call. varnucht_record_add and varnucht_record_close alone test 30, before
+ * 12 to 20; but where `record` is too short to be one, 20 comes before it. varnucht_sector tests 1 and then 21, and looks
+ * at no directory. varnucht_next refuses nothing. The calls on reports test 20 and then 31. 3 is given no more, by any
+ * call: its number stays reserved, and "1 to 11" below is without it.
  *
  * The slot comes with 2 to 11, 22 and 25 to 28; with 13 and 14 of varnucht_read, varnucht_open, varnucht_start,
  * varnucht_tree and varnucht_gather, where it is the file's; with 16, where it is that of the file which has the new name;
- * and with 17 and 29. With all others, 13 and 14 of varnucht_save too, it is 0. */
+ * and with 17 and 29. With all others, 13 and 14 of varnucht_save and of a recording too, it is 0. */
 enum varnucht_reason {
     VARNUCHT_ACCEPTED = 0,
     /* The disk is not good. Every call can give these, 24 and 25 but varnucht_sector, which can give 1, varnucht_next, and
@@ -134,8 +140,8 @@ enum varnucht_reason {
                                            slot's kind, remainder, pages */
     /* The request is not good, or cannot be met. Each call says which of these it can give. */
     VARNUCHT_NAME_NOT_USABLE = 12,      /* the name is not usable: section 7 */
-    VARNUCHT_WRONG_KIND = 13,           /* the kind asked for (save: 16 to 20) or found (read, open, start: 16 to 20 and 1
-                                           to 4; tree: 21; gather: any but 21) is not one that this call takes */
+    VARNUCHT_WRONG_KIND = 13,           /* the kind asked for (save, record: 16 to 20) or found (read, open, start: 16 to 20
+                                           and 1 to 4; tree: 21; gather: any but 21) is not one that this call takes */
     VARNUCHT_START_OUT_OF_RANGE = 14,   /* start page above 31, or offset outside 32,768 to 49,151 (save, start of kinds 16
                                            to 20) */
     VARNUCHT_NAME_NOT_FOUND = 15,       /* no live slot has the name, capitals or not */
@@ -143,8 +149,9 @@ enum varnucht_reason {
     VARNUCHT_FILE_PROTECTED = 17,       /* protected (erase, rename) */
     VARNUCHT_NO_FREE_SLOT = 18,         /* no slot before the end is erased and there is no end: as many files are
                                            there as the directory has slots (save) */
-    VARNUCHT_TOO_FEW_SECTORS = 19,      /* fewer free sectors than the save takes */
-    VARNUCHT_BUFFER_TOO_SHORT = 20,     /* a lent output buffer is too short; tested last, and the buffer is unchanged */
+    VARNUCHT_TOO_FEW_SECTORS = 19,      /* fewer free sectors than the save, or the recording, takes */
+    VARNUCHT_BUFFER_TOO_SHORT = 20,     /* a lent output buffer is too short; tested last, and the buffer is unchanged. Or what
+                                           is lent as a record or a report is too short to be one */
     VARNUCHT_NO_SUCH_SECTOR = 21,       /* no such drive, track or sector (varnucht_sector alone) */
     /* The disk is not fit to go out. */
     VARNUCHT_WASTE_SECTORS = 22,        /* carried kind, and the count is above the least that its length needs: the least n
@@ -160,6 +167,9 @@ enum varnucht_reason {
     VARNUCHT_DIRECTORY_IN_ITSELF = 28,  /* a directory lies inside itself at some depth */
     /* A subdirectory is not empty. */
     VARNUCHT_DIRECTORY_NOT_EMPTY = 29,  /* a directory whose code, not 0, is another live slot's byte 254 (erase) */
+    /* The disk is not the one that was recorded on. */
+    VARNUCHT_RECORDING_MOVED = 30,      /* the used map or the number of directory tracks is not what it was at opening, or a
+                                           sector that the recording's pieces listed lacks its link (record add, close) */
     /* The shelf is full. */
     VARNUCHT_REPORT_FULL = 31,          /* a disk or join that would pass 65,535 disks (the calls on reports alone) */
     /* A scattered file has nowhere to go. */
@@ -210,6 +220,9 @@ static inline const char *varnucht_words(unsigned refusal) {
     case VARNUCHT_DIRECTORY_MISSING: return "a live slot's byte 254 is not 0 and no directory's code (tree)";
     case VARNUCHT_DIRECTORY_IN_ITSELF: return "a directory lies inside itself at some depth (tree)";
     case VARNUCHT_DIRECTORY_NOT_EMPTY: return "a directory whose code, not 0, is another live slot's byte 254 (erase)";
+    case VARNUCHT_RECORDING_MOVED:
+        return "the used map or n is not what it was at opening or a sector that its pieces listed lacks its link "
+               "(recording)";
     case VARNUCHT_REPORT_FULL: return "a disk or join that would pass 65,535 disks";
     case VARNUCHT_NO_RUN: return "the file must move and no run of consecutive free map bits has its length (gather)";
     default: return "not a number of refusal";
@@ -411,7 +424,8 @@ static inline unsigned varnucht_report_class_first(unsigned c) { return c == 0 ?
  * are gone, and every other is still there.
  *
  * `list`: VARNUCHT_SAVE_LIST_BYTES for a save, VARNUCHT_GATHER_LIST_BYTES for a gather, VARNUCHT_ERASE_LIST_BYTES for an
- * erase of many and VARNUCHT_CHANGE_LIST_BYTES for any other change always suffice. */
+ * erase of many, VARNUCHT_PIECE_LIST_BYTES for a piece of a recording, VARNUCHT_CLOSE_LIST_BYTES for its close and
+ * VARNUCHT_CHANGE_LIST_BYTES for any other change always suffice. */
 
 /* The sector number at place i of a list, i below the value answered. */
 static inline unsigned varnucht_listed(const uint8_t *list, size_t i) { return list[2 * i] + 256u * list[2 * i + 1]; }
@@ -491,6 +505,60 @@ uint64_t varnucht_release(uint8_t *image, varnucht_length image_len, const uint8
  * suffice. Refusals: 1 to 11, 24, 25, 12, 13 (kind 21), 15, 32, 20. Stack: 2,104 bytes. */
 uint64_t varnucht_gather(uint8_t *image, varnucht_length image_len, const uint8_t *name, varnucht_length name_len,
                          uint8_t *list, varnucht_length list_len);
+
+/* SAVE WHILE RECORDING. A save whose body comes in pieces, when nobody knows yet how many: varnucht_record_open begins it
+ * with a save's particulars, varnucht_record_add adds a piece, and varnucht_record_close makes it a file. Between the calls
+ * the app keeps a record: VARNUCHT_RECORD_BYTES that it lends to each of them, whose content is the library's. Of a longer
+ * buffer the front is used, and its rest stays. It does not grow with the recording.
+ *
+ *     static uint8_t record[VARNUCHT_RECORD_BYTES], list[VARNUCHT_PIECE_LIST_BYTES];
+ *     answer = varnucht_record_open(image, image_len, kind, name, .., record, sizeof record);
+ *     while the user records {
+ *         answer = varnucht_record_add(image, image_len, piece, piece_len, record, sizeof record, list, sizeof list);
+ *         write the sectors of the list;
+ *     }
+ *     answer = varnucht_record_close(image, image_len, record, sizeof record, list, sizeof list);
+ *     write the sectors of the list;
+ *
+ * The sectors are those that a save of the whole would take. A piece writes free sectors alone, so that nothing is seen of
+ * the recording before its close: wherever the writing is stopped, before the close or in it, all files are there as
+ * before, and a recording that is given up has used nothing. If nothing else changes the disk from opening to close, and
+ * nothing was stopped, the closed disk is the one that varnucht_save of the joined pieces leaves, byte for byte, however
+ * the body was cut.
+ *
+ * The disk may be changed in between, and two recordings may be open at once. Where that gave sectors to others, or took
+ * what was recorded already, the next call is refused 30, and so it is where sectors of a piece were not written, unless an
+ * erased file left the same links in them: open a new recording then. Where it is not refused, the close leaves a good disk
+ * and alters no other file; the file then reads as its sectors do. So if a change in between wrote into them and gave them
+ * back, the bytes there are that change's.
+ *
+ * A refused call leaves the record as it was, and a close never changes it: a close whose writing was stopped can be made
+ * again. Of a record that was not made by these calls alone no more is promised than that each call answers, and that a
+ * refused one changes nothing. */
+
+/* Begins a recording: `record` gets its record. The image is only read. The arguments are those of varnucht_save, but for
+ * the body and the list. Value: 0. `record`: VARNUCHT_RECORD_BYTES. Refusals: those of a save with an empty body, 1 to 11,
+ * 24, 25, 12, 13, 14, 16, 18, 19; then 20 (`record` too short). Stack: 2,248 bytes. */
+uint64_t varnucht_record_open(const uint8_t *image, varnucht_length image_len, uint32_t kind, const uint8_t *name,
+                              varnucht_length name_len, uint32_t page, uint32_t offset, const uint8_t *exec,
+                              varnucht_length exec_len, const uint8_t *info, varnucht_length info_len, uint8_t *record,
+                              varnucht_length record_len);
+
+/* Adds a piece, of any length, 0 allowed. Each sector after the first is written and named, with the address of the next,
+ * when a byte beyond it comes; till then its bytes wait in the record. Value: how many sectors, in the order of the chain;
+ * 0 is usual for a small piece. `list`: two bytes for each, and a piece of L bytes names at most L / 510 + 1;
+ * VARNUCHT_PIECE_LIST_BYTES always suffice. Refusals: 1 to 11, 24, 25, 20 (`record` too short), 30, 19 (the joined pieces
+ * take more sectors than are free), 20 (`list` too short). Stack: 8,360 bytes. */
+uint64_t varnucht_record_add(uint8_t *image, varnucht_length image_len, const uint8_t *piece, varnucht_length piece_len,
+                             uint8_t *record, varnucht_length record_len, uint8_t *list, varnucht_length list_len);
+
+/* Makes the recording a file: writes and names its last sector, then its first if it is another, then the directory's as
+ * varnucht_save does. The record is only read. Value: 2 to 4. `list`: VARNUCHT_CLOSE_LIST_BYTES always suffice. Refusals: 1
+ * to 11, 24, 25, 20 (`record` too short), 30, 12, 13, 14, 16 (the name was given to a file since), 18 (the last slot was
+ * taken since), 19, 20 (`list` too short); of a record made by these calls 12, 13, 14 and 19 do not come.
+ * Stack: 9,016 bytes. */
+uint64_t varnucht_record_close(uint8_t *image, varnucht_length image_len, const uint8_t *record,
+                               varnucht_length record_len, uint8_t *list, varnucht_length list_len);
 
 /* 6. READING A LISTING. An entry is the slot's number, 2 bytes, low byte first, and then the slot's 256 bytes. These are the
  * places of its fields in the entry; the functions below read them. */

@@ -5,7 +5,7 @@ import { readFileSync } from 'node:fs';
 import { refusals, signatures, text as header } from '../cross/compare/header.mjs';
 import * as module from './varnucht.js';
 
-const { IMAGE_LENGTH, Kind, Name, NewName, Refused, Start, WriteError, blank, escape, load, unescape, words } = module;
+const { IMAGE_LENGTH, Kind, LONGEST_BODY, Name, NewName, RECORD_LENGTH, Refused, Start, WriteError, blank, escape, load, unescape, words } = module;
 const folder = process.argv[2];
 const file = (path) => readFileSync(new URL(`../${path}`, import.meta.url));
 const varnucht = await load();
@@ -13,6 +13,14 @@ const sample = new Uint8Array(file('samples/sample.mgt'));
 const START = { page: 1, offset: 32768 };
 const code = (name, body) => ({ kind: Kind.CODE, name, start: START, body });
 const bytes = (length, seed = 1) => Uint8Array.from({ length }, (_, i) => (seed + i * 7 + (i >> 8)) & 255);
+const chunks = (body, length) => Array.from({ length: Math.ceil(body.length / length) }, (_, i) => body.subarray(i * length, (i + 1) * length));
+// All that is seen of an image: what the directory says of each file, and its body.
+const look = (image) => {
+  const opened = varnucht.open(image);
+  const said = opened.listing.entries.map((entry) => [...entry.bytes, ...opened.read(entry.name)]);
+  opened.close();
+  return JSON.stringify(said);
+};
 const refused = (number, slot, act) => assert.throws(act, (error) => {
   assert.ok(error instanceof Refused && error instanceof Error, String(error));
   assert.deepEqual([error.number, error.slot, error.words], [number, slot, words(number)]);
@@ -155,12 +163,6 @@ const tests = {
       (d) => d.save(code('HELLO', bytes(5000))), (d) => d.rename('hello', 'BYE'), (d) => d.hide('BYE'), (d) => d.show('BYE'), (d) => d.protect('BYE'),
       (d) => d.release('BYE'), (d) => d.erase('TITLE'), (d) => d.save(code('WIDE', bytes(12000))), (d) => d.gather('WIDE'), (d) => d.gather('WIDE'),
     ];
-    const look = (image) => {
-      const opened = varnucht.open(image);
-      const said = opened.listing.entries.map((entry) => [...entry.bytes, ...opened.read(entry.name)]);
-      opened.close();
-      return JSON.stringify(said);
-    };
     changes.forEach((change, which) => {
       const copy = disk.image;
       const before = look(copy);
@@ -437,6 +439,219 @@ const tests = {
     await assert.rejects(other.eraseMany(['AUTO', 'FULL']).sectors.writeTo(failing), /The files erased in those are gone/);
     other.close();
     disk.close();
+  },
+
+  'pieces make the disk of one save, and nothing is seen of them before the close'() {
+    const before = look(sample);
+    for (const length of [0, 1, 501, 502, 1011, 1012, 5000]) {
+      const saved = varnucht.open(sample);
+      const numbers = saved.save(code('TUNE', bytes(length))).numbers;
+      for (const piece of [1, 510, 511, 4096]) {
+        const disk = varnucht.open(sample);
+        const store = sample.slice();
+        const recording = disk.record(code('TUNE'));
+        const listing = disk.listing;
+        const write = (sectors) => [...sectors].map(({ place, bytes: written, number }) => {
+          store.set(written, place);
+          return number;
+        });
+        const inner = chunks(bytes(length), piece).flatMap((part) => write(recording.add(part)));
+        write(recording.add(new ArrayBuffer(0)));
+        assert.equal(disk.listing, listing);
+        assert.equal(look(store), before);
+        const kept = recording.bytes;
+        const closing = recording.close();
+        const ends = write(closing);
+        assert.deepEqual(recording.bytes, kept);
+        assert.deepEqual(disk.image, saved.image, `${length} bytes in pieces of ${piece}`);
+        assert.deepEqual(store, saved.image);
+        // The sectors that the save names, each once: those between, then the last, the first, and the directory's.
+        const data = numbers.slice(0, -1);
+        assert.deepEqual(inner, data.slice(1, -1));
+        assert.deepEqual(ends, [...(data.length > 1 ? [data.at(-1)] : []), data[0], numbers.at(-1)]);
+        assert.deepEqual(disk.read('tune'), bytes(length));
+        disk.close();
+      }
+      saved.close();
+    }
+  },
+
+  'a recording is as long as the disk, and not longer'() {
+    const disk = varnucht.open(blank());
+    const recording = disk.record({ ...code('LONG'), execution: [1, 2, 3], information: [4, 5] });
+    chunks(bytes(LONGEST_BODY), 100000).forEach((piece) => recording.add(piece));
+    const [kept, was] = [recording.bytes, disk.image];
+    refused(19, null, () => recording.add(Uint8Array.of(7)));
+    refused(19, null, () => recording.add(new Uint8Array(10_000_000)));
+    assert.deepEqual([recording.bytes, disk.image], [kept, was]);
+    recording.close();
+    const saved = varnucht.open(blank());
+    saved.save({ ...code('LONG', bytes(LONGEST_BODY)), execution: [1, 2, 3], information: [4, 5] });
+    assert.deepEqual(disk.image, saved.image);
+    saved.close();
+    refused(19, null, () => disk.record(code('A')));
+    disk.close();
+  },
+
+  'a recording is refused as a save is, and what is no record or no piece is told so'() {
+    const disk = varnucht.open(blank());
+    disk.save(code('TUNES', bytes(1000)));
+    const was = disk.image;
+    refused(12, null, () => disk.record(code(' A')));
+    refused(13, null, () => disk.record({ ...code('A'), kind: 21 }));
+    refused(14, null, () => disk.record({ ...code('A'), start: { page: 0, offset: 49152 } }));
+    refused(16, 1, () => disk.record(code('tunes')));
+    for (const bad of [undefined, null, 'AAA', 7, {}, [1, 2], new Uint16Array(1024)]) {
+      assert.throws(() => disk.goOn(bad), TypeError);
+      assert.throws(() => disk.record(code('A')).add(bad), TypeError);
+    }
+    for (const length of [0, RECORD_LENGTH - 1, RECORD_LENGTH + 1]) assert.throws(() => disk.goOn(new Uint8Array(length)), RangeError);
+    assert.throws(() => disk.record({ ...code('A'), kind: 1.5 }), RangeError);
+    // Any bytes may be handed over as a record: each call answers, and a refused one changes nothing.
+    refused(30, null, () => disk.goOn(new ArrayBuffer(RECORD_LENGTH)).add(bytes(3)));
+    refused(30, null, () => disk.goOn(bytes(RECORD_LENGTH)).close());
+    const nameless = disk.record(code('A')).bytes;
+    nameless[12] = 0;
+    refused(12, null, () => disk.goOn(nameless).close());
+    assert.deepEqual(disk.image, was);
+    for (let i = 0; i < 79; i++) disk.save(code(`FILE${i}`, bytes(1)));
+    refused(18, null, () => disk.record(code('A')));
+    const recording = varnucht.open(was).record(code('A'));
+    recording.bytes.fill(9); // a copy
+    assert.equal(recording.close().length, 2);
+    const late = disk.clone();
+    disk.close();
+    late.erase('FILE3');
+    const open = late.record(code('A'));
+    late.close();
+    assert.throws(() => open.add(bytes(1)), /closed/);
+    assert.throws(() => open.close(), /closed/);
+  },
+
+  'between the pieces the disk may be changed, and 30 tells what does not fit together'() {
+    const begun = () => {
+      const disk = varnucht.open(sample);
+      const recording = disk.record(code('TUNE'));
+      assert.equal(recording.add(bytes(2300)).length, 3);
+      return { disk, recording };
+    };
+    const whole = Uint8Array.of(...bytes(2300), 7);
+    { // One that moves no sector; and a reader goes on beside the pieces, and not after the close.
+      const { disk, recording } = begun();
+      disk.hide('TUNES');
+      const reader = disk.reader('TUNES');
+      assert.equal(recording.add(bytes(600)).length, 1);
+      assert.equal(recording.add(new Uint8Array(0)).length, 0);
+      assert.equal(reader.read(new Uint8Array(100)), 100);
+      assert.equal(recording.close().length, 3);
+      assert.throws(() => reader.read(new Uint8Array(100)), /changed/);
+      assert.deepEqual(disk.read('TUNE'), Uint8Array.of(...bytes(2300), ...bytes(600)));
+      refused(30, null, () => recording.close()); // once more
+      disk.close();
+    }
+    { // One that takes its sectors, and gives them back.
+      const { disk, recording } = begun();
+      disk.save(code('OTHER', bytes(3)));
+      const kept = recording.bytes;
+      refused(30, null, () => recording.add(Uint8Array.of(7)));
+      refused(30, null, () => recording.close());
+      assert.deepEqual(recording.bytes, kept);
+      disk.erase('OTHER');
+      recording.add(Uint8Array.of(7));
+      recording.close();
+      assert.deepEqual(disk.read('TUNE'), whole);
+      disk.close();
+    }
+    { // One that takes its name.
+      const { disk, recording } = begun();
+      disk.rename('TUNES', 'Tune');
+      refused(16, 2, () => recording.close());
+      disk.close();
+    }
+    { // Sectors that were not written are found by their links; but not where an old file left the same ones.
+      const disk = varnucht.open(blank());
+      const recording = disk.record(code('TUNE'));
+      recording.add(bytes(2300));
+      refused(30, null, () => varnucht.open(blank()).goOn(recording.bytes).close());
+      const old = varnucht.open(blank());
+      old.save(code('OLD', bytes(2300, 5)));
+      old.erase('OLD');
+      old.goOn(recording.bytes).close();
+      assert.deepEqual(old.read('TUNE').subarray(501, 2031), bytes(2300, 5).subarray(501, 2031));
+    }
+    { // Two at once have the same sectors; the one that closes has them.
+      const disk = varnucht.open(sample);
+      const [one, two] = [disk.record(code('ONE')), disk.record(code('TWO'))];
+      one.add(bytes(1600, 1));
+      two.add(bytes(1012, 2));
+      one.close();
+      const expected = bytes(1600, 1);
+      expected.set(bytes(1012, 2).subarray(501, 1011), 501);
+      assert.deepEqual(disk.read('ONE'), expected);
+      refused(30, null, () => two.close());
+      disk.close();
+    }
+  },
+
+  async 'a recording goes on by its bytes from where the disk is stored, and cut anywhere leaves the old files'() {
+    const expected = varnucht.open(blank()); // where no old file left a link
+    expected.save(code('ONE', bytes(700)));
+    const old = expected.image;
+    const before = look(old);
+    expected.save(code('TUNE', bytes(2900)));
+    for (let room = 0; room <= 7; room++) {
+      const store = old.slice();
+      let left = room;
+      const write = async (place, written) => {
+        if (left-- <= 0) throw new Error('full');
+        store.set(written, place);
+      };
+      const disk = varnucht.open(old);
+      const recording = disk.record(code('TUNE'));
+      const piece = recording.add(bytes(2900).subarray(0, 2300));
+      const cut = async (sectors, done, words) => assert.rejects(sectors.writeTo(write), (error) => {
+        assert.ok(error instanceof WriteError);
+        assert.deepEqual([error.written, error.of], [done, sectors.length]);
+        assert.match(error.message, words);
+        return true;
+      });
+      assert.equal(piece.length, 3);
+      if (room < 3) await cut(piece, room, /^\d of 3 sectors were written, and then: full\. All files are there as before; the recording cannot go on$/);
+      else await piece.writeTo(write);
+      assert.equal(look(store), before);
+      // The rest by the bytes that were kept, on a disk that was opened anew.
+      const anew = varnucht.open(store);
+      const kept = recording.bytes;
+      const rest = anew.goOn(kept);
+      if (room < 3) {
+        refused(30, null, () => rest.add(bytes(2900).subarray(2300)));
+        refused(30, null, () => rest.close());
+        // The first disk writes no later piece either.
+        await assert.rejects(recording.add(bytes(2900).subarray(2300)).writeTo(() => assert.fail('it is not asked to')), /not written whole/);
+      } else {
+        const last = rest.add(bytes(2900).subarray(2300));
+        assert.equal(last.length, 1);
+        assert.deepEqual(kept, recording.bytes); // it goes on with a copy
+        if (room < 4) await cut(last, 0, /the recording cannot go on$/);
+        else await last.writeTo(write);
+        assert.equal(look(store), before);
+        const closing = rest.close();
+        if (room === 3) await assert.rejects(closing.writeTo(write), /not written whole/);
+        else if (room < 7) await cut(closing, room - 4, room < 6 ? /reads as before$/ : /The directory's sector was the one that failed/);
+        else await closing.writeTo(write);
+        assert.deepEqual(anew.image, expected.image);
+        // A close that was stopped is made again, from what is stored.
+        if (room > 3) {
+          const again = room < 7 ? varnucht.open(store).goOn(rest.bytes).close() : [];
+          if (room < 7) assert.equal(look(store), before);
+          for (const { place, bytes: written } of again) store.set(written, place);
+          assert.deepEqual(store, expected.image);
+        }
+      }
+      anew.close();
+      disk.close();
+    }
+    expected.close();
   },
 
   'a report counts a shelf'() {

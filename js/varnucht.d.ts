@@ -18,6 +18,8 @@ export const DATA_SECTORS: 1560;
 export const NAME_LENGTH: 10;
 /** The longest body on an empty disk. */
 export const LONGEST_BODY: 795591;
+/** The record of a recording has so many bytes. */
+export const RECORD_LENGTH: 2048;
 export const REPORT_LENGTH: 496;
 /** A report holds at most so many disks. */
 export const MOST_DISKS: 65535;
@@ -86,6 +88,10 @@ export interface Calls {
   protect(image: Uint8Array, name: Uint8Array, list: Uint8Array): Answer;
   release(image: Uint8Array, name: Uint8Array, list: Uint8Array): Answer;
   gather(image: Uint8Array, name: Uint8Array, list: Uint8Array): Answer;
+  recordOpen(image: Uint8Array, kind: number, name: Uint8Array, page: number, offset: number, exec: Uint8Array, info: Uint8Array,
+    record: Uint8Array): Answer;
+  recordAdd(image: Uint8Array, piece: Uint8Array, record: Uint8Array, list: Uint8Array): Answer;
+  recordClose(image: Uint8Array, record: Uint8Array, list: Uint8Array): Answer;
 }
 
 /** A refused request. Nothing that it was about has changed. */
@@ -237,17 +243,22 @@ export class Branch {
   readonly branches: Branch[];
 }
 
-export interface NewFile {
+/** A file to record: all that a save asks for but its body. */
+export interface Particulars {
   /** 16 to 20; refused 13. */
   kind: number;
   name: NameLike;
   /** Refused 14 where it is out of range. */
   start: { page: number; offset: number };
-  body: Uint8Array | ArrayBuffer;
   /** Three bytes: where the SAM starts the file; without them it does not. */
   execution?: Iterable<number>;
   /** Up to eleven bytes, whose meaning hangs on the kind. */
   information?: Iterable<number>;
+}
+
+/** A file to save. */
+export interface NewFile extends Particulars {
+  body: Uint8Array | ArrayBuffer;
 }
 
 export interface ChangedSector {
@@ -263,7 +274,8 @@ export interface ChangedSector {
 /**
  * The sectors that a change altered, in the order in which they are to be written, with the bytes that they had directly after it. The
  * change is made in the disk's memory. A copy elsewhere follows when they are written there, in this order, each whole: cut
- * short anywhere, it is still the old disk until the last one is written. Those of {@link Disk.eraseMany} are a change of their own each.
+ * short anywhere, it is still the old disk until the last one is written. Those of {@link Disk.eraseMany} are a change of their own
+ * each, and those of a recording's piece ({@link Recording.add}) change nothing that is seen.
  */
 export class Sectors implements Iterable<ChangedSector> {
   readonly length: number;
@@ -294,6 +306,30 @@ export class Reader {
   read(out: Uint8Array): number;
   /** The rest in pieces of this length, the last one perhaps shorter. */
   pieces(length: number): Generator<Uint8Array>;
+}
+
+/**
+ * A file that is saved while it is recorded: its body comes in pieces, and nobody needs to know before how long it will be. Nothing
+ * is seen of it until it is closed: given up, or cut short anywhere, it leaves all files as they were. If nothing else changed the
+ * disk, the closed one is that which a single save of the whole leaves, byte for byte.
+ *
+ * The disk may be changed in between, and two recordings may be open at once. Where that leaves no recording to go on with, the next
+ * call is refused 30: open a new one then.
+ */
+export class Recording {
+  /** Its record, 2,048 bytes however long it is, to be kept: {@link Disk.goOn} takes it. */
+  readonly bytes: Uint8Array;
+  /**
+   * Adds a piece of any length. Each sector after the first is to be written when a byte beyond it has come, so that often there is
+   * none. Refused 19 where it does not fit, and 30; then the record is as before.
+   */
+  add(piece: Uint8Array | ArrayBuffer): Sectors;
+  /**
+   * Makes it a file: its last sector, its first and the directory's are to be written. Refused 30, 16 where a file got the name since,
+   * and 18 where the last slot was taken since. The record stays as it is: where the writing was stopped, the disk that is opened anew
+   * can be asked to close it again.
+   */
+  close(): Sectors;
 }
 
 /**
@@ -332,6 +368,10 @@ export class Disk {
   tree(name?: NameLike | null): Tree;
   /** Saves a file. Refused 12, 13, 14, 16, 18 and 19. */
   save(file: NewFile): Sectors;
+  /** Opens a recording of a file. Nothing is changed. Refused as a save with an empty body is. */
+  record(file: Particulars): Recording;
+  /** Goes on with a recording by its {@link Recording.bytes}, also after the disk was opened anew from where it is stored. */
+  goOn(record: Uint8Array | ArrayBuffer): Recording;
   /** Erases a file, or a directory that nothing is in. Refused 12, 15, 17 and 29. */
   erase(name: NameLike): Sectors;
   /** Erases the files of these names, one after the other. For each: null where it is done, or why not (15, 17, 29). */

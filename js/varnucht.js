@@ -1,4 +1,4 @@
-// Disk images of the SAM Coupé, in node and in pages: check, list, read, save, erase, rename, hide, show, protect, release, gather.
+// Disk images of the SAM Coupé, in node and in pages: check, list, read, save, record, erase, rename, hide, show, protect, release, gather.
 //
 // The work is done by varnucht.wasm, which is compiled from the library that is proved correct. This module puts objects over it:
 // it copies bytes in and out, and makes an error of a refusal. It is tested and not proved. varnucht.d.ts says all it offers.
@@ -10,6 +10,7 @@ export const DATA_SECTORS = 1560;
 export const NAME_LENGTH = 10;
 export const LONGEST_BODY = 510 * DATA_SECTORS - 9;
 export const REPORT_LENGTH = 496;
+export const RECORD_LENGTH = 2048;
 export const MOST_DISKS = 65535;
 
 const ENTRY_LENGTH = 258;
@@ -49,6 +50,7 @@ const WORDS = {
   27: "a live slot's byte 254 is not 0 and no directory's code (tree)",
   28: 'a directory lies inside itself at some depth (tree)',
   29: "a directory whose code, not 0, is another live slot's byte 254 (erase)",
+  30: 'the used map or n is not what it was at opening or a sector that its pieces listed lacks its link (recording)',
   31: 'a disk or join that would pass 65,535 disks',
   32: 'the file must move and no run of consecutive free map bits has its length (gather)',
 };
@@ -167,6 +169,9 @@ const CALLS = {
   protect: [LENT, READ, LENT],
   release: [LENT, READ, LENT],
   gather: [LENT, READ, LENT],
+  recordOpen: [READ, NUMBER, READ, NUMBER, NUMBER, READ, READ, LENT],
+  recordAdd: [LENT, READ, LENT, LENT],
+  recordClose: [LENT, READ, LENT],
 };
 
 // In a memory of 32 bits no slice is longer: varnucht.h says so, since the compiler counts on it.
@@ -625,9 +630,16 @@ export class WriteError extends Error {
   }
 }
 
-const stopped = (written, of, apart, cause) => {
+// What a sector is to the disk that is stored.
+const WHOLE = 'whole'; // the last one makes the change
+const APART = 'apart'; // each is a change of its own
+const UNSEEN = 'unseen'; // none changes anything that is seen
+
+const stopped = (written, of, parts, cause) => {
   let then = 'The old disk is still there and reads as before';
-  if (apart) {
+  if (parts === UNSEEN) {
+    then = 'All files are there as before; the recording cannot go on';
+  } else if (parts === APART) {
     then = 'The files erased in those are gone, and all others are still there; but the sector that failed may hold the old bytes or the new: check the disk';
   } else if (written + 1 >= of) {
     then = "The directory's sector was the one that failed, and may hold the old bytes or the new: check the disk";
@@ -638,13 +650,13 @@ const stopped = (written, of, apart, cause) => {
 export class Sectors {
   #sectors;
   #turn;
-  #apart;
+  #parts;
 
   // turn: where this change stands among those of its disk.
-  constructor(sectors, turn, apart) {
+  constructor(sectors, turn, parts) {
     this.#sectors = sectors;
     this.#turn = turn;
-    this.#apart = apart;
+    this.#parts = parts;
   }
 
   get numbers() {
@@ -672,7 +684,7 @@ export class Sectors {
       try {
         await write(place, bytes, number);
       } catch (cause) {
-        throw stopped(written, of, this.#apart, cause);
+        throw stopped(written, of, this.#parts, cause);
       }
       progress(++written, of);
     }
@@ -712,7 +724,40 @@ export class Reader {
   }
 }
 
+// ---- Recordings: what is kept of one between its pieces does not grow with it, and holds no disk.
+
+export class Recording {
+  #record;
+  #calls;
+
+  // calls: those of its disk, on the record.
+  constructor(record, calls) {
+    const bytes = bytesOf(record, 'a record');
+    if (bytes.length !== RECORD_LENGTH) throw new RangeError(`a record has ${RECORD_LENGTH} bytes`);
+    this.#record = bytes.slice();
+    this.#calls = calls;
+  }
+
+  get bytes() {
+    return this.#record.slice();
+  }
+
+  add(piece) {
+    return this.#calls.add(bytesOf(piece, 'a piece'), this.#record);
+  }
+
+  close() {
+    return this.#calls.close(this.#record);
+  }
+}
+
 // ---- Disks
+
+// A file to save or to record, as the library is asked for it.
+const wishOf = ({ kind, name, start, execution = [255, 255, 255], information = [] }) => {
+  const { page, offset } = start;
+  return [kind, newNameOf(name), page, offset, Uint8Array.from(execution), Uint8Array.from(information)];
+};
 
 // A disk that nobody has any more gives its place back.
 const dropped = new FinalizationRegistry(({ memory, at }) => memory.give(at));
@@ -721,8 +766,9 @@ export class Disk {
   #library;
   #at; // where its image lies in the library's memory
   #listing;
-  #changes = 0;
-  #stored = 0; // how many of the changes were written whole
+  #changes = 0; // of what is seen
+  #turns = 0; // all that is to be written: these changes, and pieces of recordings
+  #stored = 0; // how many of the turns were written whole
 
   constructor(library, image) {
     const bytes = bytesOf(image, 'an image');
@@ -851,10 +897,21 @@ export class Disk {
     return new Tree(Array.from({ length: many }, (_, i) => bySlot.get(slots[2 * i] + 256 * slots[2 * i + 1])));
   }
 
-  save({ kind, name, start, body, execution = [255, 255, 255], information = [] }) {
-    const { page, offset } = start;
-    const [exec, info] = [Uint8Array.from(execution), Uint8Array.from(information)];
-    return this.#change('save', kind, newNameOf(name), page, offset, exec, info, bytesOf(body, 'a body'));
+  save(file) {
+    return this.#change('save', ...wishOf(file), bytesOf(file.body, 'a body'));
+  }
+
+  record(file) {
+    const record = new Uint8Array(RECORD_LENGTH);
+    this.#ask('recordOpen', ...wishOf(file), record);
+    return this.goOn(record);
+  }
+
+  goOn(record) {
+    return new Recording(record, {
+      add: (piece, own) => this.#sectors(...this.#make('recordAdd', piece, own), UNSEEN),
+      close: (own) => this.#change('recordClose', own),
+    });
   }
 
   erase(name) {
@@ -866,9 +923,7 @@ export class Disk {
     const ten = new Uint8Array(NAME_LENGTH * asked.length);
     asked.forEach((bytes, i) => ten.set(bytes, NAME_LENGTH * i));
     const answers = new Uint8Array(asked.length);
-    const list = new Uint8Array(LIST_LENGTH);
-    const done = this.#ask('eraseMany', ten, answers, list);
-    const sectors = this.#changed(list, done.value, true);
+    const sectors = this.#changed(...this.#make('eraseMany', ten, answers), APART);
     return { answers: Array.from(answers, (number) => (number === 0 ? null : new Refused(number))), sectors };
   }
 
@@ -897,28 +952,38 @@ export class Disk {
   }
 
   #change(name, ...given) {
+    return this.#changed(...this.#make(name, ...given), WHOLE);
+  }
+
+  // The list that a call filled, and how many sectors it names.
+  #make(name, ...given) {
     const list = new Uint8Array(LIST_LENGTH);
-    const done = this.#ask(name, ...given, list);
-    return this.#changed(list, done.value, false);
+    return [list, this.#ask(name, ...given, list).value];
+  }
+
+  // After a change of what is seen. One that alters no sector leaves readers where they are.
+  #changed(list, many, parts) {
+    this.#list();
+    if (many > 0) this.#changes++;
+    return this.#sectors(list, many, parts);
   }
 
   // The sectors of a list, with the bytes that they hold now: later changes do not alter them.
-  #changed(list, many, apart) {
-    this.#list();
+  #sectors(list, many, parts) {
     const image = this.#lent();
     const sectors = Array.from({ length: many }, (_, i) => {
       const number = list[2 * i] + 256 * list[2 * i + 1];
       const place = placeOf(number);
       return { number, place, track: trackOf(number), sector: sectorOf(number), bytes: image.slice(place, place + SECTOR_LENGTH) };
     });
-    // A change that alters no sector leaves nothing to write, and readers where they are.
-    const mine = many === 0 ? this.#changes : ++this.#changes;
+    // Where there is nothing to write it is nobody's turn.
+    const mine = many === 0 ? this.#turns : ++this.#turns;
     const turn = {
       skips: () => this.#stored < mine - 1,
       written: () => this.#stored >= mine,
       done: () => { this.#stored = mine; },
     };
-    return new Sectors(sectors, turn, apart);
+    return new Sectors(sectors, turn, parts);
   }
 }
 

@@ -32,6 +32,7 @@ BUFFER(names, 10 * MOST_NAMES + 10);
 BUFFER(answers, MOST_NAMES);
 BUFFER(report, VARNUCHT_REPORT_BYTES + 8);
 BUFFER(other, VARNUCHT_REPORT_BYTES + 8);
+BUFFER(record, VARNUCHT_RECORD_BYTES + 8);
 BUFFER(listing, VARNUCHT_LISTING_BYTES);
 static uint8_t sample[IMAGE];
 
@@ -49,6 +50,7 @@ static uint32_t draw(uint32_t n) {
     return (uint32_t)(state >> 32) % n;
 }
 static int one_in(uint32_t n) { return draw(n) == 0; }
+static void flip(uint8_t *at) { *at ^= (uint8_t)(1u << draw(8)); }
 
 static void mix(uint64_t w) {
     hash ^= w;
@@ -297,7 +299,7 @@ static void damage(uint32_t which) {
     switch (which) {
     case 2: slot[0] = (uint8_t)(0x40 + (one_in(2) ? 13 + draw(3) : 24 + draw(40))); break;
     case 4: slot[11] = (uint8_t)(one_in(2) ? 0 : 7 + draw(249)); slot[12] = 0; break;
-    case 5: slot[15 + draw(195)] ^= (uint8_t)(1u << draw(8)); break;
+    case 5: flip(slot + 15 + draw(195)); break;
     case 6: slot[13] = (uint8_t)draw(256); slot[14] = (uint8_t)draw(12); break;
     case 7: slot[0] = 19; slot[239] = (uint8_t)(49 + draw(200)); break;
     case 8: memcpy(slot + 11, from + 11, 199); break;
@@ -307,7 +309,7 @@ static void damage(uint32_t which) {
     case 25: slot[0] = (uint8_t)(1 + draw(4)); header[1] = header[2] = 255; break;
     default:
         for (uint32_t n = 1 + draw(40); n > 0; n--) {
-            (one_in(2) ? slot + draw(256) : image + draw(IMAGE))[0] ^= (uint8_t)(1u << draw(8));
+            flip(one_in(2) ? slot + draw(256) : image + draw(IMAGE));
         }
     }
 }
@@ -483,6 +485,128 @@ static void do_erase_many(void) {
     now--;
 }
 
+/* How many bytes fill the disk; 0 where it is full or refused. */
+static uint32_t filling(void) {
+    uint32_t left = varnucht_free(varnucht_list(image, image_len, out, ROOM));
+    return left > 0 ? 510 * left - 9 : 0;
+}
+/* Makes a directory in every free slot, which takes no sector, or erases them all again. */
+static void fill_slots(int live) {
+    uint32_t many = varnucht_directory_slots(varnucht_directory_tracks(image));
+    int ended = 0;
+    for (uint32_t s = 0; s < many; s++) {
+        uint8_t *slot = slot_at(s);
+        ended = ended || slot[1] == 0;
+        if (live && (ended || slot[0] == 0)) {
+            make_directory(slot, 0);
+            memset(slot + 1, 255, VARNUCHT_NAME_BYTES);
+            slot[2] = (uint8_t)(128 + s / 16);
+            slot[3] = (uint8_t)(128 + s % 16);
+        } else if (!live && slot[0] == 21 && slot[1] == 255) {
+            slot[0] = 0;
+        }
+    }
+}
+
+static size_t record_room(void) { return one_in(4) ? edge(VARNUCHT_RECORD_BYTES) : VARNUCHT_RECORD_BYTES + draw(8); }
+/* Opened with anything; now and then on a disk without a slot or without a sector, which get free again. */
+static void do_record_open(void) {
+    uint8_t name[16], exec[4] = {1, 2, 3, 4}, info[16] = {9, 8, 7, 6, 5, 4, 3, 2, 1};
+    for (int n = 0; n < 2; n++) {
+        uint32_t len = one_in(4) ? ask_name(name) : any_name(name);
+        uint32_t kind = one_in(8) ? draw(64) : 16 + draw(5);
+        uint32_t page = one_in(8) ? edge(32) : draw(32);
+        uint32_t offset = one_in(8) ? edge(32768 + 16384 * draw(2)) : 32768 + draw(16384);
+        size_t execs = draw(5);
+        size_t infos = draw(13);
+        size_t room = record_room();
+        uint32_t full = draw(6);
+        PAINT(record);
+        if (full == 0) {
+            fill_slots(1);
+        } else if (full == 1) {
+            put((const uint8_t *)"FILL", 4, 19, filling());
+        }
+        told(varnucht_record_open(image, image_len, kind, name, len, page, offset, exec, execs, info, infos, record, room));
+        MIX(record);
+        if (full == 0) {
+            fill_slots(0);
+        } else if (full == 1) {
+            varnucht_erase(image, image_len, (const uint8_t *)"FILL", 4, list, 4096);
+        }
+    }
+}
+
+static uint8_t *listed; /* the first sector that a piece listed; NULL where it listed none */
+/* A recording to add to. Where it is refused the record stays one that no call made. */
+static void begin_recording(void) {
+    uint8_t name[2] = {'R', (uint8_t)('0' + draw(64))};
+    PAINT(record);
+    listed = NULL;
+    mix(varnucht_record_open(image, image_len, 16 + draw(5), name, 2, 1, 32768, name, 2, NULL, 0, record, VARNUCHT_RECORD_BYTES));
+    MIX(record);
+}
+static uint64_t add_piece(size_t room, size_t list_len, uint32_t size) {
+    draw_body(size);
+    PAINT(list);
+    uint64_t answer = varnucht_record_add(image, image_len, body, size, record, room, list, list_len);
+    listed = varnucht_value(answer) > 0 ? image + 512 * (list[0] + 256 * list[1]) : NULL;
+    MIX(image);
+    MIX(list);
+    MIX(record);
+    return answer;
+}
+/* What comes between two calls of a recording: mostly nothing, or another change, or damage to the record or to a link. */
+static void meanwhile(void) {
+    static const uint8_t particulars[] = {0, 1, 2, 3, 12, 13}; /* where kind, page, offset and name stand */
+    uint8_t name[16], *at = record + particulars[draw(sizeof particulars)];
+    uint32_t len = ask_name(name);
+    switch (draw(24)) {
+    case 0: draw_body(3); mix(put(name, len, 19, 3)); break;
+    case 1: mix(varnucht_erase(image, image_len, name, len, list, 4096)); break;
+    case 2:
+    case 3: mix(varnucht_rename(image, image_len, name, len, record + 12, VARNUCHT_NAME_BYTES, list, 4096)); break;
+    case 4: fill_slots(1); break;
+    case 5:
+    case 6:
+    case 7: *at = (uint8_t)(one_in(3) ? 0 : draw(256)); break;
+    case 8: flip(record + 8 + draw(3)); break; /* how many bytes came */
+    case 9: flip(record + (one_in(2) ? 4 : 36 + draw(195))); break; /* the tracks, the used map */
+    case 10: flip(listed != NULL ? listed + 510 + draw(2) : at); break;
+    default: break;
+    }
+}
+static void do_record_add(void) {
+    begin_recording();
+    for (int n = 0; n < 4; n++) {
+        uint32_t size = one_in(8) ? draw(ROOM) : body_size(3000);
+        size_t room = record_room();
+        size_t list_len = one_in(3) ? draw(6) : 4096;
+        told(add_piece(room, list_len, size));
+        meanwhile();
+    }
+}
+/* Now and then the recording fills the disk and its record says that more came. */
+static void do_record_close(void) {
+    begin_recording();
+    for (uint32_t n = draw(3); n > 0; n--) {
+        mix(add_piece(VARNUCHT_RECORD_BYTES, 4096, body_size(3000)));
+    }
+    if (one_in(6)) {
+        begin_recording();
+        mix(add_piece(VARNUCHT_RECORD_BYTES, 4096, filling()));
+        record[10] = 255;
+    }
+    for (int n = 0; n < 3; n++) {
+        meanwhile();
+        size_t room = record_room();
+        size_t list_len = one_in(3) ? draw(8) : 4096;
+        PAINT(list);
+        changed(varnucht_record_close(image, image_len, record, room, list, list_len));
+        MIX(record);
+    }
+}
+
 /* Each call with its name and the numbers that it can give, which the header says too. */
 static const struct {
     const char *name;
@@ -508,6 +632,9 @@ static const struct {
     {"protect", do_protect, {DISK, 12, 15, 20}},
     {"release", do_release, {DISK, 12, 15, 20}},
     {"erase", do_erase, {DISK, 12, 15, 17, 29, 20}},
+    {"record_open", do_record_open, {DISK, 12, 13, 14, 16, 18, 19, 20}},
+    {"record_add", do_record_add, {DISK, 30, 19, 20}},
+    {"record_close", do_record_close, {DISK, 30, 12, 13, 14, 16, 18, 19, 20}},
     {"erase_many", do_erase_many, {DISK, 23, 20}},
     {"erase_many_of_a_name", NULL, {12, 15, 17, 29}},
 };

@@ -1,4 +1,4 @@
-//! The twenty calls on byte slices: safe, and total on every input, but without types that rule anything out.
+//! The twenty-three calls on byte slices: safe, and total on every input, but without types that rule anything out.
 //!
 //! Each function hands its slices to the C layer and gives back the [`Answer`]. Nothing is decided here. A refused call
 //! changes no byte of anything lent. In the changes, `list` takes the numbers of the sectors to write, two bytes to a number,
@@ -179,10 +179,10 @@ pub fn rename(image: &mut [u8], name: &[u8], new: &[u8], list: &mut [u8]) -> Ans
     })
 }
 
-/// A call of the C layer that takes an image to change, a name and a list.
+/// A call of the C layer that takes an image to change, a name or a record that is only read, and a list.
 type OnName = unsafe extern "C" fn(*mut u8, usize, *const u8, usize, *mut u8, usize) -> u64;
 
-/// Hands the slices to a call that takes a name alone.
+/// Hands the slices to a call that takes a name, or a record, alone.
 fn on_name(call: OnName, image: &mut [u8], name: &[u8], list: &mut [u8]) -> Answer {
     // SAFETY: pointers and lengths are those of slices; `image` and `list` are borrowed alone.
     Answer::from_number(unsafe {
@@ -226,4 +226,50 @@ pub fn release(image: &mut [u8], name: &[u8], list: &mut [u8]) -> Answer {
 /// written, 0 where it lies so already. 1,562 bytes are always enough for its list.
 pub fn gather(image: &mut [u8], name: &[u8], list: &mut [u8]) -> Answer {
     on_name(raw::varnucht_gather, image, name, list)
+}
+
+/// Opens a recording with a save's particulars: its record, 2,048 bytes, comes to the front of `record`. The wish's body is not
+/// looked at. Value: 0.
+pub fn record_open(image: &[u8], wish: &Wish, record: &mut [u8]) -> Answer {
+    // SAFETY: pointers and lengths are those of slices, and `record` is borrowed alone.
+    Answer::from_number(unsafe {
+        raw::varnucht_record_open(
+            image.as_ptr(),
+            image.len(),
+            wish.kind,
+            wish.name.as_ptr(),
+            wish.name.len(),
+            wish.page,
+            wish.offset,
+            wish.execution.as_ptr(),
+            wish.execution.len(),
+            wish.information.as_ptr(),
+            wish.information.len(),
+            record.as_mut_ptr(),
+            record.len(),
+        )
+    })
+}
+
+/// Adds a piece to a recording. Value: how many sectors are to be written; 3,116 bytes are always enough for their list.
+pub fn record_add(image: &mut [u8], piece: &[u8], record: &mut [u8], list: &mut [u8]) -> Answer {
+    // SAFETY: pointers and lengths are those of slices; `image`, `record` and `list` are borrowed alone.
+    Answer::from_number(unsafe {
+        raw::varnucht_record_add(
+            image.as_mut_ptr(),
+            image.len(),
+            piece.as_ptr(),
+            piece.len(),
+            record.as_mut_ptr(),
+            record.len(),
+            list.as_mut_ptr(),
+            list.len(),
+        )
+    })
+}
+
+/// Makes a recording a file; its record stays as it is. Value: how many sectors are to be written; 8 bytes are always enough
+/// for their list.
+pub fn record_close(image: &mut [u8], record: &[u8], list: &mut [u8]) -> Answer {
+    on_name(raw::varnucht_record_close, image, record, list)
 }

@@ -236,10 +236,25 @@ impl Disk {
     pub fn change(&mut self, change: &Change) -> Result<Sectors<'_>, Refused> {
         let mut list = [0; LIST_LENGTH];
         let done = change.make(&mut self.image, &mut list).decode()?;
+        self.changed(&list, done.value)
+    }
+
+    /// Lists the disk anew after a change, and gives the first `many` sectors of its list.
+    pub(crate) fn changed(&mut self, list: &[u8], many: u32) -> Result<Sectors<'_>, Refused> {
         // An accepted change leaves an accepted disk, so this is not refused. If it were, nothing would be written anywhere,
         // and every later call would be refused by the library.
         self.listing = Listing::of(&self.image)?;
-        Ok(Sectors::new(&self.image, &mut self.written, &list, done.value))
+        Ok(Sectors::new(&self.image, &mut self.written, list, many))
+    }
+
+    /// The same after a piece of a recording, which changes nothing that is seen.
+    pub(crate) fn unseen(&mut self, list: &[u8], many: u32) -> Sectors<'_> {
+        Sectors::new(&self.image, &mut self.written, list, many).unseen()
+    }
+
+    /// The image, for a change that the library makes.
+    pub(crate) fn image_mut(&mut self) -> &mut Image {
+        &mut self.image
     }
 
     /// Makes a change on a copy, and tells which sectors it would write. This disk stays as it is. The image is copied.
@@ -309,11 +324,9 @@ impl Disk {
     /// ```
     pub fn erase_many(&mut self, names: &[Name]) -> Result<Erased<'_>, Refused> {
         let made = handful::erase(&mut self.image, names)?;
-        // As with every change this is not refused.
-        self.listing = Listing::of(&self.image)?;
         Ok(Erased {
             answers: made.answers,
-            sectors: Sectors::new(&self.image, &mut self.written, &made.list, made.many).apart(),
+            sectors: self.changed(&made.list, made.many)?.apart(),
         })
     }
 

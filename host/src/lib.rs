@@ -1,4 +1,4 @@
-//! Disk images of the SAM Coupé: check, list, read, save, erase, rename, hide, show, protect, release and gather.
+//! Disk images of the SAM Coupé: check, list, read, save, record, erase, rename, hide, show, protect, release and gather.
 //!
 //! The work is done by a library that is proved correct, for every image and every request. This crate puts types over it:
 //!
@@ -13,7 +13,8 @@
 //! Buffers are made as long as they must be, so refusal 20 is ruled out too. What is left is what only the disk itself can
 //! tell: is there a file of that name (15), is the new name free (16), is the file protected (17), is there a slot (18), are
 //! there sectors (19), does the file have a body (13) and a start address (14), do its directories fit together (26 to 28),
-//! is a directory empty (29), is there a run of free sectors for a scattered file (32).
+//! is a directory empty (29), is the disk the one that was recorded on (30), is there a run of free sectors for a scattered
+//! file (32).
 //!
 //! The types are a convenience. They refuse by the library's own numbers, and tests show that each draws the line where the
 //! library does; what a type lets through still goes to the library, and what it answers is what counts.
@@ -136,6 +137,12 @@
 //! [`Disk::is_scattered`] tells that of a file, and [`Disk::gather`] moves it to the lowest run of free sectors that is as long
 //! as it is.
 //!
+//! # Save while recording
+//!
+//! A recorder has no length until the user stops. A [`Recording`] takes the bytes as they come, as any
+//! [`Write`](std::io::Write) does, and stores each sector as soon as it is full. It becomes a file when it is closed: given up,
+//! or cut short, it leaves all files as they were.
+//!
 //! # A handful of files
 //!
 //! [`Disk::erase_many`] erases the files of several names by one call, and answers for each of them. Each sector that it names
@@ -158,9 +165,9 @@
 //!
 //! A change answers with the [`Sectors`] that it altered, in the order in which they are to be written. Wherever that
 //! writing is cut short, the file holds the old disk until the last sector is written, and the new one from then on (of a
-//! handful of files erased at once that holds of each sector): [`Sectors::write_to`] does it, and waits for each sector to reach the disk before it goes on to the next. If a write fails,
-//! the disk in memory is ahead of the file: write the same sectors again, or open the disk anew from the file. A later change
-//! is not written before that.
+//! handful of files erased at once that holds of each sector): [`Sectors::write_to`] does it, and waits for each sector to
+//! reach the disk before it goes on to the next. If a write fails, the disk in memory is ahead of the file: write the same
+//! sectors again, or open the disk anew from the file. A later change is not written before that.
 //!
 //! ```
 //! use std::fs::File;
@@ -190,7 +197,7 @@
 //! "Document 01" and "the paper" are the rules that the library is proved against. A refusal prints their words. The
 //! directory's end is its first slot whose first name byte is 0: that slot and all later ones are free, and what stands there
 //! is no file and is not looked at; a save clears the old name that would come back when it takes that slot. Below the
-//! types stand [`calls`], the twenty calls on byte slices, and [`raw`], the C layer itself.
+//! types stand [`calls`], the twenty-three calls on byte slices, and [`raw`], the C layer itself.
 #![warn(missing_docs, clippy::missing_errors_doc)]
 
 mod answer;
@@ -213,6 +220,7 @@ mod place;
 #[allow(missing_docs)]
 pub mod raw;
 mod reader;
+mod recording;
 mod refusal;
 mod report;
 mod sectors;
@@ -235,6 +243,7 @@ pub use listing::Listing;
 pub use name::{NAME_LENGTH, Name, NewName, Unusable};
 pub use place::{DATA_SECTORS, Drive, SECTOR_LENGTH, SECTORS, Sector, SectorNumber, Track};
 pub use reader::Reader;
+pub use recording::{Particulars, Record, RecordError, Recording};
 pub use refusal::{Refusal, Refused, Slot};
 pub use report::{MOST_DISKS, REPORT_LENGTH, Report, SectorClass};
 pub use sectors::{LONGEST_BODY, Sectors};

@@ -131,4 +131,37 @@ unsafe extern "C" {
         list: *mut u8,
         list_len: usize,
     ) -> u64;
+    pub fn varnucht_record_open(
+        image: *const u8,
+        image_len: usize,
+        kind: u32,
+        name: *const u8,
+        name_len: usize,
+        page: u32,
+        offset: u32,
+        exec: *const u8,
+        exec_len: usize,
+        info: *const u8,
+        info_len: usize,
+        record: *mut u8,
+        record_len: usize,
+    ) -> u64;
+    pub fn varnucht_record_add(
+        image: *mut u8,
+        image_len: usize,
+        piece: *const u8,
+        piece_len: usize,
+        record: *mut u8,
+        record_len: usize,
+        list: *mut u8,
+        list_len: usize,
+    ) -> u64;
+    pub fn varnucht_record_close(
+        image: *mut u8,
+        image_len: usize,
+        record: *const u8,
+        record_len: usize,
+        list: *mut u8,
+        list_len: usize,
+    ) -> u64;
 }

@@ -67,6 +67,9 @@ pub enum Refusal {
     DirectoryInItself,
     /// 29: a directory that something is in cannot be erased.
     DirectoryNotEmpty,
+    /// 30: the disk is not the one that was recorded on: its used map or its directory tracks are not what they were at
+    /// opening, or a sector of the recording lacks its link. A [`Recording`](crate::Recording) alone gives it.
+    RecordingMoved,
     /// 31: a report that would pass 65,535 disks.
     ReportFull,
     /// 32: the file must move, and no run of consecutive free map bits is as long as it is.
@@ -77,7 +80,7 @@ pub enum Refusal {
 }
 
 /// The table of document 01 with the rows that document 02 adds, by rising number.
-const TABLE: [(u8, Refusal, &str); 31] = [
+const TABLE: [(u8, Refusal, &str); 32] = [
     (1, Refusal::ImageLength, "the image is not 819,200 bytes"),
     (2, Refusal::UnknownKind, "the kind is not known"),
     (3, Refusal::NoFirstNameByte, "the first name byte is 0 (given no more)"),
@@ -163,6 +166,11 @@ const TABLE: [(u8, Refusal, &str); 31] = [
         29,
         Refusal::DirectoryNotEmpty,
         "a directory whose code, not 0, is another live slot's byte 254 (erase)",
+    ),
+    (
+        30,
+        Refusal::RecordingMoved,
+        "the used map or n is not what it was at opening or a sector that its pieces listed lacks its link (recording)",
     ),
     (31, Refusal::ReportFull, "a disk or join that would pass 65,535 disks"),
     (

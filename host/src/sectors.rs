@@ -14,7 +14,8 @@ pub(crate) const LIST_LENGTH: usize = 2 * (DATA_SECTORS + 2);
 ///
 /// The change is made in memory. A copy of the disk elsewhere follows when these sectors are written there, in this order:
 /// cut short anywhere, that copy is still the old disk to every call until the last one is written. Those of a handful of files
-/// erased at once ([`Disk::erase_many`](crate::Disk::erase_many)) are a change of their own each. As long as this value is kept,
+/// erased at once ([`Disk::erase_many`](crate::Disk::erase_many)) are a change of their own each, and those of a recording's
+/// piece ([`Disk::add_piece`](crate::Disk::add_piece)) change nothing that is seen. As long as this value is kept,
 /// the disk can take no other change. Whoever writes with [`iter`](Sectors::iter) must leave out no change: the sectors of the
 /// next build on it. [`write_to`](Sectors::write_to) sees to that.
 ///
@@ -61,8 +62,18 @@ pub struct Sectors<'d> {
     numbers: Vec<SectorNumber>,
     written: &'d mut bool,
     skipped: bool,
-    /// Whether each sector is a change of its own.
-    apart: bool,
+    parts: Parts,
+}
+
+/// What a sector is to the disk that is stored.
+#[derive(Clone, Copy, Debug)]
+enum Parts {
+    /// The last one makes the change.
+    Whole,
+    /// Each is a change of its own.
+    Apart,
+    /// None changes anything that is seen.
+    Unseen,
 }
 
 impl<'d> Sectors<'d> {
@@ -84,13 +95,24 @@ impl<'d> Sectors<'d> {
             numbers,
             written,
             skipped,
-            apart: false,
+            parts: Parts::Whole,
         }
     }
 
     /// The same of a change whose every sector is a change of its own.
     pub(crate) fn apart(self) -> Sectors<'d> {
-        Sectors { apart: true, ..self }
+        Sectors {
+            parts: Parts::Apart,
+            ..self
+        }
+    }
+
+    /// The same of a piece of a recording, whose sectors were free and still are.
+    pub(crate) fn unseen(self) -> Sectors<'d> {
+        Sectors {
+            parts: Parts::Unseen,
+            ..self
+        }
     }
 
     /// The sector numbers, in the order of writing. No number occurs twice.
@@ -148,9 +170,10 @@ impl<'d> Sectors<'d> {
         }
         let of = self.numbers.len();
         for (written, (number, bytes)) in self.iter().enumerate() {
-            store.write_sector(number, bytes).map_err(|error| match self.apart {
-                false => WriteError::Stopped { written, of, error },
-                true => WriteError::Partly { written, of, error },
+            store.write_sector(number, bytes).map_err(|error| match self.parts {
+                Parts::Whole => WriteError::Stopped { written, of, error },
+                Parts::Apart => WriteError::Partly { written, of, error },
+                Parts::Unseen => WriteError::Piece { written, of, error },
             })?;
             progress(written + 1, of);
         }

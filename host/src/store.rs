@@ -77,6 +77,15 @@ pub enum WriteError {
         /// Why the next could not be written.
         error: io::Error,
     },
+    /// The same of a piece of a [`Recording`](crate::Recording), whose sectors were free: nothing that is seen has changed.
+    Piece {
+        /// How many were written before the one that failed.
+        written: usize,
+        /// How many there are.
+        of: usize,
+        /// Why the next could not be written.
+        error: io::Error,
+    },
     /// Nothing was written, because the sectors of an earlier change of this disk were not.
     Skipped,
 }
@@ -89,18 +98,29 @@ impl WriteError {
         match self {
             WriteError::Stopped { written, of, .. } => written + 1 >= *of,
             WriteError::Partly { .. } => true,
-            WriteError::Skipped => false,
+            WriteError::Piece { .. } | WriteError::Skipped => false,
+        }
+    }
+
+    /// How many sectors were written, how many there are, and why the next could not be.
+    fn stopped(&self) -> Option<(usize, usize, &io::Error)> {
+        match self {
+            WriteError::Stopped { written, of, error }
+            | WriteError::Partly { written, of, error }
+            | WriteError::Piece { written, of, error } => Some((*written, *of, error)),
+            WriteError::Skipped => None,
         }
     }
 }
 
 impl fmt::Display for WriteError {
     fn fmt(&self, f: &mut fmt::Formatter<'_>) -> fmt::Result {
-        if let WriteError::Stopped { written, of, error } | WriteError::Partly { written, of, error } = self {
+        if let Some((written, of, error)) = self.stopped() {
             write!(f, "{written} of {of} sectors were written, and then: {error}. ")?;
         }
         f.write_str(match self {
             WriteError::Stopped { .. } if !self.at_last() => "The old disk is still there and reads as before",
+            WriteError::Piece { .. } => "All files are there as before; the recording cannot go on",
             WriteError::Stopped { .. } => {
                 "The directory's sector was the one that failed, and may hold the old bytes or the new: check the disk"
             }
@@ -118,9 +138,6 @@ impl fmt::Display for WriteError {
 
 impl Error for WriteError {
     fn source(&self) -> Option<&(dyn Error + 'static)> {
-        match self {
-            WriteError::Stopped { error, .. } | WriteError::Partly { error, .. } => Some(error),
-            WriteError::Skipped => None,
-        }
+        self.stopped().map(|(_, _, error)| error as _)
     }
 }

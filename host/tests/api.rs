@@ -15,6 +15,8 @@ mod handful;
 mod pieces;
 #[path = "api/reading.rs"]
 mod reading;
+#[path = "api/recording.rs"]
+mod recording;
 #[path = "api/reports.rs"]
 mod reports;
 #[path = "support/table.rs"]

@@ -31,6 +31,8 @@ mod messages;
 mod names;
 #[path = "tool/packaging.rs"]
 mod packaging;
+#[path = "tool/recording.rs"]
+mod recording;
 #[path = "tool/replacing.rs"]
 mod replacing;
 #[path = "tool/report.rs"]

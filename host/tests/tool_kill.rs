@@ -1,5 +1,6 @@
-//! Kills the tool in the middle of saves and gathers, many times, at drawn moments. The image left is accepted each time, shows
-//! the old files or the new, and takes the change again. Where it erases several files those of the sectors written are gone.
+//! Kills the tool in the middle of saves, recordings and gathers, many times, at drawn moments. The image left is accepted each
+//! time, shows the old files or the new, and takes the change again. Where it erases several files those of the sectors written
+//! are gone.
 //! `VARNUCHT_KILLS` is how many saves to kill, `VARNUCHT_SEED` what is drawn.
 //!
 //! A sector is written in one call of 512 bytes, which a kill cannot tear: the disk left is held to whole sectors.
@@ -34,7 +35,7 @@ fn a_killed_tool_leaves_the_old_files_or_the_new() {
     let mut scene = Scene::new(number("VARNUCHT_SEED", 1) as u64);
     let mut pace = scene.measure();
     println!("at first: {}, saves of 20 to {} sectors", pace.words(), pace.most_sectors());
-    let [mut saves, mut gathers, mut handfuls, mut others] = [(); 4].map(|()| Tally::default());
+    let [mut saves, mut recordings, mut gathers, mut handfuls, mut others] = [(); 5].map(|()| Tally::default());
     while saves.kills() < kills {
         assert!(
             saves.rounds < 3 * kills + 20,
@@ -43,6 +44,9 @@ fn a_killed_tool_leaves_the_old_files_or_the_new() {
         scene.save_round(&mut pace, &mut saves);
         if saves.rounds % 2 == 1 {
             scene.gather_round(&mut pace, &mut gathers);
+        }
+        if saves.rounds % 2 == 0 {
+            scene.record_round(&mut pace, &mut recordings);
         }
         if saves.rounds % 8 == 5 {
             scene.erase_round(&mut pace, &mut handfuls);
@@ -53,10 +57,15 @@ fn a_killed_tool_leaves_the_old_files_or_the_new() {
     }
     println!("at last: {}, saves of 20 to {} sectors", pace.words(), pace.most_sectors());
     println!("saves: {saves}");
+    println!("recordings: {recordings}");
     println!("gathers: {gathers}");
     println!("several erased at once: {handfuls}");
     println!("erase, rename, hide, show: {others}");
     assert!(handfuls.rounds >= kills / 10, "too few handfuls were erased: {handfuls}");
+    assert!(
+        recordings.middle >= kills / 10,
+        "too few recordings were killed between two writes: {recordings}"
+    );
     assert!(gathers.kills() >= kills / 5, "too few gathers were killed: {gathers}");
     assert!(saves.middle >= kills / 5, "too few kills fell between two writes: {saves}");
 }

@@ -1,19 +1,15 @@
 -- A change with a list of bytes is the change with a list of numbers: no change names more than 1,562 sectors, so that many numbers are always room enough.
-use Prim.Native.Nat.{ℕ, suc, _+_, _-_, _/_, _≤_, _<_, min}
-use mathlib.Core.Path.{_≡_, refl, sym, ap, _∙_, subst}
+use Prim.Native.Nat.{ℕ, suc, _/_, _≤_, _<_, min}
+use mathlib.Core.Path.{_≡_, refl, ap}
 use mathlib.Core.Bool.{Bool, true, false, cond, not, _&&_}
 use mathlib.Core.List.{List, [], _∷_, _++_}
-use mathlib.Core.Logic.{_⊎_, inl, inr}
 use mathlib.Core.Option.{Option, none, some}
 use native.Mathlib.Omega.{arith}
-use borrow.Author.Tests.{lt-ltb, le-ltb}
 use lib.Dec.{leb, ltb}
-use lib.ListN.{length, getD, take, drop, length-take, length-append, length-drop}
-use lib.Seq.{take-append-le}
-use Rattle.buffers.specs.Bytes.{part, put}
-use Rattle.buffers.proofs.Lists.{below-or-not, length-put, put-none, part-put}
+use lib.ListN.{length, getD, take, drop, length-take}
+use Rattle.buffers.specs.Bytes.{put}
 use Rattle.refusals.specs.Order.{refuse, Reply, _else_, row}
-use Rattle.refusals.specs.Answers.{Outcome, done, refused}
+use Rattle.refusals.specs.Answers.{Outcome}
 use Rattle.slots.specs.Slot.{carried, protected, isDirectory, countOf, sectorsFor}
 use Rattle.names.specs.Name.{askable, padded}
 use Rattle.chains.specs.File.{File}
@@ -31,7 +27,7 @@ use Rattle.steps.specs.Steps.{enact, numbers}
 use Rattle.plans.specs.Change.{Wish, Change, save, erase, rename, mark, gather, marked, between, usable}
 use Rattle.plans.specs.Saving.{passing, freeBit, taken, lowestSlot, slotTaken}
 use Rattle.plans.specs.Gathering.{scattered, upFrom, lowestRun}
-use Rattle.plans.specs.Plan.{touch, oldName, saveSteps, gatherSteps, Plan, no, go, orNo, byName, takenAt, nameTaken, takenBy, renameTaken, isProtected, isOccupied, saveReply, movePlan, planOf, plan, Result, stopped, made, settle, checked, run, Changed, changed, changedBy, change}
+use Rattle.plans.specs.Plan.{touch, oldName, saveSteps, gatherSteps, Plan, no, go, orNo, byName, takenAt, nameTaken, takenBy, renameTaken, isProtected, isOccupied, saveReply, movePlan, planOf, plan, Result, stopped, made, settle, checked, run, changed, change}
 use Rattle.plans.proofs.Frame.{disk-sound}
 use Rattle.plans.proofs.Named.{found-file}
 use Rattle.plans.proofs.Respelt.{taken-found}
@@ -41,10 +37,11 @@ use Rattle.plans.proofs.Ended.{dirs-some}
 use Rattle.plans.proofs.Saved.{save-long}
 use Rattle.plans.proofs.Sure.{save-tested}
 use Rattle.plans.proofs.Demand3.{run-room}
-use Rattle.saves.proofs.Planned.{free-le}
+use Rattle.taking.proofs.Shut.{free-le}
 use Rattle.packing.specs.Packed.{valueIn}
-use Rattle.bytelists.specs.Lists.{inBytes, changingBy, changing, Counted}
+use Rattle.bytelists.specs.Lists.{inBytes, changing, Counted}
 use Rattle.bytelists.proofs.Table.{Small, small-else, small-row, check-small}
+use Rattle.bytelists.proofs.Lent.{least-room, lent-counted, lent-is}
 
 -- how many sectors a change names at most
 abbrev pub most : Change → ℕ
@@ -63,7 +60,7 @@ most-few (mark m n) = omega arith
 most-few (gather n) = omega arith
 
 -- a plan whose refusals are of the table at slots of the directory, and whose sectors are at most m
-abbrev Mild : ℕ → Plan → Type 0
+abbrev pub Mild : ℕ → Plan → Type 0
 Mild m (no r) = Small (some r)
 Mild m (go p) = length (numbers p) ≤ m
 
@@ -97,7 +94,7 @@ pub free-few : (n : ℕ) (v : Directory) → free n v ≤ 1560
 unfolding free
 free-few n v = free-le (usedMap n v)
 
-small-save : (n : ℕ) (v : Directory) (w : Wish) → Small (saveReply n v w)
+pub small-save : (n : ℕ) (v : Directory) (w : Wish) → Small (saveReply n v w)
 unfolding saveReply
 small-save n v w =
     small-else (row 12 0 (not (usable (w .name)))) (r13 else r14 else nameTaken v (w .name) else r18 else r19) (small-row 12 0 (not (usable (w .name))) (omega arith) (omega arith))
@@ -189,102 +186,54 @@ abbrev pub Settled : ℕ → Result → Type 0
 Settled m (stopped r) = Small (some r)
 Settled m (made new ss) = length ss ≤ m
 
+-- of a plan for a disk that the check gives q
+module _ (q : Reply) (d : List ℕ) (m : ℕ) (p : Plan) (w : q ≡ none → Mild m p) where
+  pub mild-settled : Small q → (room : ℕ) → Settled m (checked q (settle d room p))
+  mild-settled a room = by q refl a
+    where
+      room-or : (t : Bool) (new ss : List ℕ) → length ss ≤ m → Settled m (cond t (stopped (refuse 20 0)) (made new ss))
+      room-or true new ss h = (omega arith, omega arith)
+      room-or false new ss h = h
+
+      at : (p : Plan) → Mild m p → Settled m (settle d room p)
+      at (no r) b = b
+      at (go p) b = room-or (ltb room (length (numbers p))) (enact d p) (numbers p) b
+
+      by : (x : Reply) → q ≡ x → Small x → Settled m (checked x (settle d room p))
+      by (some r) e a = a
+      by none e a = at p (w e)
+
+  -- more room than it can need makes no difference
+  pub same-settled : (r n : ℕ) → m ≤ n → checked q (settle d (min r n) p) ≡ checked q (settle d r p)
+  same-settled r n h = by q refl
+    where
+      at : (p : Plan) → Mild m p → settle d (min r n) p ≡ settle d r p
+      at (no x) v = refl
+      at (go p) v = ap (λ (t : Bool). cond t (stopped (refuse 20 0)) (made (enact d p) (numbers p))) (least-room r n (length (numbers p)) (omega arith))
+
+      by : (x : Reply) → q ≡ x → checked x (settle d (min r n) p) ≡ checked x (settle d r p)
+      by (some x) e = refl
+      by none e = at p (w e)
+
 pub mild-run : (c : Change) (d : List ℕ) (room : ℕ) → Settled (most c) (run c d room)
 unfolding run checkDisk
-mild-run c d room = by (checkDisk d) refl (check-small (look d))
-  where
-    room-or : (t : Bool) (new ss : List ℕ) → length ss ≤ most c → Settled (most c) (cond t (stopped (refuse 20 0)) (made new ss))
-    room-or true new ss h = (omega arith, omega arith)
-    room-or false new ss h = h
+mild-run c d room = mild-settled (checkDisk d) d (most c) (plan c d) (λ e. mild d (disk-sound d e) c) (check-small (look d)) room
 
-    at : (p : Plan) → Mild (most c) p → Settled (most c) (settle d room p)
-    at (no r) b = b
-    at (go p) b = room-or (ltb room (length (numbers p))) (enact d p) (numbers p) b
-
-    by : (q : Reply) → checkDisk d ≡ q → Small q → Settled (most c) (checked q (settle d room (plan c d)))
-    by (some r) e a = a
-    by none e a = at (plan c d) (mild d (disk-sound d e) c)
-
--- more room than a change can need makes no difference
-run-same : (c : Change) (d : List ℕ) (a b : ℕ) → ((x : ℕ) → x ≤ most c → ltb a x ≡ ltb b x) → run c d a ≡ run c d b
-unfolding run
-run-same c d a b h = by (checkDisk d) refl
-  where
-    at : (p : Plan) → Mild (most c) p → settle d a p ≡ settle d b p
-    at (no r) w = refl
-    at (go p) w = ap (λ (t : Bool). cond t (stopped (refuse 20 0)) (made (enact d p) (numbers p))) (h (length (numbers p)) w)
-
-    by : (q : Reply) → checkDisk d ≡ q → checked q (settle d a (plan c d)) ≡ checked q (settle d b (plan c d))
-    by (some r) e = refl
-    by none e = at (plan c d) (mild d (disk-sound d e) c)
-
-pub least-room : (r n x : ℕ) → x ≤ n → ltb (min r n) x ≡ ltb r x
-least-room r n x h = by (below-or-not r x)
-  where
-    by : (r < x) ⊎ (x ≤ r) → ltb (min r n) x ≡ ltb r x
-    by (inl k) = rw (lt-ltb (min r n) x (omega arith), lt-ltb r x k)
-    by (inr k) = rw (le-ltb (min r n) x (omega arith), le-ltb r x k)
-
--- outcome, image and list make what a call gives
-whole : {o p : Outcome} {d e x y : List ℕ} → o ≡ p → d ≡ e → x ≡ y → changed o d x ≡ changed p e y
-whole a b c = rw (a, b, c)
-
--- ---- the call below, which is lent the first k of some numbers xs: as many as the bytes b have room for, and enough for every change
-
-pub lent-long : (xs : List ℕ) (k r : ℕ) → k ≡ min r (length xs) → k ≡ length (take k xs)
-lent-long xs k r room = omega (arith, length-take k xs)
-
-pub lent-of : (xs : List ℕ) (k r n : ℕ) → k ≡ min r n → length xs ≡ n → k ≡ min r (length xs)
-lent-of xs k r n e l = e ∙ ap (min r) (sym l)
-
-pub back-long : (xs ys : List ℕ) (k : ℕ) → length ys ≡ length (take k xs) → length xs ≡ length (ys ++ drop k xs)
-back-long xs ys k e = omega (arith, length-append ys (drop k xs), length-drop k xs, length-take k xs)
+-- ---- the call below
 
 module _ (c : Change) (d b xs : List ℕ) (k : ℕ) (room : k ≡ min (length b / 2) (length xs)) (enough : most c ≤ length xs) where
-  ran : run c d (length (take k xs)) ≡ run c d (length b / 2)
-  ran = ap (run c d) (sym (lent-long xs k (length b / 2) room) ∙ room) ∙ run-same c d (min (length b / 2) (length xs)) (length b / 2) (λ x h. least-room (length b / 2) (length xs) x (omega arith))
+  same : run c d (min (length b / 2) (length xs)) ≡ run c d (length b / 2)
+  unfolding run
+  same = same-settled (checkDisk d) d (most c) (plan c d) (λ e. mild d (disk-sound d e) c) (length b / 2) (length xs) enough
 
-  -- what the call below gave, by what came of it
+  fits : (n : ℕ) (new ss : List ℕ) → run c d n ≡ made new ss → length ss ≤ n
+  fits n new ss e = run-room c d n new ss e .fits
+
   module _ (o : Outcome) (d′ ys : List ℕ) (e : changed o d′ ys ≡ change c d (take k xs)) where
-    -- as many numbers as were lent
-    ys-long : length ys ≡ length (take k xs)
-    unfolding change
-    ys-long = by (run c d (length (take k xs))) e
-      where
-        by : (x : Result) → changed o d′ ys ≡ changedBy x d (take k xs) → length ys ≡ length (take k xs)
-        by (stopped r) w = ap (λ (x : Changed). length (x .list)) w
-        by (made new ss) w = ap (λ (x : Changed). length (x .list)) w ∙ length-put (take k xs) 0 ss
-
     pub counted : Counted o (ys ++ drop k xs) b
     unfolding change
-    counted = by (run c d (length (take k xs))) refl e
-      where
-        by : (x : Result) → run c d (length (take k xs)) ≡ x → changed o d′ ys ≡ changedBy x d (take k xs) → Counted o (ys ++ drop k xs) b
-        by (stopped r) q w =
-            subst (λ (o : Outcome). Counted o (ys ++ drop k xs) b) (sym (ap (λ (x : Changed). x .outcome) w)) (record { enough = omega arith; room = omega arith })
-        by (made new ss) q w =
-            let f = run-room c d (length (take k xs)) new ss q .fits in
-            subst (λ (o : Outcome). Counted o (ys ++ drop k xs) b) (sym (ap (λ (x : Changed). x .outcome) w))
-            (record { enough = omega (arith, back-long xs ys k ys-long, length-take k xs); room = omega (arith, length-take k xs) })
+    counted = lent-counted (run c d) d b xs k room same fits o d′ ys e
 
     pub changing-is : (p : Outcome) → p ≡ o → (b′ : List ℕ) → b′ ≡ put b 0 (inBytes (take (valueIn o) (ys ++ drop k xs))) → changed p d′ b′ ≡ changing c d b
-    unfolding change changing inBytes part
-    changing-is p a b′ q = ap (λ (o : Outcome). changed o d′ b′) a ∙ by (run c d (length (take k xs))) refl e
-      where
-        by : (x : Result) → run c d (length (take k xs)) ≡ x → changed o d′ ys ≡ changedBy x d (take k xs) → changed o d′ b′ ≡ changing c d b
-        by (stopped z) g w =
-            let a : o ≡ refused z = ap (λ (x : Changed). x .outcome) w in
-            let i : d′ ≡ d = ap (λ (x : Changed). x .image) w in
-            let h : stopped z ≡ run c d (length b / 2) = sym g ∙ ran in
-            let l : b′ ≡ b = q ∙ ap (λ (o : Outcome). put b 0 (inBytes (take (valueIn o) (ys ++ drop k xs)))) a ∙ sym (put-none b 0 []) in
-            whole a i l ∙ ap (λ (x : Result). changingBy x d b) h
-        by (made new ss) g w =
-            let f = run-room c d (length (take k xs)) new ss g .fits in
-            let a : o ≡ done (length ss) 0 = ap (λ (x : Changed). x .outcome) w in
-            let i : d′ ≡ new = ap (λ (x : Changed). x .image) w in
-            let h : made new ss ≡ run c d (length b / 2) = sym g ∙ ran in
-            let t : take (length ss) (ys ++ drop k xs) ≡ ss =
-            take-append-le (length ss) ys (drop k xs) (omega (arith, ys-long)) ∙ ap (λ (x : Changed). take (length ss) (x .list)) w ∙ part-put (take k xs) 0 ss (omega arith) in
-            let l : b′ ≡ put b 0 (inBytes ss) =
-            q ∙ ap (λ (o : Outcome). put b 0 (inBytes (take (valueIn o) (ys ++ drop k xs)))) a ∙ ap (λ (x : List ℕ). put b 0 (inBytes x)) t in
-            whole a i l ∙ ap (λ (x : Result). changingBy x d b) h
+    unfolding change changing
+    changing-is = lent-is (run c d) d b xs k room same fits o d′ ys e

@@ -20,7 +20,7 @@ use Rattle.handfuls.proofs.Refused.{run-grants}
 use Rattle.packing.specs.Packed.{valueIn}
 use Rattle.bytelists.specs.Lists.{inBytes, Counted}
 use Rattle.bytelists.specs.Handfuls.{erasingBy, erasing}
-use Rattle.bytelists.proofs.Changing.{least-room, lent-long, back-long}
+use Rattle.bytelists.proofs.Lent.{least-room, lent-long, back-long}
 
 pub few-changed : (d ns : List ℕ) → length (sectorsOfAll d ns) ≤ pairs
 few-changed d ns = few-sectors (gone d (erasedAll d ns))

@@ -25,7 +25,7 @@ use Rattle.treelists.specs.Call.{nameReply, askedCode, treeBars, treeOf, fillWi
 use Rattle.packing.specs.Packed.{valueIn}
 use Rattle.bytelists.specs.Lists.{inBytes, Counted}
 use Rattle.bytelists.specs.Trees.{treeingBytes}
-use Rattle.bytelists.proofs.Changing.{least-room, lent-long, back-long}
+use Rattle.bytelists.proofs.Lent.{least-room, lent-long, back-long}
 
 -- where nothing but 20 can still be refused there are no more than slots
 pub tree-few : (d n : List ℕ) → treeBars (look d) n ≡ none → length (treeOf (look d) n) ≤ slots

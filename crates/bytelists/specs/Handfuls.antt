@@ -6,8 +6,9 @@ use Rattle.buffers.specs.Bytes.{put}
 use Rattle.refusals.specs.Answers.{done, refused}
 use Rattle.plans.specs.Plan.{Result, stopped, made, Changed}
 use Rattle.handfuls.specs.Handful.{answersTo, runMany, Erased, erased}
-use Rattle.handfuls.specs.Parts.{Ask, single, handful, returned}
-use Rattle.bytelists.specs.Lists.{inBytes, changing}
+use Rattle.recordings.specs.Recording.{adding, closing}
+use Rattle.handfuls.specs.Parts.{Ask, single, handful, piece, close, returned}
+use Rattle.bytelists.specs.Lists.{inBytes, changingBy, changing}
 
 -- "one byte a name": the answers are bytes as they stand; "The sector list", "two to a number, low byte first"
 abbrev pub erasingBy : Result → List ℕ → List ℕ → List ℕ → List ℕ → Erased
@@ -22,3 +23,5 @@ erasing d ns abuf b = erasingBy (runMany ns d (length abuf) (length b / 2)) d ns
 abbrev pub asking : Ask → List ℕ → List ℕ → Changed
 asking (single c) d b = changing c d b
 asking (handful ns abuf) d b = returned (erasing d ns abuf b)
+asking (piece r x) d b = changingBy (adding r x d (length b / 2)) d b
+asking (close r) d b = changingBy (closing r d (length b / 2)) d b

@@ -15,10 +15,16 @@ ghost use Rattle.gathers.specs.Call.{sectorsOf, Placed};
 ghost use Rattle.bytelists.specs.Lists.{inBytes, Returns, Counted};
 ghost use Rattle.bytelists.specs.Trees.{treeingBytes};
 ghost use Rattle.handfuls.specs.Handful.{erased};
-ghost use Rattle.bytelists.specs.Handfuls.{erasing};
+ghost use Rattle.bytelists.specs.Handfuls.{erasing, asking};
+ghost use Rattle.handfuls.specs.Parts.{piece, close};
+ghost use Rattle.plans.specs.Plan.{changed};
+ghost use Rattle.recordings.specs.Record.{recordingOf};
+ghost use Rattle.recordings.specs.Calls.{addedRecord};
 use changes::Marking;
 use gathers::Gathered;
 use gathers::Move;
+use record_add::Added;
+use recordings::Record;
 use refusals::Answer;
 
 // Puts the first `n` of the numbers to the front of a list, two bytes each, low byte first.
@@ -184,4 +190,33 @@ pub fn erase_many(image: &mut [u8], names: &[u8], answers: &mut [u8], list: &mut
     let room = buffers::lesser(list.len() / 2, wipes::DIR_SECTORS);
     let emptied = batches::erase_many(image, names, answers, &mut numbers[..room]);
     put_counted(emptied, &numbers, list)
+}
+
+// Room for the numbers of every piece: all but the first and the last of 1,560 sectors.
+fn no_sectors() -> [u16; 1558]
+    ensures { λ r. ⌜ length r ≡ 1558 ⌝ }
+{
+    [0u16; 1558]
+}
+
+// Adds a piece to a recording: how many sectors, their numbers to the front of the list, and the record.
+pub fn add_piece(image: &mut [u8], kept: Record, bytes: &[u8], list: &mut [u8]) -> Added
+    ensures { λ r. ⌜ (changed (outcomeOf (r .answer)) (now (image .exit)) (now (list .exit)) ≡ asking (piece (recordingOf kept) (now (bytes .entry))) (now (image .entry)) (now (list .entry))) × (r .«record» ≡ addedRecord kept (now (bytes .entry)) (now (image .entry)) (length (now (list .entry)) / 2)) ⌝ }
+{
+    let mut numbers = no_sectors();
+    let room = buffers::lesser(list.len() / 2, 1558);
+    let added = record_add::add(image, kept, bytes, &mut numbers[..room]);
+    let answer = added.answer;
+    put_counted(answer, &numbers, list);
+    added
+}
+
+// Closes a recording: how many sectors, and their numbers to the front of the list.
+pub fn close(image: &mut [u8], kept: Record, list: &mut [u8]) -> Answer
+    ensures { λ r. ⌜ changed (outcomeOf r) (now (image .exit)) (now (list .exit)) ≡ asking (close (recordingOf kept)) (now (image .entry)) (now (list .entry)) ⌝ }
+{
+    let mut numbers = [0u16; 4];
+    let room = buffers::lesser(list.len() / 2, 4);
+    let closed = record_close::close(image, kept, &mut numbers[..room]);
+    put_counted(closed, &numbers, list)
 }

@@ -11,12 +11,15 @@ use Rattle.refusals.specs.Answers.{done}
 use Rattle.disk.specs.Check.{checkDisk}
 use Rattle.steps.specs.Sectors.{cut}
 use Rattle.steps.proofs.Sectors.{cut-none}
-use Rattle.plans.specs.Plan.{Result, stopped, made}
+use Rattle.plans.specs.Plan.{Result, stopped, made, Changed, changedBy, change}
 use Rattle.plans.specs.Safe.{Safe}
-use Rattle.plans.proofs.Demand3.{crash as crash-single, crash-call as crash-call-single, run-room}
+use Rattle.plans.proofs.Demand3.{crash as crash-single, run-room}
 use Rattle.plans.proofs.Unread.{unread-stays}
+use Rattle.recordings.specs.Recording.{piecePlan, adding, closePlan, closing}
+use Rattle.recordings.proofs.Piece.{made-of, piece-unseen}
+use Rattle.recordings.proofs.Closing.{close-closes}
 use Rattle.handfuls.specs.Handful.{erasedAll, sectorsOfAll, runMany, erasedBy, eraseMany}
-use Rattle.handfuls.specs.Parts.{Ask, single, handful, ran, call, PartsJoin, EachSafe, EveryCut}
+use Rattle.handfuls.specs.Parts.{Ask, single, handful, piece, close, ran, returned, call, parts, partAt, PartsJoin, EachSafe, EveryCut}
 use Rattle.handfuls.specs.Left.{CutLeaves}
 use Rattle.handfuls.proofs.Left.{handful-fewer, handful-cut, cut-last}
 use Rattle.handfuls.proofs.Crash.{sector-safe}
@@ -28,15 +31,23 @@ crash (single c) old room new ss ok e = λ k h. crash-single c old room new ss o
 crash (handful ns abuf) old room new ss ok e =
     let g = run-grants old ns (length abuf) room new ss e in
     subst₂ (EachSafe (handful ns abuf) old) (g .1) (g .2) (λ k h. sector-safe old ok (erasedAll old ns) (handful-fewer old ok ns) k h)
+crash (piece r x) old room new ss ok e = λ k h. piece-unseen r x old room new ss e .safe
+crash (close r) old room new ss ok e = λ k h. close-closes r old room new ss e .safe
+
+-- one part alone
+one-joins : (a : Ask) (old new ss : List ℕ) → parts a ss ≡ 1 → ((k : ℕ) → (partAt a old new ss k .old ≡ old) × (partAt a old new ss k .new ≡ new)) → PartsJoin a old new ss
+one-joins a old new ss e p = record {
+  first = λ h. p 0 .0;
+  next = λ k h. absurd (omega (arith, e));
+  last = λ k h. p k .1;
+  empty = λ h. absurd (omega (arith, e));
+}
 
 -- the parts are the change
 pub parts-join : (a : Ask) (old : List ℕ) (room : ℕ) (new ss : List ℕ) → checkDisk old ≡ none → ran a old room ≡ made new ss → PartsJoin a old new ss
-parts-join (single c) old room new ss ok e = record {
-  first = λ h. refl;
-  next = λ k h. absurd (omega arith);
-  last = λ k h. refl;
-  empty = λ h. absurd (omega arith);
-}
+parts-join (single c) old room new ss ok e = one-joins (single c) old new ss refl (λ k. (refl, refl))
+parts-join (piece r x) old room new ss ok e = one-joins (piece r x) old new ss refl (λ k. (refl, refl))
+parts-join (close r) old room new ss ok e = one-joins (close r) old new ss refl (λ k. (refl, refl))
 parts-join (handful ns abuf) old room new ss ok e =
     let g = run-grants old ns (length abuf) room new ss e in
     let w : cut old new ss (length ss) ≡ new = subst₂ (λ (x s : List ℕ). cut old x s (length s) ≡ x) (g .1) (g .2) (cut-last old ok (erasedAll old ns) (handful-fewer old ok ns)) in
@@ -53,6 +64,12 @@ pub every-cut : (a : Ask) (old : List ℕ) (room : ℕ) (new ss : List ℕ) → 
 every-cut (single c) old room new ss ok e k h =
     let s = crash-single c old room new ss ok e in
     record { accepted = s .accepts k h; label = s .label k h; unread = λ j q n. unread-stays c old room new ss ok e .stays k h j q n }
+every-cut (piece r x) old room new ss ok e k h =
+    let u = piece-unseen r x old room new ss e in
+    record { accepted = u .safe .accepts k h; label = u .safe .label k h; unread = λ j q n. u .unread .stays k h j q n }
+every-cut (close r) old room new ss ok e k h =
+    let c = close-closes r old room new ss e in
+    record { accepted = c .safe .accepts k h; label = c .safe .label k h; unread = λ j q n. c .unread .stays k h j q n }
 every-cut (handful ns abuf) old room new ss ok e k h =
     let g = run-grants old ns (length abuf) room new ss e in
     let w = subst₂ (λ (x s : List ℕ). CutLeaves old x s k) (g .1) (g .2) (handful-cut old ok ns k) in
@@ -62,27 +79,38 @@ every-cut (handful ns abuf) old room new ss ok e k h =
 
 -- what is accepted has an accepted disk, and a list with room for the sectors named
 pub ran-room : (a : Ask) (d : List ℕ) (room : ℕ) (new ss : List ℕ) → ran a d room ≡ made new ss → (checkDisk d ≡ none) × (length ss ≤ room)
+unfolding adding closing
 ran-room (single c) d room new ss e = let r = run-room c d room new ss e in (r .accepted, r .fits)
 ran-room (handful ns abuf) d room new ss e =
     let g = run-grants d ns (length abuf) room new ss e in
     (g .0 .disk, subst (λ (l : List ℕ). length l ≤ room) (g .2) (g .0 .list))
+ran-room (piece r x) d room new ss e = let m = made-of d (piecePlan d r x) room new ss e in (m .accepted, m .fits)
+ran-room (close r) d room new ss e = let m = made-of d (closePlan d r) room new ss e in (m .accepted, m .fits)
 
-many-call : (ns abuf d buf : List ℕ) (n f : ℕ) → eraseMany d ns abuf buf .outcome ≡ done n f
-    → EachSafe (handful ns abuf) d (eraseMany d ns abuf buf .image) (take n (eraseMany d ns abuf buf .list))
-unfolding eraseMany part
-many-call ns abuf d buf n f e = by (runMany ns d (length abuf) (length buf)) refl e
+-- outcome, image and list are those of what it is run with
+call-is : (a : Ask) (d buf : List ℕ) → call a d buf ≡ changedBy (ran a d (length buf)) d buf
+unfolding change eraseMany
+call-is (single c) d buf = refl
+call-is (piece r x) d buf = refl
+call-is (close r) d buf = refl
+call-is (handful ns abuf) d buf = by (runMany ns d (length abuf) (length buf))
   where
-    by : (x : Result) → runMany ns d (length abuf) (length buf) ≡ x → erasedBy x d ns abuf buf .outcome ≡ done n f
-        → EachSafe (handful ns abuf) d (erasedBy x d ns abuf buf .image) (take n (erasedBy x d ns abuf buf .list))
-    by (stopped r) q w = let z : _≡_ {A = ℕ} 0 1 = cc in absurd (omega arith)
-    by (made new ss) q w =
-        let m : length ss ≡ n = cc in
-        let r = ran-room (handful ns abuf) d (length buf) new ss q in
-        let t : take n (put buf 0 ss) ≡ ss = ap (λ (k : ℕ). take k (put buf 0 ss)) (sym m) ∙ part-put buf 0 ss (omega (arith, r .1)) in
-        subst (EachSafe (handful ns abuf) d new) (sym t) (crash (handful ns abuf) d (length buf) new ss (r .0) q)
+    by : (x : Result) → returned (erasedBy x d ns abuf buf) ≡ changedBy x d buf
+    by (stopped r) = refl
+    by (made new ss) = refl
 
 -- whatever is asked, whatever disk and list: where the call answers how many, those first numbers of the list at return are its
 -- sectors, and the image at return is the new disk
 pub crash-call : (a : Ask) (d buf : List ℕ) (n f : ℕ) → call a d buf .outcome ≡ done n f → EachSafe a d (call a d buf .image) (take n (call a d buf .list))
-crash-call (single c) d buf n f e = λ k h. crash-call-single c d buf n f e
-crash-call (handful ns abuf) d buf n f e = many-call ns abuf d buf n f e
+unfolding part
+crash-call a d buf n f e =
+    subst (λ (x : Changed). EachSafe a d (x .image) (take n (x .list))) (sym (call-is a d buf))
+    (by (ran a d (length buf)) refl (sym (ap (λ (x : Changed). x .outcome) (call-is a d buf)) ∙ e))
+  where
+    by : (x : Result) → ran a d (length buf) ≡ x → changedBy x d buf .outcome ≡ done n f → EachSafe a d (changedBy x d buf .image) (take n (changedBy x d buf .list))
+    by (stopped r) q w = let z : _≡_ {A = ℕ} 0 1 = cc in absurd (omega arith)
+    by (made new ss) q w =
+        let m : length ss ≡ n = cc in
+        let r = ran-room a d (length buf) new ss q in
+        let t : take n (put buf 0 ss) ≡ ss = ap (λ (k : ℕ). take k (put buf 0 ss)) (sym m) ∙ part-put buf 0 ss (omega (arith, r .1)) in
+        subst (EachSafe a d new) (sym t) (crash a d (length buf) new ss (r .0) q)

@@ -25,9 +25,10 @@ use Rattle.steps.specs.Sectors.{listed, cut}
 use Rattle.plans.specs.Plan.{Result, stopped, made, checked}
 use Rattle.plans.proofs.Spelling.{spelt-erase}
 use Rattle.plans.proofs.Released.{cut-released}
+use Rattle.recordings.proofs.Closing.{close-released, piece-released}
 use Rattle.handfuls.specs.Handful.{nameAt, howMany, alone, answer, orSame, after, answerAt, answersTo, erasedAll, gone, sectorsWith, sectorsOfAll, notTens, manyReply, runMany, erased, erasedBy, eraseMany}
 use Rattle.handfuls.specs.Ticked.{ticked, tickedAnswer}
-use Rattle.handfuls.specs.Parts.{Ask, single, handful, ran}
+use Rattle.handfuls.specs.Parts.{Ask, single, handful, piece, close, ran}
 use Rattle.handfuls.specs.Left.{CutLeaves}
 use Rattle.handfuls.proofs.Wiped.{without}
 use Rattle.handfuls.proofs.Listed.{sectors-none}
@@ -62,6 +63,8 @@ ask-released (single c) d ok room new ss e k h = cut-released d ok room new ss c
 ask-released (handful ns abuf) d ok room new ss e k h =
     let g = run-grants d ns (length abuf) room new ss e in
     subst₂ (λ (x s : List ℕ). checkRelease (cut d x s k) ≡ none) (g .1) (g .2) (handful-released d ok ns k)
+ask-released (piece r x) d ok room new ss e k h = piece-released r x d room new ss ok e k h
+ask-released (close r) d ok room new ss e k h = close-released r d room new ss ok e k h
 
 -- ---- no names
 

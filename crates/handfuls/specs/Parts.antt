@@ -16,22 +16,28 @@ use Rattle.directory.specs.Directory.{labelOf, seen}
 use Rattle.disk.specs.Check.{checkDisk}
 use Rattle.steps.specs.Sectors.{cut}
 use Rattle.plans.specs.Change.{Change}
-use Rattle.plans.specs.Plan.{Result, run, Changed, changed, change, finds}
+use Rattle.plans.specs.Plan.{Result, run, Changed, changed, changedBy, change, finds}
+use Rattle.plans.specs.Accepted.{FirstEmpty}
 use Rattle.plans.specs.Safe.{Safe}
 use Rattle.plans.specs.Unread.{Writes}
+use Rattle.recordings.specs.Recording.{Recording, adding, closing}
 use Rattle.handfuls.specs.Handful.{gone, runMany, Erased, eraseMany}
 
 -- ---- what can be asked of a disk
 
--- one change; or a handful of erases: the names, and the buffer lent for the answers
+-- one change; a handful of erases: the names, and the buffer lent for the answers; a piece of a recording; or its close
 pub data Ask : Type 0 where
   single : Change → Ask
   handful : List ℕ → List ℕ → Ask
+  piece : Recording → List ℕ → Ask
+  close : Recording → Ask
 
 -- a refusal, or the new disk and its sectors, with a list of so many numbers
 abbrev pub ran : Ask → List ℕ → ℕ → Result
 ran (single c) d room = run c d room
 ran (handful ns abuf) d room = runMany ns d (length abuf) room
+ran (piece r x) d room = adding r x d room
+ran (close r) d room = closing r d room
 
 -- outcome, image and list at return
 abbrev pub returned : Erased → Changed
@@ -40,6 +46,8 @@ returned e = changed (e .outcome) (e .image) (e .list)
 abbrev pub call : Ask → List ℕ → List ℕ → Changed
 call (single c) d buf = change c d buf
 call (handful ns abuf) d buf = returned (eraseMany d ns abuf buf)
+call (piece r x) d buf = changedBy (adding r x d (length buf)) d buf
+call (close r) d buf = changedBy (closing r d (length buf)) d buf
 
 -- ---- its parts
 
@@ -63,18 +71,22 @@ sectorPart old new ss k = record {
   finds = findsIn old new (getD ss k 0);
 }
 
--- every other change is one part
-abbrev pub wholePart : Change → List ℕ → List ℕ → List ℕ → Part
-wholePart c old new ss = record { old = old; new = new; sectors = ss; finds = finds c }
+-- every other change is one part, and so are a piece and a close, which find no file
+abbrev pub wholePart : (File → Bool) → List ℕ → List ℕ → List ℕ → Part
+wholePart finds old new ss = record { old = old; new = new; sectors = ss; finds = finds }
 
 -- how many parts there are, with these sectors named
 abbrev pub parts : Ask → List ℕ → ℕ
 parts (single c) ss = 1
 parts (handful ns abuf) ss = length ss
+parts (piece r x) ss = 1
+parts (close r) ss = 1
 
 abbrev pub partAt : Ask → List ℕ → List ℕ → List ℕ → ℕ → Part
-partAt (single c) old new ss k = wholePart c old new ss
+partAt (single c) old new ss k = wholePart (finds c) old new ss
 partAt (handful ns abuf) old new ss k = sectorPart old new ss k
+partAt (piece r x) old new ss k = wholePart (λ f. false) old new ss
+partAt (close r) old new ss k = wholePart (λ f. false) old new ss
 
 -- they are the change: the first begins with the old disk, each with what the one before it left, and the last leaves the new one
 pub record PartsJoin (a : Ask) (old new ss : List ℕ) : Type 0 where
@@ -91,13 +103,15 @@ EachSafe a old new ss =
 
 -- ---- the whole of it, cut anywhere
 
--- slot j is the one that a save writes
+-- slot j is the one that a save or a close writes
 abbrev pub WritesSlot : Ask → List ℕ → ℕ → Type 0
 WritesSlot (single c) d j = Writes c d j
 WritesSlot (handful ns abuf) d j = ⊥
+WritesSlot (piece r x) d j = ⊥
+WritesSlot (close r) d j = FirstEmpty d j
 
 -- whichever number k of all its sectors is written: the disk is accepted, n and the kept bytes of slot 1 stay, and the slots that
--- were unread stay so but for the one that a save writes
+-- were unread stay so but for the one that a save or a close writes
 pub record EveryCut (a : Ask) (old new ss : List ℕ) (k : ℕ) : Type 0 where
   pub accepted : checkDisk (cut old new ss k) ≡ none
   pub label : labelOf (cut old new ss k) ≡ labelOf old

@@ -9,7 +9,7 @@ use native.Mathlib.Nat.{eq-or-lt-of-le, le-of-suc-le-suc, not-suc-le-zero, add-z
 use native.Mathlib.Omega.{arith}
 use borrow.Author.Tests.{eqb-true, eq-eqb, ne-eqb, not-true}
 use lib.Dec.{eqb}
-use lib.ListN.{length, getD, take}
+use lib.ListN.{length, getD, take, drop}
 use lib.Seq.{length-take-le}
 use Rattle.buffers.specs.Bytes.{count, any}
 use Rattle.buffers.proofs.Counts.{count-add, count-cong, count-less, any-none, none-any, some-any}
@@ -59,6 +59,11 @@ module _ (p : ℕ → Bool) where
   run-take l zero bs r = tt
   run-take l (suc n) [] r = tt
   run-take l (suc n) (b ∷ bs) r = (r .0, run-take (suc b) n bs (r .1))
+
+  pub run-drop : (s l : ℕ) (bs : List ℕ) → Run p l bs → Run p l (drop s bs)
+  run-drop zero l bs r = r
+  run-drop (suc s) l [] r = tt
+  run-drop (suc s) l (b ∷ bs) r = run-lower l (suc b) (drop s bs) (omega (arith, r .0 .low)) (run-drop s (suc b) bs (r .1))
 
   pub run-listed : (l : ℕ) (bs : List ℕ) → Run p l bs → (c : ℕ) → listed c bs ≡ true → From p l c
   run-listed l [] r c e = absurd (false≢true e)

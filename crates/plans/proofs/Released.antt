@@ -1,8 +1,8 @@
 -- A change leaves no waste sector behind a file where there was none: what the release check accepts before it, it accepts after it,
 -- whichever number of the change's sectors is written.
 use Prim.Native.Nat.{ℕ, _%_, _≤_, _<_}
-use mathlib.Core.Path.{_≡_, sym, ap, _∙_, subst, subst₂}
-use mathlib.Core.Bool.{true, true≢false}
+use mathlib.Core.Path.{_≡_, refl, sym, ap, _∙_, subst, subst₂}
+use mathlib.Core.Bool.{Bool, true, true≢false}
 use mathlib.Core.List.{List}
 use mathlib.Core.Logic.{inl, inr, ⊎-elim}
 use mathlib.Core.Option.{Option, none, some, Option·some-injective}
@@ -24,7 +24,9 @@ use Rattle.steps.specs.Sectors.{cut}
 use Rattle.plans.specs.Change.{Wish, Change, save, erase, rename, mark, gather, marked}
 use Rattle.plans.specs.Gathering.{upFrom, placed}
 use Rattle.plans.specs.Plan.{upd, entryOf, made, run, finds}
-use Rattle.plans.specs.Accepted.{Erases, Renames}
+use Rattle.plans.specs.Saving.{newSlot}
+use Rattle.plans.specs.Accepted.{Erases, Renames, many}
+use Rattle.plans.specs.Safe.{Safe}
 use Rattle.plans.specs.After.{marking, Outside}
 use Rattle.plans.proofs.Frame.{disk-sound, upd-same, upd-other, entry-alive, entry-is, holds-long}
 use Rattle.plans.proofs.Kept.{sound-long, usable-is}
@@ -34,7 +36,7 @@ use Rattle.plans.proofs.Sure.{sure}
 use Rattle.plans.proofs.Moved.{gathered, before, after, kind-now}
 use Rattle.plans.proofs.Effect.{Touched, erasing, erased, marked-so, renamed, gathers}
 use Rattle.plans.proofs.Demand3.{crash, change-accepted}
-use Rattle.plans.proofs.ReadBack.{Stored, stored}
+use Rattle.plans.proofs.ReadBack.{stored}
 use Rattle.plans.proofs.After.{first-byte, kind-bits}
 
 -- ---- one slot
@@ -71,21 +73,32 @@ touched-lean d n o y Also new ss w t k =
     subst (λ (f : File). LeanFile (f .bytes)) (sym (entry-is now (t .file .sectors) f e))
     (k (entry-alive now (t .file .sectors) f e) (w (t .slot) (t .file) (t .found .below) (t .found .here)))))
 
--- the slot of a save: "the least n with 510 × n ≥ 9 + length"
-saved-lean : (d : List ℕ) (w : Wish) (new ss : List ℕ) → Lean (look d) → Stored d w new ss → Lean (look new)
-saved-lean d w new ss h k =
-    subst Lean (sym (k .seen))
-    (lean-upd (look d) (k .slot) (some saved) h
-    (λ f e. subst (λ (f : File). LeanFile (f .bytes)) (Option·some-injective saved f e) new-lean))
+-- a new file, in the slot that a save writes: "the least n with 510 × n ≥ 9 + length"
+pub entered-lean : (d new : List ℕ) (i : ℕ) (w : Wish) (bs : List ℕ) (g : File) → Lean (look d) → length bs ≡ many w
+    → g .bytes ≡ newSlot (look d .label) i w bs → look new ≡ upd (look d) i (some g) → Lean (look new)
+entered-lean d new i w bs g h long is seen =
+    subst Lean (sym seen)
+    (lean-upd (look d) i (some g) h
+    (λ f e. subst (λ (f : File). LeanFile (f .bytes)) (Option·some-injective g f e) (subst LeanFile (sym is) new-lean)))
   where
-    saved : File
-    saved = newFile (look d .label) (k .slot) w (k .bits)
-
-    new-lean : LeanFile (saved .bytes)
+    new-lean : LeanFile (newSlot (look d .label) i w bs)
     new-lean c m e =
-        let n = count-is (look d .label) (k .slot) w (k .bits) in
-        let b = length-is (look d .label) (k .slot) w (k .bits) in
-        omega (arith, n, k .ready .long, sectors-few (length (w .body)) m (omega (arith, b)))
+        let n = count-is (look d .label) i w bs in
+        let b = length-is (look d .label) i w bs in
+        omega (arith, n, long, sectors-few (length (w .body)) m (omega (arith, b)))
+
+-- ---- every cut
+
+-- before the last sector nothing is seen to change, and what is seen after it is lean
+pub released-of : (d : List ℕ) → checkRelease d ≡ none → (new ss : List ℕ) (finds : File → Bool) → Safe finds d new ss
+    → ((k : ℕ) → k < length ss → look (cut d new ss k) ≡ look d) → Lean (look new) → (k : ℕ) → k ≤ length ss → checkRelease (cut d new ss k) ≡ none
+released-of d ok new ss finds s unseen after k h =
+    release-exactly (cut d new ss k) .1 (
+      s .accepts k h,
+      ⊎-elim (λ (q : k ≡ length ss). subst (λ (x : List ℕ). Lean (look x)) (sym (ap (cut d new ss) q ∙ s .whole)) after)
+          (λ (q : k < length ss). subst Lean (sym (unseen k q)) (release-exactly d .0 ok .1))
+          (eq-or-lt-of-le h),
+    )
 
 -- ---- every change
 
@@ -97,7 +110,9 @@ module _ (d : List ℕ) (ok : checkRelease d ≡ none) (room : ℕ) (new ss : Li
   lean = release-exactly d .0 ok .1
 
   change-lean : (c : Change) → run c d room ≡ made new ss → Lean (look new)
-  change-lean (save w) e = saved-lean d w new ss lean (stored d first room w new ss e)
+  change-lean (save w) e =
+      let k = stored d first room w new ss e in
+      entered-lean d new (k .slot) w (k .bits) (newFile (look d .label) (k .slot) w (k .bits)) lean (k .ready .long) refl (k .seen)
   change-lean (erase n) e =
       let t = erased d first room new ss n e in
       let z = holds-long d (t .slot) (t .file) (t .found .here) (sound-long d (disk-sound d first)) in
@@ -148,8 +163,4 @@ module _ (d : List ℕ) (ok : checkRelease d ≡ none) (room : ℕ) (new ss : Li
 
   -- and every cut of it
   pub cut-released : (c : Change) → run c d room ≡ made new ss → (k : ℕ) → k ≤ length ss → checkRelease (cut d new ss k) ≡ none
-  cut-released c e k h =
-      let s = crash c d room new ss first e in
-      ⊎-elim (λ (q : k ≡ length ss). ap (λ (m : ℕ). checkRelease (cut d new ss m)) q ∙ ap checkRelease (s .whole) ∙ change-released c e)
-      (λ (q : k < length ss). release-exactly (cut d new ss k) .1 (s .accepts k h, subst Lean (sym (cut-look c e k q)) lean))
-      (eq-or-lt-of-le h)
+  cut-released c e = released-of d ok new ss (finds c) (crash c d room new ss first e) (cut-look c e) (change-lean c e)

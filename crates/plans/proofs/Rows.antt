@@ -76,7 +76,7 @@ module _ (l : Look) where
   none-free e =
       none-any (slotCount (extra l)) is-free (λ k h. ap (held true (λ s. false)) (no-slot (extra l) (slotsOf l) e k h .1))
 
-  no-free : held true (λ i. false) (lowestSlot (extra l) (slotsOf l)) ≡ not (someFree l)
+  pub no-free : held true (λ i. false) (lowestSlot (extra l) (slotsOf l)) ≡ not (someFree l)
   no-free = by (lowestSlot (extra l) (slotsOf l)) refl
     where
       by : (o : Option ℕ) → lowestSlot (extra l) (slotsOf l) ≡ o → held true (λ i. false) o ≡ not (someFree l)

@@ -12,12 +12,14 @@ use Rattle.chains.specs.File.{File}
 use Rattle.directory.specs.Directory.{directory}
 use Rattle.disk.specs.Look.{look}
 use Rattle.disk.specs.Check.{checkDisk}
-use Rattle.plans.specs.Change.{Wish, Change, save, erase, rename, mark, gather}
+use Rattle.plans.specs.Change.{Wish, Change, save, erase, rename, mark, gather, usable}
 use Rattle.plans.specs.Gathering.{upFrom}
-use Rattle.plans.specs.Plan.{finds, made, run}
+use Rattle.plans.specs.Saving.{newSlot}
+use Rattle.plans.specs.Plan.{upd, finds, made, run}
 use Rattle.plans.specs.Accepted.{Erases, Renames}
 use Rattle.plans.specs.After.{SameAnswers, Other, Unasked, marking}
 use Rattle.plans.proofs.Kept.{usable-is}
+use Rattle.plans.proofs.Free.{FreeSlot}
 use Rattle.plans.proofs.NewFile.{newFile, name-is}
 use Rattle.plans.proofs.Demand3.{change-accepted}
 use Rattle.plans.proofs.Moved.{gathered}
@@ -27,34 +29,51 @@ use Rattle.plans.proofs.Others.{Unnamed, others, unusable-same, other-s
 use Rattle.plans.proofs.Gathered.{after-gather}
 use Rattle.plans.proofs.Finds.{finds-erase, finds-rename, finds-mark, finds-gather}
 
-module _ (d : List ℕ) (ok : checkDisk d ≡ none) (room : ℕ) (new ss : List ℕ) where
-  save-others : (w : Wish) → run (save w) d room ≡ made new ss → (m : List ℕ) → (Same (padded m) (padded (w .name)) → ⊥) → SameAnswers new m d m
-  save-others w e m u =
-      let k = stored d ok room w new ss e in
-      let f : File = newFile (look d .label) (k .slot) w (k .bits) in
-      others d new (k .slot) (some f) (k .seen) ok (change-accepted (save w) d room new ss ok e) m
-      (λ g q p. Option·some-ne-none g (sym q ∙ k .lowest .empty))
+-- a name that cannot be asked for
+unaskable-stay : (d new : List ℕ) → checkDisk d ≡ none → checkDisk new ≡ none → (m : List ℕ) → askable m ≡ false → SameAnswers new m d m
+unfolding checkDisk
+unaskable-stay d new ok now m u =
+    let a = unusable-same (look new) (look d) now ok m u in
+    record { readings = a .0; starts = a .1 }
+
+-- ---- a new file in a free slot
+
+module _ (d new : List ℕ) (ok : checkDisk d ≡ none) (now : checkDisk new ≡ none) (i : ℕ) (at : FreeSlot (look d) i) (w : Wish) (fit : usable (w .name) ≡ true)
+    (bs : List ℕ) (f : File) (is : f .bytes ≡ newSlot (look d .label) i w bs) (seen : look new ≡ upd (look d) i (some f)) where
+  entered-others : (m : List ℕ) → (Same (padded m) (padded (w .name)) → ⊥) → SameAnswers new m d m
+  entered-others m u =
+      others d new i (some f) seen ok now m (λ g q p. Option·some-ne-none g (sym q ∙ at .empty))
       (λ g q p.
       u (same-via (nameOf (g .bytes)) (padded m) (padded (w .name)) p
       (same-eq (nameOf (g .bytes)) (padded (w .name))
-      (ap (λ (f : File). nameOf (f .bytes)) (sym (Option·some-injective f g q))
-      ∙ name-is (look d .label) (k .slot) w (k .bits) (usable-is (w .name) (k .ready .name) .1)))))
+      (ap (λ (f : File). nameOf (f .bytes)) (sym (Option·some-injective f g q)) ∙ ap nameOf is ∙ name-is (look d .label) i w bs (usable-is (w .name) fit .1)))))
 
+  -- for every name but its own, the whole answer of read and start is the old one
+  pub entered-stays : (m : List ℕ) → Unasked (save w) m → SameAnswers new m d m
+  entered-stays m u = by (askable m) refl
+    where
+      by : (t : Bool) → askable m ≡ t → SameAnswers new m d m
+      by true q = entered-others m (u q)
+      by false q = unaskable-stay d new ok now m q
+
+  -- and so is every listing entry
+  pub entered-entries : (j : ℕ) (g : File) → look d .files j ≡ some g → directory new j ≡ directory d j
+  entered-entries j g h = other-slots d new i (some f) seen j (λ q. Option·some-ne-none g (sym h ∙ ap (look d .files) q ∙ at .empty))
+
+-- ---- every change
+
+module _ (d : List ℕ) (ok : checkDisk d ≡ none) (room : ℕ) (new ss : List ℕ) where
   unfound : (j : ℕ) (f : File) (n : List ℕ) → look d .files j ≡ some f → (Same (nameOf (f .bytes)) (padded n) → ⊥) → Unnamed n (look d .files j)
   unfound j f n h u g q p = u (same-of (ap (λ (f : File). nameOf (f .bytes)) (Option·some-injective f g (sym h ∙ q))) (padded n) p)
 
   others-stay : (c : Change) → run c d room ≡ made new ss → (m : List ℕ) → Other c m → SameAnswers new m d m
-  others-stay (save w) e m u = save-others w e m u
+  others-stay (save w) e m u =
+      let k = stored d ok room w new ss e in
+      entered-others d new ok (change-accepted (save w) d room new ss ok e) (k .slot) (k .lowest) w (k .ready .name) (k .bits) (newFile (look d .label) (k .slot) w (k .bits)) refl (k .seen) m u
   others-stay (erase n) e m u = erase-others d ok room new ss n e m u
   others-stay (rename n to) e m u = rename-others d ok room new ss n to e m (u .0) (u .1)
   others-stay (mark k n) e m u = mark-others d ok room new ss k n e m u
   others-stay (gather n) e m u = after-gather d n room new ss e .answers m
-
-  unusable-stay : (c : Change) → run c d room ≡ made new ss → (m : List ℕ) → askable m ≡ false → SameAnswers new m d m
-  unfolding checkDisk
-  unusable-stay c e m u =
-      let a = unusable-same (look new) (look d) (change-accepted c d room new ss ok e) ok m u in
-      record { readings = a .0; starts = a .1 }
 
   -- for every name but those the change names, the whole answer of read and start is the old one
   pub stays : (c : Change) → run c d room ≡ made new ss → (m : List ℕ) → Unasked c m → SameAnswers new m d m
@@ -62,14 +81,13 @@ module _ (d : List ℕ) (ok : checkDisk d ≡ none) (room : ℕ) (new ss : List 
     where
       by : (t : Bool) → askable m ≡ t → SameAnswers new m d m
       by true q = others-stay c e m (u q)
-      by false q = unusable-stay c e m q
+      by false q = unaskable-stay d new ok (change-accepted c d room new ss ok e) m q
 
   -- and so is every other listing entry: the slot of each live file that the change does not find
   pub entries-stay : (c : Change) → run c d room ≡ made new ss → (j : ℕ) (f : File) → look d .files j ≡ some f → finds c f ≡ false → directory new j ≡ directory d j
   entries-stay (save w) e j f h n =
       let k = stored d ok room w new ss e in
-      other-slots d new (k .slot) (some (newFile (look d .label) (k .slot) w (k .bits))) (k .seen) j
-      (λ q. Option·some-ne-none f (sym h ∙ ap (look d .files) q ∙ k .lowest .empty))
+      entered-entries d new ok (change-accepted (save w) d room new ss ok e) (k .slot) (k .lowest) w (k .ready .name) (k .bits) (newFile (look d .label) (k .slot) w (k .bits)) refl (k .seen) j f h
   entries-stay (erase n) e j f h x =
       touched-slots d n 0 erasing (Erases d) new ss (erased d ok room new ss n e) j (unfound j f n h (λ p. false≢true (sym x ∙ finds-erase n f .1 p)))
   entries-stay (rename n to) e j f h x =

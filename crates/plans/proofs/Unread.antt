@@ -31,7 +31,7 @@ use Rattle.steps.proofs.Sectors.{listed-append, listed-before, cut-old}
 use Rattle.plans.specs.Change.{Wish, Change, save, erase, rename, mark, gather}
 use Rattle.plans.specs.Gathering.{upFrom}
 use Rattle.plans.specs.Saving.{freeBit}
-use Rattle.plans.specs.Plan.{oldName, together, dirSectors, made, run, finds}
+use Rattle.plans.specs.Plan.{oldName, together, dirSectors, upd, made, run, finds}
 use Rattle.plans.specs.Safe.{Safe}
 use Rattle.plans.specs.Accepted.{FirstEmpty}
 use Rattle.plans.specs.After.{marking}
@@ -39,7 +39,7 @@ use Rattle.plans.specs.Gathered.{runSectors}
 use Rattle.plans.specs.Unread.{Writes, Unread, endBehind}
 use Rattle.plans.proofs.Frame.{disk-sound, upd-same, upd-other, holds, slot-half, slot-else}
 use Rattle.plans.proofs.Kept.{sound-long, usable-is}
-use Rattle.plans.proofs.Free.{Run, run-at, free-data}
+use Rattle.plans.proofs.Free.{Run, run-at, free-data, FreeSlot}
 use Rattle.plans.proofs.Runs.{up-long, free-rises}
 use Rattle.plans.proofs.Ended.{free-there, reach-free}
 use Rattle.plans.proofs.Saved.{save-slots, save-next}
@@ -48,7 +48,7 @@ use Rattle.plans.proofs.Moved.{gather-slots}
 use Rattle.plans.proofs.Sure.{not-directory}
 use Rattle.plans.proofs.Effect.{Touched, erasing, erased, marked-so, renamed, Shifted, Gathers, gathers}
 use Rattle.plans.proofs.Demand3.{crash, run-room}
-use Rattle.plans.proofs.ReadBack.{Stored, stored}
+use Rattle.plans.proofs.ReadBack.{stored}
 use Rattle.plans.proofs.Exactly.{first-empty, first-one}
 use Rattle.plans.proofs.Takes.{unlisted}
 
@@ -62,10 +62,10 @@ cut-last xs a k s h e = by (listed s (take k (xs ++ (a ∷ [])))) refl
 
 -- ---- what a change has to show of the end
 
-module _ (c : Change) (d new ss : List ℕ) (whole : cut d new ss (length ss) ≡ new)
+module _ (writes : ℕ → Type 0) (d new ss : List ℕ) (whole : cut d new ss (length ss) ≡ new)
     -- its sector is not written before the last
     (early : (k : ℕ) → k < length ss → slotsRead d < slotsIn d → listed (dirSector (slotsRead d)) (take k ss) ≡ false)
-    (label : (k : ℕ) → k ≤ length ss → labelOf (cut d new ss k) ≡ labelOf d) (after : (j : ℕ) → seen d j ≡ false → (Writes c d j → ⊥) → seen new j ≡ false) (written : (j : ℕ) → Writes c d j ⊎ (Writes c d j → ⊥)) where
+    (label : (k : ℕ) → k ≤ length ss → labelOf (cut d new ss k) ≡ labelOf d) (after : (j : ℕ) → seen d j ≡ false → (writes j → ⊥) → seen new j ≡ false) (written : (j : ℕ) → writes j ⊎ (writes j → ⊥)) where
   before : (k : ℕ) → k < length ss → (j : ℕ) → seen d j ≡ false → seen (cut d new ss k) j ≡ false
   before k h =
       unread-kept d (cut d new ss k) (tracks-agree d (cut d new ss k) (label k (omega arith)))
@@ -73,11 +73,11 @@ module _ (c : Change) (d new ss : List ℕ) (whole : cut d new ss (length ss) �
       sym (slot-half (cut d new ss k) (slotsRead d)) ∙ ap (part (256 * (slotsRead d % 2)) 256) (cut-old d new ss k (dirSector (slotsRead d)) (early k h l))
       ∙ slot-half d (slotsRead d))
 
-  stays : (k : ℕ) → k ≤ length ss → (j : ℕ) → seen d j ≡ false → (Writes c d j → ⊥) → seen (cut d new ss k) j ≡ false
+  stays : (k : ℕ) → k ≤ length ss → (j : ℕ) → seen d j ≡ false → (writes j → ⊥) → seen (cut d new ss k) j ≡ false
   stays k h j q n =
       ⊎-elim (λ m. ap (λ (x : List ℕ). seen x j) (ap (cut d new ss) m ∙ whole) ∙ after j q n) (λ m. before k m j q) (eq-or-lt-of-le h)
 
-  unread-of : Unread c d new ss
+  pub unread-of : Unread writes d new ss
   unread-of = record {
     before = before;
     stays = stays;
@@ -87,10 +87,10 @@ module _ (c : Change) (d new ss : List ℕ) (whole : cut d new ss (length ss) �
 
 -- ---- a change of a slot that is read
 
-touch-unread : (c : Change) (d n : List ℕ) (o : ℕ) (y : File → List ℕ) (Also : ℕ → File → Type 0) (new ss : List ℕ) → checkDisk d ≡ none
-    → cut d new ss (length ss) ≡ new → ((k : ℕ) → k ≤ length ss → labelOf (cut d new ss k) ≡ labelOf d) → (t : Touched d n o y Also new ss) → o + length (y (t .file)) ≤ 256 → ((j : ℕ) → Writes c d j → ⊥) → Unread c d new ss
-touch-unread c d n o y Also new ss ok whole label t k w =
-    unread-of c d new ss whole
+touch-unread : (writes : ℕ → Type 0) (d n : List ℕ) (o : ℕ) (y : File → List ℕ) (Also : ℕ → File → Type 0) (new ss : List ℕ) → checkDisk d ≡ none
+    → cut d new ss (length ss) ≡ new → ((k : ℕ) → k ≤ length ss → labelOf (cut d new ss k) ≡ labelOf d) → (t : Touched d n o y Also new ss) → o + length (y (t .file)) ≤ 256 → ((j : ℕ) → writes j → ⊥) → Unread writes d new ss
+touch-unread writes d n o y Also new ss ok whole label t k w =
+    unread-of writes d new ss whole
     (λ m h l. subst (λ (xs : List ℕ). m < length xs → listed (dirSector (slotsRead d)) (take m xs) ≡ false) (sym (t .sectors)) (λ q. cut-last [] (dirSector (t .slot)) m (dirSector (slotsRead d)) q refl) h)
     label
     (λ j q z.
@@ -102,7 +102,7 @@ touch-unread c d n o y Also new ss ok whole label t k w =
     (λ j. inr (w j))
 
 -- the sectors of free bits are none of the directory's
-data-unlisted : (d bs : List ℕ) → Run (freeBit (extra (look d)) (slotsOf (look d))) 0 bs → (i : ℕ) → i < slotsIn d → listed (dirSector i) (map bitNumber bs) ≡ false
+pub data-unlisted : (d bs : List ℕ) → Run (freeBit (extra (look d)) (slotsOf (look d))) 0 bs → (i : ℕ) → i < slotsIn d → listed (dirSector i) (map bitNumber bs) ≡ false
 data-unlisted d bs r i l =
     unlisted (dirSector i) bs
     (λ j h q.
@@ -112,9 +112,9 @@ data-unlisted d bs r i l =
 
 -- ---- a gather
 
-gather-unread : (d n : List ℕ) (room : ℕ) (new ss : List ℕ) → checkDisk d ≡ none → run (gather n) d room ≡ made new ss → Unread (gather n) d new ss
+gather-unread : (d n : List ℕ) (room : ℕ) (new ss : List ℕ) → checkDisk d ≡ none → run (gather n) d room ≡ made new ss → Unread (Writes (gather n) d) d new ss
 gather-unread d n room new ss ok e =
-    unread-of (gather n) d new ss (s .whole) (λ k h l. ⊎-elim (λ a. none-early k h (a .2)) (λ a. early a k h l) (t .done)) (s .label)
+    unread-of (Writes (gather n) d) d new ss (s .whole) (λ k h l. ⊎-elim (λ a. none-early k h (a .2)) (λ a. early a k h l) (t .done)) (s .label)
     (λ j q z. ⊎-elim (λ a. ap (λ (x : List ℕ). seen x j) (a .1) ∙ q) (λ a. after a j q) (t .done)) (λ j. inr (λ x. x))
   where
     s : Safe (finds (gather n)) d new ss
@@ -144,12 +144,24 @@ gather-unread d n room new ss ok e =
         ∙ gather-slots d (disk-sound d ok) (t .slot) (t .file) (t .found .here) (not-directory (t .file .bytes) (t .no-directory))
         (upFrom (countOf (t .file .bytes)) (a .bit)) (rises a) (up-long (countOf (t .file .bytes)) (a .bit)) (slotsRead d) l (omega arith))
 
--- ---- a save
+-- ---- a change that writes a new file into the lowest free slot
 
-module _ (d : List ℕ) (ok : checkDisk d ≡ none) (room : ℕ) (w : Wish) (new ss : List ℕ) (e : run (save w) d room ≡ made new ss) where
-  k : Stored d w new ss
-  k = stored d ok room w new ss e
+-- what it leaves: the slot, the one behind the directory's end, and nothing else of the directory; the file is seen there
+pub record Enters (d new ss : List ℕ) : Type 0 where
+  pub slot : ℕ
+  pub lowest : FreeSlot (look d) slot
+  pub file : File
+  pub seen : look new ≡ upd (look d) slot (some file)
+  pub next : nameless d slot ≡ true → suc slot < slotsIn d → nameless new (suc slot) ≡ true
+  pub others : (j : ℕ) → j < slotsIn d → (j ≡ slot → ⊥) → (oldName d slot ≡ true → j ≡ suc slot → ⊥) → slotBytes new j ≡ slotBytes d j
+  -- the data sectors come first
+  pub first : List ℕ
+  pub sectors : ss ≡ first ++ dirSectors (oldName d slot) slot
+  pub apart : (j : ℕ) → j < slotsIn d → listed (dirSector j) first ≡ false
+  pub whole : cut d new ss (length ss) ≡ new
+  pub label : (k : ℕ) → k ≤ length ss → labelOf (cut d new ss k) ≡ labelOf d
 
+module _ (d new ss : List ℕ) (k : Enters d new ss) where
   abbrev i : ℕ
   i = k .slot
 
@@ -174,12 +186,7 @@ module _ (d : List ℕ) (ok : checkDisk d ≡ none) (room : ℕ) (w : Wish) (new
       (below-or-not (slotsRead d) i)
 
   same-tracks : tracksOf new ≡ tracksOf d
-  same-tracks =
-      let s = crash (save w) d room new ss ok e in
-      tracks-agree d new (sym (ap labelOf (s .whole)) ∙ s .label (length ss) (omega arith))
-
-  next-now : nameless d i ≡ true → suc i < slotsIn d → nameless new (suc i) ≡ true
-  next-now n l = ap (λ (x : List ℕ). nameless x (suc i)) (k .disk) ∙ save-next d (disk-sound d ok) i (k .lowest) w (k .bits) (k .ready) n l
+  same-tracks = tracks-agree d new (sym (ap labelOf (k .whole)) ∙ k .label (length ss) (omega arith))
 
   after : (j : ℕ) → seen d j ≡ false → (FirstEmpty d j → ⊥) → seen new j ≡ false
   after j q z = by (nameless d i) refl
@@ -190,23 +197,20 @@ module _ (d : List ℕ) (ok : checkDisk d ≡ none) (room : ℕ) (w : Wish) (new
           let b = unseen-read d j q in
           let away : (j ≡ i → ⊥) = λ m. z (subst (FirstEmpty d) (sym m) taken) in
           let c : suc i ≤ j = omega arith in
-          ⊎-elim (λ (l : suc i < slotsIn d). unseen-later new (suc i) j c (unseen-nameless new (suc i) (next-now n l)))
+          ⊎-elim (λ (l : suc i < slotsIn d). unseen-later new (suc i) j c (unseen-nameless new (suc i) (k .next n l)))
           (λ (l : slotsIn d ≤ suc i). unseen-past new j (omega (arith, ap slotCount same-tracks)))
           (below-or-not (suc i) (slotsIn d))
       by false n =
           let r = read-seen d i (seen-next d i (free-there d i (k .lowest)) before-read n) in
           unread-kept d new same-tracks
-          (λ l.
-          ap (λ (x : List ℕ). slotBytes x (slotsRead d)) (k .disk)
-          ∙ save-slots d (disk-sound d ok) i (k .lowest) w (k .bits) (k .ready) (slotsRead d) l (omega arith)
-          (λ o. absurd (true≢false (sym (reach-free d i (k .lowest) .end o .0) ∙ n)))) j q
+          (λ l. k .others (slotsRead d) l (omega arith) (λ o. absurd (true≢false (sym (reach-free d i (k .lowest) .end o .0) ∙ n)))) j q
 
   early : (m : ℕ) → m < length ss → slotsRead d < slotsIn d → listed (dirSector (slotsRead d)) (take m ss) ≡ false
   unfolding dirSectors together
   early m h l = subst (λ (xs : List ℕ). m < length xs → listed (dirSector (slotsRead d)) (take m xs) ≡ false) (sym (k .sectors)) (by (oldName d i && not (together i)) refl) h
     where
       xs : List ℕ
-      xs = map bitNumber (k .bits)
+      xs = k .first
 
       apart : (oldName d i && not (together i)) ≡ true → listed (dirSector (slotsRead d)) (xs ++ (dirSector (suc i) ∷ [])) ≡ false
       apart q =
@@ -214,31 +218,30 @@ module _ (d : List ℕ) (ok : checkDisk d ≡ none) (room : ℕ) (w : Wish) (new
           let z = is-end (reach-free d i (k .lowest) .end (b .0) .0) in
           let n = eqb-false (dirSector (suc i)) (dirSector i) (not-true (eqb (dirSector (suc i)) (dirSector i)) (b .1)) in
           listed-append (dirSector (slotsRead d)) xs (dirSector (suc i) ∷ [])
-          ∙ rw (data-unlisted d (k .bits) (k .ready .run) (slotsRead d) l, ne-eqb (dirSector (slotsRead d)) (dirSector (suc i)) (λ e. n (sym e ∙ ap dirSector z)))
+          ∙ rw (k .apart (slotsRead d) l, ne-eqb (dirSector (slotsRead d)) (dirSector (suc i)) (λ e. n (sym e ∙ ap dirSector z)))
 
       by : (t : Bool) → (oldName d i && not (together i)) ≡ t → m < length (xs ++ cond t (dirSector (suc i) ∷ dirSector i ∷ []) (dirSector i ∷ []))
           → listed (dirSector (slotsRead d)) (take m (xs ++ cond t (dirSector (suc i) ∷ dirSector i ∷ []) (dirSector i ∷ []))) ≡ false
       by true q =
           subst (λ (ys : List ℕ). m < length ys → listed (dirSector (slotsRead d)) (take m ys) ≡ false) (append-assoc xs (dirSector (suc i) ∷ []) (dirSector i ∷ []))
           (λ h. cut-last (xs ++ (dirSector (suc i) ∷ [])) (dirSector i) m (dirSector (slotsRead d)) h (apart q))
-      by false q = λ h. cut-last xs (dirSector i) m (dirSector (slotsRead d)) h (data-unlisted d (k .bits) (k .ready .run) (slotsRead d) l)
+      by false q = λ h. cut-last xs (dirSector i) m (dirSector (slotsRead d)) h (k .apart (slotsRead d) l)
 
-  save-unread : Unread (save w) d new ss
-  save-unread = let s = crash (save w) d room new ss ok e in unread-of (save w) d new ss (s .whole) early (s .label) after written
+  pub enters-unread : Unread (FirstEmpty d) d new ss
+  enters-unread = unread-of (FirstEmpty d) d new ss (k .whole) early (k .label) after written
 
   -- ---- where the directory then ends
 
-  -- every slot up to the saved one is read
+  -- every slot up to that of the new file is read
   named-now : (j : ℕ) → j ≤ i → nameless new j ≡ false
   named-now j h =
       ⊎-elim
       (λ (l : j < i).
       let f = k .lowest .before j l in
-      read-at j (f .0) (ap (λ v. v .files j) (k .seen) ∙ upd-other (look d) i (some (newFile (look d .label) i w (k .bits))) j (omega arith) ∙ f .1))
+      read-at j (f .0) (ap (λ v. v .files j) (k .seen) ∙ upd-other (look d) i (some (k .file)) j (omega arith) ∙ f .1))
       (λ (l : i ≤ j).
       let z : j ≡ i = omega arith in
-      ap (nameless new) z
-      ∙ read-at i (newFile (look d .label) i w (k .bits)) (ap (λ v. v .files i) (k .seen) ∙ upd-same (look d) i (some (newFile (look d .label) i w (k .bits)))))
+      ap (nameless new) z ∙ read-at i (k .file) (ap (λ v. v .files i) (k .seen) ∙ upd-same (look d) i (some (k .file))))
       (below-or-not j i)
     where
       read-at : (j : ℕ) (f : File) → look new .files j ≡ some f → nameless new j ≡ false
@@ -251,31 +254,50 @@ module _ (d : List ℕ) (ok : checkDisk d ≡ none) (room : ℕ) (w : Wish) (new
       by : (t : Bool) → ltb (suc i) (slotsIn d) ≡ t → endOf new ≡ cond t (some (suc i)) none
       by true h =
           let l = ltb-true (suc i) (slotsIn d) h in
-          some-end new (suc i) (record { below = rw same-tracks l; here = next-now (end-some d i q .here) l; before = λ j m. named-now j (omega arith) })
+          some-end new (suc i) (record { below = rw same-tracks l; here = k .next (end-some d i q .here) l; before = λ j m. named-now j (omega arith) })
       by false h = let l = ltb-false (suc i) (slotsIn d) h in none-end new (λ j m. named-now j (omega (arith, ap slotCount same-tracks)))
 
-  end-at : (j : ℕ) → FirstEmpty d j → endOf d ≡ some j → endOf new ≡ endBehind d j
-  end-at j f q =
+  pub enters-ends : (j : ℕ) → FirstEmpty d j → endOf d ≡ some j → endOf new ≡ endBehind d j
+  enters-ends j f q =
       let z : j ≡ i = first-one d j i f taken in
       end-now (q ∙ ap some z) ∙ ap (endBehind d) (sym z)
 
+-- a save
+save-enters : (d : List ℕ) → checkDisk d ≡ none → (room : ℕ) (w : Wish) (new ss : List ℕ) → run (save w) d room ≡ made new ss → Enters d new ss
+save-enters d ok room w new ss e =
+    let k = stored d ok room w new ss e in
+    let s = crash (save w) d room new ss ok e in
+    record {
+      slot = k .slot;
+      lowest = k .lowest;
+      file = newFile (look d .label) (k .slot) w (k .bits);
+      seen = k .seen;
+      next = λ n l. ap (λ (x : List ℕ). nameless x (suc (k .slot))) (k .disk) ∙ save-next d (disk-sound d ok) (k .slot) (k .lowest) w (k .bits) (k .ready) n l;
+      others = λ j l n o. ap (λ (x : List ℕ). slotBytes x j) (k .disk) ∙ save-slots d (disk-sound d ok) (k .slot) (k .lowest) w (k .bits) (k .ready) j l n o;
+      first = map bitNumber (k .bits);
+      sectors = k .sectors;
+      apart = data-unlisted d (k .bits) (k .ready .run);
+      whole = s .whole;
+      label = s .label;
+    }
+
 -- ---- every change
 
-pub unread-stays : (c : Change) (d : List ℕ) (room : ℕ) (new ss : List ℕ) → checkDisk d ≡ none → run c d room ≡ made new ss → Unread c d new ss
-unread-stays (save w) d room new ss ok e = save-unread d ok room w new ss e
+pub unread-stays : (c : Change) (d : List ℕ) (room : ℕ) (new ss : List ℕ) → checkDisk d ≡ none → run c d room ≡ made new ss → Unread (Writes c d) d new ss
+unread-stays (save w) d room new ss ok e = enters-unread d new ss (save-enters d ok room w new ss e)
 unread-stays (erase n) d room new ss ok e =
     let t = erased d ok room new ss n e in
-    touch-unread (erase n) d n 0 erasing _ new ss ok (crash (erase n) d room new ss ok e .whole) (crash (erase n) d room new ss ok e .label) t (omega arith) (λ j x. x)
+    touch-unread (Writes (erase n) d) d n 0 erasing _ new ss ok (crash (erase n) d room new ss ok e .whole) (crash (erase n) d room new ss ok e .label) t (omega arith) (λ j x. x)
 unread-stays (rename n to) d room new ss ok e =
     let t = renamed d ok room new ss n to e in
     let l = usable-is to (t .also .name) .1 in
-    touch-unread (rename n to) d n 1 (λ f. padded to) _ new ss ok (crash (rename n to) d room new ss ok e .whole) (crash (rename n to) d room new ss ok e .label) t (omega arith) (λ j x. x)
+    touch-unread (Writes (rename n to) d) d n 1 (λ f. padded to) _ new ss ok (crash (rename n to) d room new ss ok e .whole) (crash (rename n to) d room new ss ok e .label) t (omega arith) (λ j x. x)
 unread-stays (mark m n) d room new ss ok e =
     let t = marked-so d ok room new ss m n e in
-    touch-unread (mark m n) d n 0 (marking m) _ new ss ok (crash (mark m n) d room new ss ok e .whole) (crash (mark m n) d room new ss ok e .label) t (omega arith) (λ j x. x)
+    touch-unread (Writes (mark m n) d) d n 0 (marking m) _ new ss ok (crash (mark m n) d room new ss ok e .whole) (crash (mark m n) d room new ss ok e .label) t (omega arith) (λ j x. x)
 unread-stays (gather n) d room new ss ok e = gather-unread d n room new ss ok e
 
 -- after a save that took the end the directory ends right behind the new file, or has no end where that is the last slot
 pub ends-behind : (d : List ℕ) (room : ℕ) (w : Wish) (new ss : List ℕ) → run (save w) d room ≡ made new ss → (i : ℕ) → FirstEmpty d i → endOf d ≡ some i
     → endOf new ≡ endBehind d i
-ends-behind d room w new ss e = end-at d (run-room (save w) d room new ss e .accepted) room w new ss e
+ends-behind d room w new ss e = enters-ends d new ss (save-enters d (run-room (save w) d room new ss e .accepted) room w new ss e)

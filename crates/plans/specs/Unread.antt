@@ -21,14 +21,14 @@ Writes (mark k n) d j = ⊥
 Writes (gather n) d j = ⊥
 
 -- "that slot .. and all later ones are unread .. none of them is a live slot, also in demand 3": whichever number of the sectors
--- named is written
-pub record Unread (c : Change) (old new ss : List ℕ) : Type 0 where
+-- named is written; writes: the slot that the change writes, if it is one that writes a new slot
+pub record Unread (writes : ℕ → Type 0) (old new ss : List ℕ) : Type 0 where
   -- if any is missing, every slot that was unread is
   pub before : (k : ℕ) → k < length ss → (j : ℕ) → seen old j ≡ false → seen (cut old new ss k) j ≡ false
-  -- always every one but the slot that a save writes
-  pub stays : (k : ℕ) → k ≤ length ss → (j : ℕ) → seen old j ≡ false → (Writes c old j → ⊥) → seen (cut old new ss k) j ≡ false
+  -- always every one but the slot that is written
+  pub stays : (k : ℕ) → k ≤ length ss → (j : ℕ) → seen old j ≡ false → (writes j → ⊥) → seen (cut old new ss k) j ≡ false
   -- so that a live slot that was unread is that one
-  pub live : (k : ℕ) → k ≤ length ss → (j : ℕ) (f : File) → seen old j ≡ false → look (cut old new ss k) .files j ≡ some f → Writes c old j
+  pub live : (k : ℕ) → k ≤ length ss → (j : ℕ) (f : File) → seen old j ≡ false → look (cut old new ss k) .files j ≡ some f → writes j
 
 -- the directory ends right behind slot i; it has no end where that is the last slot
 unfoldable pub endBehind : List ℕ → ℕ → Option ℕ

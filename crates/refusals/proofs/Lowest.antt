@@ -11,7 +11,7 @@ use Rattle.buffers.proofs.Tests.{and-both}
 use Rattle.refusals.specs.Order.{Refusal, Row, FirstRow, SlotRow, FirstOf, bare, risesFrom, rises, Applies, Lowest}
 use Rattle.refusals.specs.Answers.{numberOf}
 use Rattle.refusals.specs.declared.Reason.{Reason}
-use Rattle.refusals.specs.declared.Reason.the-variants.{NotAnImage, KindUnknown, NameMissing, CountOutOfRange, BitsDiffer, FirstNotOwn, LengthTooGreat, SectorShared, NameTwice, ChainBroken, HeaderDiffers, NameNotUsable, WrongKind, StartOutOfRange, NameNotFound, NameTaken, FileProtected, NoFreeSlot, TooFewSectors, BufferTooShort, NoSuchSector, WasteSectors, NamesNotTens, TracksOutOfRange, BodyTooLong, CodeNotOwn, NoSuchDirectory, InsideItself, DirectoryNotEmpty, ReportFull, NoFreeRun}
+use Rattle.refusals.specs.declared.Reason.the-variants.{NotAnImage, KindUnknown, NameMissing, CountOutOfRange, BitsDiffer, FirstNotOwn, LengthTooGreat, SectorShared, NameTwice, ChainBroken, HeaderDiffers, NameNotUsable, WrongKind, StartOutOfRange, NameNotFound, NameTaken, FileProtected, NoFreeSlot, TooFewSectors, BufferTooShort, NoSuchSector, WasteSectors, NamesNotTens, TracksOutOfRange, BodyTooLong, CodeNotOwn, NoSuchDirectory, InsideItself, DirectoryNotEmpty, RecordingMoved, ReportFull, NoFreeRun}
 
 -- ---- the lowest that applies is the first that holds
 
@@ -94,6 +94,7 @@ positive CodeNotOwn = λ e. omega arith
 positive NoSuchDirectory = λ e. omega arith
 positive InsideItself = λ e. omega arith
 positive DirectoryNotEmpty = λ e. omega arith
+positive RecordingMoved = λ e. omega arith
 positive ReportFull = λ e. omega arith
 positive NoFreeRun = λ e. omega arith
 

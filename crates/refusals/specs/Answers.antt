@@ -5,7 +5,7 @@ use mathlib.Core.Option.{none, some}
 use Rattle.buffers.specs.Bytes.{put}
 use Rattle.refusals.specs.Order.{Refusal, Reply, refuse}
 use Rattle.refusals.specs.declared.Reason.{Reason}
-use Rattle.refusals.specs.declared.Reason.the-variants.{NotAnImage, KindUnknown, NameMissing, CountOutOfRange, BitsDiffer, FirstNotOwn, LengthTooGreat, SectorShared, NameTwice, ChainBroken, HeaderDiffers, NameNotUsable, WrongKind, StartOutOfRange, NameNotFound, NameTaken, FileProtected, NoFreeSlot, TooFewSectors, BufferTooShort, NoSuchSector, WasteSectors, NamesNotTens, TracksOutOfRange, BodyTooLong, CodeNotOwn, NoSuchDirectory, InsideItself, DirectoryNotEmpty, ReportFull, NoFreeRun}
+use Rattle.refusals.specs.declared.Reason.the-variants.{NotAnImage, KindUnknown, NameMissing, CountOutOfRange, BitsDiffer, FirstNotOwn, LengthTooGreat, SectorShared, NameTwice, ChainBroken, HeaderDiffers, NameNotUsable, WrongKind, StartOutOfRange, NameNotFound, NameTaken, FileProtected, NoFreeSlot, TooFewSectors, BufferTooShort, NoSuchSector, WasteSectors, NamesNotTens, TracksOutOfRange, BodyTooLong, CodeNotOwn, NoSuchDirectory, InsideItself, DirectoryNotEmpty, RecordingMoved, ReportFull, NoFreeRun}
 use Rattle.refusals.specs.declared.Refused.{Refused}
 use Rattle.refusals.specs.declared.Verdict.{Verdict}
 use Rattle.refusals.specs.declared.Verdict.the-variants.{Sound, Unsound}
@@ -72,6 +72,8 @@ numberOf NoSuchDirectory = 27
 numberOf InsideItself = 28
 -- a directory whose code, not 0, is another live slot's byte 254 (erase)
 numberOf DirectoryNotEmpty = 29
+-- the used map or n is not what it was at opening, or a sector that a recording's pieces listed lacks its link (a piece, a close)
+numberOf RecordingMoved = 30
 -- a disk or join that would pass 65,535 disks
 numberOf ReportFull = 31
 -- no run of consecutive free sectors as long as the file that is to be gathered

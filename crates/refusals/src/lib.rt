@@ -36,6 +36,7 @@ pub enum Reason {
     NoSuchDirectory,
     InsideItself,
     DirectoryNotEmpty,
+    RecordingMoved,
     ReportFull,
     NoFreeRun,
 }
@@ -92,6 +93,7 @@ pub fn number_of(reason: Reason) -> usize
         Reason::NoSuchDirectory => 27,
         Reason::InsideItself => 28,
         Reason::DirectoryNotEmpty => 29,
+        Reason::RecordingMoved => 30,
         Reason::ReportFull => 31,
         Reason::NoFreeRun => 32,
     }

@@ -12,6 +12,12 @@ use Rattle.geometry.specs.Disk.{bitNumber, placeOrEnd}
 use Rattle.geometry.proofs.Laws.{place-or-end, number-small}
 use Rattle.saves.specs.Write.{Bits}
 
+-- the number of a map bit's sector, by its place
+pub place-number : (b : ℕ) → b < 1560 → (p : ℕ) → p ≡ placeOrEnd b → (p / 512 ≡ bitNumber b) × (p / 512 < 1600)
+place-number b h p e =
+    let q : p ≡ bitNumber b * 512 = e ∙ place-or-end b h in
+    (omega arith, omega (arith, number-small b h))
+
 -- the first j of a list's n map bits are turned
 pub record Numbered (l : List ℕ) (n : ℕ) (l′ : List ℕ) (j : ℕ) : Type 0 where
   pub far : j ≤ n
@@ -36,9 +42,7 @@ module _ (l : List ℕ) (n : ℕ) (l′ : List ℕ) (j : ℕ) (w : Numbered l n 
     numbered-small = rw (numbered-here, ← getD-take n l j 0 h) (b .small j (omega (arith, length-take-le n l (w .room))))
 
     pub numbered-place : (p : ℕ) → p ≡ placeOrEnd (getD l′ j 0) → (p / 512 ≡ bitNumber (getD l′ j 0)) × (p / 512 < 1600)
-    numbered-place p e =
-        let q : p ≡ bitNumber (getD l′ j 0) * 512 = e ∙ place-or-end (getD l′ j 0) numbered-small in
-        (omega arith, omega (arith, number-small (getD l′ j 0) numbered-small))
+    numbered-place p e = place-number (getD l′ j 0) numbered-small p e
 
     pub numbered-more : (p : ℕ) → p ≡ placeOrEnd (getD l′ j 0) → Numbered l n (set l′ j (p / 512)) (j + 1)
     numbered-more p e = record {

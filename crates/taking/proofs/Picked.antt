@@ -29,12 +29,12 @@ pass-none (suc k) n i p h =
     rw (s, z, t)
     (pass-none k n (suc i) p (λ j l. let u : suc i + j ≡ i + suc j = omega arith in rw u (h (suc j) (omega arith))))
 
-pass-no : (b k : ℕ) (p : ℕ → Bool) → b + k ≤ 1560 → ((j : ℕ) → j < k → p (b + j) ≡ false) → passing (1560 - b) b p ≡ passing (1560 - (b + k)) (b + k) p
+pub pass-no : (b k : ℕ) (p : ℕ → Bool) → b + k ≤ 1560 → ((j : ℕ) → j < k → p (b + j) ≡ false) → passing (1560 - b) b p ≡ passing (1560 - (b + k)) (b + k) p
 pass-no b k p h z =
     let s : 1560 - b ≡ k + (1560 - (b + k)) = omega arith in
     rw s (pass-none k (1560 - (b + k)) b p z)
 
-pass-yes : (b : ℕ) (p : ℕ → Bool) → b < 1560 → p b ≡ true → passing (1560 - b) b p ≡ b ∷ passing (1560 - (b + 1)) (b + 1) p
+pub pass-yes : (b : ℕ) (p : ℕ → Bool) → b < 1560 → p b ≡ true → passing (1560 - b) b p ≡ b ∷ passing (1560 - (b + 1)) (b + 1) p
 unfolding passing
 pass-yes b p h e =
     let s : 1560 - b ≡ suc (1560 - (b + 1)) = omega arith in
@@ -63,7 +63,7 @@ full-is m b e =
     let c = and-eq-true-iff (eqb (b % 8) 0) (eqb (getD m (b / 8) 0) 255) .0 e in
     record { first = eqb-true (b % 8) 0 (c .0); byte = eqb-true (getD m (b / 8) 0) 255 (c .1) }
 
-full-set : (m : List ℕ) (b : ℕ) → Full m b → (j : ℕ) → j < 8 → unset m (b + j) ≡ false
+pub full-set : (m : List ℕ) (b : ℕ) → Full m b → (j : ℕ) → j < 8 → unset m (b + j) ≡ false
 full-set m b w j h =
     let e : b + j ≡ 8 * (b / 8) + j = omega (arith, w .first) in
     ap not (ap (has m) e ∙ has-byte m (b / 8) j h ∙ ap (λ (x : ℕ). bit x j) (w .byte) ∙ all-set j h)

@@ -1,5 +1,5 @@
 -- The slot that a save takes, and the bits of a map.
-use Prim.Native.Nat.{ℕ, _/_, _%_}
+use Prim.Native.Nat.{ℕ, _-_, _/_, _%_}
 use mathlib.Core.Bool.{Bool, not, _&&_}
 use mathlib.Core.List.{List}
 use mathlib.Core.Option.{Option, none, some}
@@ -47,3 +47,7 @@ lowest m n = take n (passing 1560 0 (unset m))
 -- byte b / 8 has all bits set, and bit b is its first
 unfoldable pub full : List ℕ → ℕ → Bool
 full m b = eqb (b % 8) 0 && eqb (getD m (b / 8) 0) 255
+
+-- the lowest clear bit of a map that is not below b; 1,560 where there is none
+unfoldable pub nextClear : List ℕ → ℕ → ℕ
+nextClear m b = getD (passing (1560 - b) b (unset m)) 0 1560

@@ -6,7 +6,7 @@ ghost use Rattle.directory.specs.Directory.{tracksOf, directory};
 ghost use Rattle.directory.specs.Find.{foundAt};
 ghost use Rattle.files.specs.Calls.{soughtOf};
 ghost use Rattle.plans.specs.Saving.{lowestSlot};
-ghost use Rattle.taking.specs.Taken.{askedReply, slotFor, shutMap, lowest, full};
+ghost use Rattle.taking.specs.Taken.{askedReply, slotFor, shutMap, lowest, full, nextClear};
 use directory::Found;
 use files::Lookup;
 use refusals::Reason;
@@ -123,4 +123,23 @@ pub fn pick_bits(map: &[u8], n: usize, list: &mut [u16])
             }
         }
     }
+}
+
+// The lowest clear bit of a map that is not below `from`; 1,560 where there is none.
+pub fn next_clear(map: &[u8], from: usize) -> usize
+    ensures { λ r. ⌜ r ≡ nextClear (now (map .entry)) from ⌝ }
+{
+    let mut b = from;
+    while b < 1560 {
+        let c = b;
+        if is_full(map, c) {
+            b += 8;
+        } else {
+            b += 1;
+            if !maps::has_bit(map, c) {
+                return c;
+            }
+        }
+    }
+    1560
 }

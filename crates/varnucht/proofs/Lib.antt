@@ -4,3 +4,4 @@ pub mod Reading
 pub mod Reports
 pub mod Trees
 pub mod Handfuls
+pub mod Records

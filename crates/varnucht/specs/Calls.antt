@@ -13,6 +13,7 @@ use Rattle.disk.specs.Check.{checkDisk, checkRelease}
 use Rattle.plans.specs.Change.{Change}
 use Rattle.bytelists.specs.Lists.{changing}
 use Rattle.bytelists.specs.Handfuls.{erasing}
+use Rattle.record_calls.specs.Calls.{pieceBytes, closeBytes}
 
 -- the check as an outcome
 abbrev pub checking : List ℕ → Outcome
@@ -34,3 +35,12 @@ Returns c d b r d′ b′ = (r ≡ packed (changing c d b .outcome)) × (d′ �
 abbrev pub ReturnsMany : List ℕ → List ℕ → List ℕ → List ℕ → ℕ → List ℕ → List ℕ → List ℕ → Type 0
 ReturnsMany d ns abuf b r d′ a′ b′ =
     (r ≡ packed (erasing d ns abuf b .outcome)) × (d′ ≡ erasing d ns abuf b .image) × (a′ ≡ erasing d ns abuf b .answers) × (b′ ≡ erasing d ns abuf b .list)
+
+-- answer, image, record and list at return are those of a piece
+abbrev pub ReturnsPiece : List ℕ → List ℕ → List ℕ → List ℕ → ℕ → List ℕ → List ℕ → List ℕ → Type 0
+ReturnsPiece x d b l r d′ b′ l′ =
+    (r ≡ packed (pieceBytes x d b l .outcome)) × (d′ ≡ pieceBytes x d b l .image) × (b′ ≡ pieceBytes x d b l .kept) × (l′ ≡ pieceBytes x d b l .list)
+
+-- answer, image and list at return are those of a close
+abbrev pub ReturnsClose : List ℕ → List ℕ → List ℕ → ℕ → List ℕ → List ℕ → Type 0
+ReturnsClose d b l r d′ l′ = (r ≡ packed (closeBytes d b l .outcome)) × (d′ ≡ closeBytes d b l .image) × (l′ ≡ closeBytes d b l .list)

@@ -1,6 +1,7 @@
 // The calls of the app's C layer: a byte slice is a pointer and then a length, and every answer is one number,
 // refusal + 256 × slot + 2^24 × value + 2^48 × free.
 ghost use mathlib.Core.Path.{_≡_};
+ghost use mathlib.Core.List.{[]};
 ghost use lib.ListN.{length};
 ghost use Rattle.packing.specs.Packed.{packed};
 ghost use Rattle.files.specs.Calls.{listing, reading, starting};
@@ -11,7 +12,8 @@ ghost use Rattle.changes.specs.Marks.{markOf};
 ghost use Rattle.saves.specs.Write.{wish};
 ghost use Rattle.bytelists.specs.Trees.{treeingBytes};
 ghost use Rattle.bytereports.specs.Bytes.{addingBytes, joiningBytes};
-ghost use Rattle.varnucht.specs.Calls.{checking, releasing, sectorPlace, Returns, ReturnsMany};
+ghost use Rattle.record_calls.specs.Calls.{openingBytes};
+ghost use Rattle.varnucht.specs.Calls.{checking, releasing, sectorPlace, Returns, ReturnsMany, ReturnsPiece, ReturnsClose};
 ghost use Rattle.varnucht.specs.Reading.{packedBegin, packedPiece};
 use changes::Marking;
 use geometry::Spot;
@@ -252,4 +254,54 @@ pub extern "C" fn varnucht_erase_many(
 {
     let emptied = bytelists::erase_many(image, names, answers, list);
     packing::pack(emptied)
+}
+
+// Opens a recording with a save's particulars: its record, of 2,048 bytes, comes to the front of `kept`.
+#[no_mangle]
+pub extern "C" fn varnucht_record_open(
+    image: &[u8],
+    kind: u32,
+    name: &[u8],
+    page: u32,
+    offset: u32,
+    exec: &[u8],
+    info: &[u8],
+    kept: &mut [u8],
+) -> u64
+    ensures { λ r. ⌜ (r ≡ packed (openingBytes (wish kind (now (name .entry)) page offset (now (exec .entry)) (now (info .entry)) []) (now (image .entry)) (now (kept .entry)) .outcome)) × (now (kept .exit) ≡ openingBytes (wish kind (now (name .entry)) page offset (now (exec .entry)) (now (info .entry)) []) (now (image .entry)) (now (kept .entry)) .buffer) ⌝ }
+{
+    let opened = record_calls::open(
+        image,
+        kind as usize,
+        name,
+        page as usize,
+        offset as usize,
+        exec,
+        info,
+        kept,
+    );
+    packing::pack(opened)
+}
+
+// Adds a piece to a recording: how many sectors, and their numbers to the front of `list`. The record grows by it.
+#[no_mangle]
+pub extern "C" fn varnucht_record_add(
+    image: &mut [u8],
+    piece: &[u8],
+    kept: &mut [u8],
+    list: &mut [u8],
+) -> u64
+    ensures { λ r. ⌜ ReturnsPiece (now (piece .entry)) (now (image .entry)) (now (kept .entry)) (now (list .entry)) r (now (image .exit)) (now (kept .exit)) (now (list .exit)) ⌝ }
+{
+    let wrote = record_calls::add(image, piece, kept, list);
+    packing::pack(wrote)
+}
+
+// Closes a recording: how many sectors, and their numbers to the front of `list`. The record stays as it is.
+#[no_mangle]
+pub extern "C" fn varnucht_record_close(image: &mut [u8], kept: &[u8], list: &mut [u8]) -> u64
+    ensures { λ r. ⌜ ReturnsClose (now (image .entry)) (now (kept .entry)) (now (list .entry)) r (now (image .exit)) (now (list .exit)) ⌝ }
+{
+    let closed = record_calls::close(image, kept, list);
+    packing::pack(closed)
 }

@@ -1,8 +1,8 @@
 //! What is measured: a call, a disk, and the refusal that the call must give there (0: accepted).
 
 use crate::disks::{self, Disk, ERASE_LIST_BYTES, LIST_BYTES, LONGEST};
-use crate::sides::{Side, reader, value};
-use paper::{REPORT_BYTES, Reader};
+use crate::sides::{Side, reader, refusal, value};
+use paper::{RECORD_BYTES, REPORT_BYTES, Reader};
 
 /// A call with what it is asked for.
 pub enum Work {
@@ -25,6 +25,8 @@ pub enum Work {
     EraseMany(Vec<u8>),
     /// Gathers the disk's last file, which moves or not.
     Gather(bool),
+    /// Records a new file with this body in pieces of so many bytes: opens, adds and closes.
+    Record(Vec<u8>, usize),
     /// Adds the disk to a report that has no disk yet.
     Report,
 }
@@ -73,6 +75,14 @@ pub fn all() -> Vec<Row> {
     rows.extend([&disks::half_scattered(), &disks::holes()].map(|disk| row(disk, Work::Gather(true), 0)));
     rows.extend([&eighty, &one].map(|disk| row(disk, Work::Gather(false), 0)));
     rows.push(row(&scattered, Work::Gather(false), 32));
+    let record = |length| Work::Record(disks::body(length), 4_096);
+    rows.push(row(&blank, record(LONGEST), 0));
+    // All that 79 files of two sectors leave.
+    rows.push(row(
+        &disks::less_one(&eighty, "80 x 900 less one"),
+        record(LONGEST - 510 * 158),
+        0,
+    ));
     rows.extend([&blank, &eighty, &eighty_alike, &seventy_eight, &one, &scattered].map(|disk| row(disk, Work::Report, 0)));
     rows
 }
@@ -139,6 +149,7 @@ impl Row {
             Work::Erase => "erase".into(),
             Work::EraseMany(names) => format!("erase many {}", names.len() / 10),
             Work::Gather(_) => "gather".into(),
+            Work::Record(_, piece) => format!("record {piece}"),
             Work::Report => "report add".into(),
         }
     }
@@ -148,7 +159,7 @@ impl Row {
         self.refusal == 0
             && matches!(
                 self.work,
-                Work::Save(_) | Work::Erase | Work::EraseMany(_) | Work::Gather(true)
+                Work::Save(_) | Work::Erase | Work::EraseMany(_) | Work::Gather(true) | Work::Record(..)
             )
     }
 
@@ -161,6 +172,7 @@ impl Row {
             Work::Tree => 2 * 778,
             Work::Save(_) | Work::Erase | Work::Gather(_) => LIST_BYTES,
             Work::EraseMany(names) => ERASE_LIST_BYTES + names.len() / 10,
+            Work::Record(..) => LIST_BYTES + RECORD_BYTES,
             Work::Report => REPORT_BYTES,
         }
     }
@@ -182,6 +194,7 @@ impl Row {
                 (side.erase_many)(image, names, answers, list)
             }
             Work::Gather(_) => (side.gather)(image, &self.disk.last, buffer),
+            Work::Record(body, piece) => record(side, image, body, *piece, buffer),
             Work::Report => {
                 // The numbers that count disks begin at 0 again, so that the report is never full.
                 buffer[..4 * 33].fill(0);
@@ -189,6 +202,22 @@ impl Row {
             }
         }
     }
+}
+
+/// Records a body, and lays the lists of all calls end to end. Answers how many sectors they name.
+fn record(side: &Side, image: &mut [u8], body: &[u8], piece: usize, buffer: &mut [u8]) -> u64 {
+    let (list, record) = buffer.split_at_mut(LIST_BYTES);
+    let opened = (side.record_open)(image, &disks::wish(Row::NEW, &[]), record);
+    assert_eq!(refusal(opened), 0, "it is opened");
+    let mut named = 0;
+    for piece in body.chunks(piece) {
+        let answer = (side.record_add)(image, piece, record, &mut list[2 * named..]);
+        assert_eq!(refusal(answer), 0, "a piece is added");
+        named += value(answer);
+    }
+    let closed = (side.record_close)(image, record, &mut list[2 * named..]);
+    assert_eq!(refusal(closed), 0, "it is closed");
+    ((named + value(closed)) as u64) << 24
 }
 
 /// Reads on from here until the body ends. Answers how many bytes came.

@@ -18,6 +18,9 @@ pub struct Side {
     pub erase: fn(&mut [u8], &[u8], &mut [u8]) -> u64,
     pub erase_many: fn(&mut [u8], &[u8], &mut [u8], &mut [u8]) -> u64,
     pub gather: fn(&mut [u8], &[u8], &mut [u8]) -> u64,
+    pub record_open: fn(&[u8], &Wish, &mut [u8]) -> u64,
+    pub record_add: fn(&mut [u8], &[u8], &mut [u8], &mut [u8]) -> u64,
+    pub record_close: fn(&mut [u8], &[u8], &mut [u8]) -> u64,
     pub report_add: fn(&[u8], &mut [u8]) -> u64,
     pub report_join: fn(&mut [u8], &[u8]) -> u64,
 }
@@ -32,10 +35,13 @@ pub fn ours() -> Side {
         open: |image, name| calls::open(image, name).number(),
         next: |image, at, out| calls::next(image, at.sector, at.offset, at.left, out).number(),
         tree: |image, name, slots| calls::tree(image, name, slots).number(),
-        save: our_save,
+        save: |image, wish, list| calls::save(image, &our(wish), list).number(),
         erase: |image, name, list| calls::erase(image, name, list).number(),
         erase_many: |image, names, answers, list| calls::erase_many(image, names, answers, list).number(),
         gather: |image, name, list| calls::gather(image, name, list).number(),
+        record_open: |image, wish, record| calls::record_open(image, &our(wish), record).number(),
+        record_add: |image, piece, record, list| calls::record_add(image, piece, record, list).number(),
+        record_close: |image, record, list| calls::record_close(image, record, list).number(),
         report_add: |image, report| calls::report_add(image, report).number(),
         report_join: |report, other| calls::report_join(report, other).number(),
     })
@@ -61,6 +67,9 @@ pub fn theirs() -> Side {
         erase: |image, name, list| word(paper::erase(image, name, list), |count| (count, 0)),
         erase_many: |image, names, answers, list| word(paper::erase_many(image, names, answers, list), |count| (count, 0)),
         gather: |image, name, list| word(paper::gather(image, name, list), |count| (count, 0)),
+        record_open: |image, wish, record| word(paper::record_open(image, wish, record), |()| (0, 0)),
+        record_add: |image, piece, record, list| word(paper::record_add(image, piece, record, list), |count| (count, 0)),
+        record_close: |image, record, list| word(paper::record_close(image, record, list), |count| (count, 0)),
         report_add: |image, report| word(paper::report_add(image, report), |disks| (disks, 0)),
         report_join: |report, other| word(paper::report_join(report, other), |disks| (disks, 0)),
     })
@@ -101,9 +110,9 @@ pub fn value(word: u64) -> usize {
     (word >> 24 & 0xff_ffff) as usize
 }
 
-/// A save of the library with the same wish.
-fn our_save(image: &mut [u8], wish: &Wish, list: &mut [u8]) -> u64 {
-    let wish = calls::Wish {
+/// The same wish, as the library takes it.
+fn our<'a>(wish: &Wish<'a>) -> calls::Wish<'a> {
+    calls::Wish {
         kind: wish.kind,
         name: wish.name,
         page: wish.page,
@@ -111,6 +120,5 @@ fn our_save(image: &mut [u8], wish: &Wish, list: &mut [u8]) -> u64 {
         execution: wish.exec,
         information: wish.info,
         body: wish.body,
-    };
-    calls::save(image, &wish, list).number()
+    }
 }

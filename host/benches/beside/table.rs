@@ -10,7 +10,7 @@ pub fn print_head(timer: Duration) {
     println!("both checks, list, read, open, pieces, report and refused calls: many calls between two looks at the clock.");
     println!("pieces: a whole body by next, so many bytes to a call, laid end to end; it was opened before, untimed.");
     println!(
-        "save, erase and gather that change a disk: every call timed alone, less {} ns, the cost of an empty timed",
+        "save, erase, gather and record that change a disk: every call timed alone, less {} ns, the cost of an empty timed",
         timer.as_nanos()
     );
     println!("region; the changed sectors are put back after each call, untimed.");
@@ -30,6 +30,9 @@ pub fn print_head(timer: Duration) {
         "in the last. gather: files of 795,591 and 900 bytes lie in a row; 'scattered', 'holes': the last file does not."
     );
     println!("erase many: so many names by one call, all that the disk has or its last alone.");
+    println!(
+        "record: a file of all free sectors, so many bytes to a piece; opened, added and closed, all of it timed at once."
+    );
     println!();
     println!(
         "{:<14} {:<22} {:<10} {:>10} {:>10} {:>10} {:>10} {:>7} {:>7} {:>6}",

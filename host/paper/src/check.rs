@@ -47,6 +47,11 @@ impl Survey {
         }
     }
 
+    /// The used map: the sectors of the live slots alone.
+    pub fn live_map(&self) -> Map {
+        self.used.without(&self.own)
+    }
+
     /// How many data sectors no live slot has.
     pub fn free(&self) -> usize {
         self.extent.data_sectors() - self.used_count

@@ -23,6 +23,11 @@ impl Extent {
         }
     }
 
+    /// The number of tracks beyond four.
+    pub fn extra(self) -> u8 {
+        self.extra
+    }
+
     /// How many slots there are: 80, else 78 + 20n.
     pub fn slots(self) -> u16 {
         match self.extra {

@@ -18,6 +18,8 @@
 //! - `changes`: the changes of one directory byte or name
 //! - `erase_many`: a handful of files erased at once
 //! - `gather`: a scattered file moved to consecutive sectors
+//! - `record`: the bytes that are kept of a recording
+//! - `recording`: save while recording
 //! - `report`: a shelf of disks in numbers
 //! - `refusal`: the numbers of refusal
 
@@ -32,6 +34,8 @@ mod map;
 mod name;
 mod names;
 mod pieces;
+mod record;
+mod recording;
 mod refusal;
 mod report;
 mod save;
@@ -44,6 +48,8 @@ pub use changes::{erase, hide, protect, release, rename, show};
 pub use erase_many::erase_many;
 pub use gather::gather;
 pub use pieces::{Reader, next, open};
+pub use record::RECORD_BYTES;
+pub use recording::{record_add, record_close, record_open};
 pub use refusal::Refused;
 pub use report::{REPORT_BYTES, report_add, report_join};
 pub use save::{Wish, save};

@@ -76,6 +76,15 @@ impl Map {
         }
     }
 
+    /// This map without the bits that the other has set.
+    pub fn without(&self, other: &Map) -> Map {
+        let mut rest = *self;
+        for (mine, theirs) in rest.words.iter_mut().zip(&other.words) {
+            *mine &= !theirs;
+        }
+        rest
+    }
+
     /// The lowest bit that is set.
     pub fn lowest(&self) -> Option<usize> {
         let (index, word) = self.words.iter().enumerate().find(|(_, word)| **word != 0)?;
@@ -141,5 +150,7 @@ mod tests {
         low.join(&high);
         assert_eq!(low, Map::from_bytes(&[255; MAP_BYTES]));
         assert!(low.meets(&high));
+        assert_eq!(low.without(&high).count(), 800);
+        assert_eq!(low.without(&low), Map::CLEAR);
     }
 }

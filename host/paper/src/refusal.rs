@@ -40,6 +40,7 @@ pub enum Reason {
     NoSuchDirectory = 27,
     InsideItself = 28,
     NotEmpty = 29,
+    RecordingMoved = 30,
     ReportFull = 31,
     NoRun = 32,
 }

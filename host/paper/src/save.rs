@@ -1,7 +1,7 @@
 //! Save: a new file in the lowest slot that holds none and the lowest free sectors.
 
 use crate::calls::start_address;
-use crate::check::survey;
+use crate::check::{Survey, survey};
 use crate::extent::Extent;
 use crate::geometry::{Address, Image, PAYLOAD_BYTES, SECTOR_BYTES, SLOT_BYTES, Sector, sector_mut, slot_place, whole_mut};
 use crate::map::Map;
@@ -21,42 +21,98 @@ pub struct Wish<'a> {
     pub body: &'a [u8],
 }
 
+impl<'a> Wish<'a> {
+    /// What is asked for beside the body's bytes.
+    fn particulars(&self) -> Particulars<'a> {
+        self.particulars_of(self.body.len())
+    }
+
+    /// The same for a body of another length.
+    pub fn particulars_of(&self, length: usize) -> Particulars<'a> {
+        Particulars {
+            kind: self.kind,
+            name: self.name,
+            page: self.page,
+            offset: self.offset,
+            exec: self.exec,
+            info: self.info,
+            length,
+        }
+    }
+}
+
+/// What the directory is to say of a new file, and how long its body is.
+pub struct Particulars<'a> {
+    pub kind: u32,
+    pub name: &'a [u8],
+    pub page: u32,
+    pub offset: u32,
+    pub exec: &'a [u8],
+    pub info: &'a [u8],
+    pub length: usize,
+}
+
 /// Saves a file and answers how many sectors changed. The list names them: the file's sectors along its chain, then those of
 /// the directory, the slot's last.
 pub fn save(image: &mut [u8], wish: &Wish, list: &mut [u8]) -> Result<usize, Refused> {
     let image = whole_mut(image)?;
     let survey = survey(image)?;
-    let name = fresh(wish.name).ok_or(Reason::NameNotUsable.alone())?;
-    if !is_carried(wish.kind) {
+    let file = wish.particulars();
+    let place = place_for(image, &survey, &file)?;
+    let list = list
+        .as_chunks_mut()
+        .0
+        .get_mut(..place.count + place.directory_sectors().count())
+        .ok_or(Reason::BufferTooShort.alone())?;
+    let (data, directory) = list.split_at_mut(place.count);
+    let map = write_body(image, wish, &survey.used, data);
+    enter(image, &place, &file, &map, directory);
+    Ok(list.len())
+}
+
+/// Where a new file goes.
+pub struct Place {
+    name: Name,
+    slot: u16,
+    /// The next slot, where the save has to clear its old name.
+    cleared: Option<u16>,
+    /// How many sectors it takes.
+    pub count: usize,
+}
+
+/// Where a new file goes on a disk that passes the check, or what a save of it is refused: 12, 13, 14, 16, 18, 19.
+pub fn place_for(image: &Image, survey: &Survey, file: &Particulars) -> Result<Place, Refused> {
+    let name = fresh(file.name).ok_or(Reason::NameNotUsable.alone())?;
+    if !is_carried(file.kind) {
         return Err(Reason::WrongKind.alone());
     }
-    if start_address(wish.page, wish.offset).is_none() {
+    if start_address(file.page, file.offset).is_none() {
         return Err(Reason::AddressOutOfRange.alone());
     }
     if let Some(taken) = find(image, survey.extent, &name) {
         return Err(Reason::NameTaken.at(taken.number));
     }
     let taken = free_slot(image, survey.extent).ok_or(Reason::NoFreeSlot.alone())?;
-    let (slot, old_name) = (taken.number, old_name_behind(image, survey.extent, &taken));
-    let count = sectors_for(wish.body.len());
+    let count = sectors_for(file.length);
     if survey.free() < count {
         return Err(Reason::DiskFull.alone());
     }
-    let list = list
-        .as_chunks_mut()
-        .0
-        .get_mut(..count + directory_sectors(slot, old_name).count())
-        .ok_or(Reason::BufferTooShort.alone())?;
-    let (data, directory) = list.split_at_mut(count);
-    let map = write_body(image, wish, &survey.used, data);
-    if let Some(next) = old_name {
-        image[slot_place(next)..][..2].fill(0);
+    Ok(Place {
+        name,
+        slot: taken.number,
+        cleared: old_name_behind(image, survey.extent, &taken),
+        count,
+    })
+}
+
+impl Place {
+    /// The directory's sectors in the order of writing: that of the next slot, where it is cleared, then that of the saved
+    /// slot; once if they are the same.
+    pub fn directory_sectors(&self) -> impl Iterator<Item = usize> + use<> {
+        let saved = slot_place(self.slot) / SECTOR_BYTES;
+        let before = self.cleared.map(|next| slot_place(next) / SECTOR_BYTES);
+        before.filter(|sector| *sector != saved).into_iter().chain([saved])
     }
-    write_slot(image, slot, wish, &name, &map, count);
-    for (entry, sector) in directory.iter_mut().zip(directory_sectors(slot, old_name)) {
-        *entry = number_bytes(sector);
-    }
-    Ok(list.len())
 }
 
 /// The next slot, where the one taken is the directory's end and the next has a first name byte that is not 0. Once the end
@@ -66,12 +122,15 @@ fn old_name_behind(image: &Image, extent: Extent, taken: &Slot) -> Option<u16> {
     (taken.ends_directory() && !next.ends_directory()).then_some(next.number)
 }
 
-/// The directory's sectors in the order of writing: that of the next slot, where it is cleared, then that of the saved slot;
-/// once if they are the same.
-fn directory_sectors(slot: u16, cleared: Option<u16>) -> impl Iterator<Item = usize> {
-    let saved = slot_place(slot) / SECTOR_BYTES;
-    let before = cleared.map(|next| slot_place(next) / SECTOR_BYTES);
-    before.filter(|sector| *sector != saved).into_iter().chain([saved])
+/// Enters a file whose sectors are written, those of this map, into the directory, and names the directory's sectors.
+pub fn enter(image: &mut Image, place: &Place, file: &Particulars, map: &Map, list: &mut [[u8; 2]]) {
+    if let Some(next) = place.cleared {
+        image[slot_place(next)..][..2].fill(0);
+    }
+    write_slot(image, place, file, map);
+    for (entry, sector) in list.iter_mut().zip(place.directory_sectors()) {
+        *entry = number_bytes(sector);
+    }
 }
 
 /// A sector number as the list has it.
@@ -81,7 +140,7 @@ pub fn number_bytes(number: usize) -> [u8; 2] {
 
 /// Writes header and body to the lowest sectors that are not used, one for each place in the list. Answers their map.
 fn write_body(image: &mut Image, wish: &Wish, used: &Map, list: &mut [[u8; 2]]) -> Map {
-    let header = header(wish);
+    let header = header(&wish.particulars());
     let mut lead = &header[..];
     let mut body = wish.body;
     let mut map = Map::CLEAR;
@@ -100,7 +159,7 @@ fn write_body(image: &mut Image, wish: &Wish, used: &Map, list: &mut [[u8; 2]]) 
 }
 
 /// Writes one sector: what leads, a part of the body, zeros up to the link, the link.
-fn fill(sector: &mut Sector, lead: &[u8], body: &[u8], next: Address) {
+pub fn fill(sector: &mut Sector, lead: &[u8], body: &[u8], next: Address) {
     let (front, rest) = sector.split_at_mut(lead.len());
     front.copy_from_slice(lead);
     let (middle, rest) = rest.split_at_mut(body.len());
@@ -111,53 +170,53 @@ fn fill(sector: &mut Sector, lead: &[u8], body: &[u8], next: Address) {
 }
 
 /// The nine bytes before the body. Page and offset were tested, so they fit.
-fn header(wish: &Wish) -> [u8; HEADER_BYTES] {
-    let [low, high] = remainder(wish);
-    let [offset_low, offset_high] = (wish.offset as u16).to_le_bytes();
+pub fn header(file: &Particulars) -> [u8; HEADER_BYTES] {
+    let [low, high] = remainder(file);
+    let [offset_low, offset_high] = (file.offset as u16).to_le_bytes();
     [
-        wish.kind as u8,
+        file.kind as u8,
         low,
         high,
         offset_low,
         offset_high,
         0,
         0,
-        pages(wish),
-        wish.page as u8,
+        pages(file),
+        file.page as u8,
     ]
 }
 
-fn pages(wish: &Wish) -> u8 {
-    (wish.body.len() / PAGE_BYTES) as u8
+fn pages(file: &Particulars) -> u8 {
+    (file.length / PAGE_BYTES) as u8
 }
 
-fn remainder(wish: &Wish) -> [u8; 2] {
-    ((wish.body.len() % PAGE_BYTES) as u16).to_le_bytes()
+fn remainder(file: &Particulars) -> [u8; 2] {
+    ((file.length % PAGE_BYTES) as u16).to_le_bytes()
 }
 
 /// Writes the whole slot. Bytes that have no meaning here are 0, and byte 245 says that there is no date. What slot 1 says of
 /// the whole disk stays.
-fn write_slot(image: &mut Image, number: u16, wish: &Wish, name: &Name, map: &Map, count: usize) {
+fn write_slot(image: &mut Image, place: &Place, file: &Particulars, map: &Map) {
     let mut bytes = [0; SLOT_BYTES];
     let mut put = |at: usize, part: &[u8]| bytes[at..][..part.len()].copy_from_slice(part);
     let first = map.lowest().map_or(Address::END, Address::of_bit);
-    put(0, &[wish.kind as u8]);
-    put(slot::NAME_AT, name);
-    put(slot::COUNT_AT, &(count as u16).to_be_bytes());
+    put(0, &[file.kind as u8]);
+    put(slot::NAME_AT, &place.name);
+    put(slot::COUNT_AT, &(place.count as u16).to_be_bytes());
     put(slot::FIRST_AT, &[first.track, first.sector]);
     put(slot::MAP_AT, &map.to_bytes());
-    put(slot::INFO_AT, at_most(wish.info, 11));
-    put(slot::PAGE_AT, &[wish.page as u8]);
-    put(slot::OFFSET_AT, &(wish.offset as u16).to_le_bytes());
-    put(slot::PAGES_AT, &[pages(wish)]);
-    put(slot::REMAINDER_AT, &remainder(wish));
-    put(slot::EXEC_AT, at_most(wish.exec, 3));
+    put(slot::INFO_AT, at_most(file.info, 11));
+    put(slot::PAGE_AT, &[file.page as u8]);
+    put(slot::OFFSET_AT, &(file.offset as u16).to_le_bytes());
+    put(slot::PAGES_AT, &[pages(file)]);
+    put(slot::REMAINDER_AT, &remainder(file));
+    put(slot::EXEC_AT, at_most(file.exec, 3));
     put(slot::DATE_AT, &[255]);
-    let place = slot_place(number);
-    for kept in KEPT.into_iter().flatten().filter(|_| number == 1) {
-        bytes[kept] = image[place + kept];
+    let at = slot_place(place.slot);
+    for kept in KEPT.into_iter().flatten().filter(|_| place.slot == 1) {
+        bytes[kept] = image[at + kept];
     }
-    image[place..][..SLOT_BYTES].copy_from_slice(&bytes);
+    image[at..][..SLOT_BYTES].copy_from_slice(&bytes);
 }
 
 /// The bytes of slot 1 that are about the disk and not about a file: its name, its random word, and the number of its

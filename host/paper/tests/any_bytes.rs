@@ -66,9 +66,23 @@ fn erase_many(image: &mut [u8], name: &[u8], list: &mut [u8]) -> Result<usize, R
     paper::erase_many(image, &names.concat()[over..], &mut [9; 3], list)
 }
 
+/// A recording of four sectors, of which a piece writes two.
+fn record_add(image: &mut [u8], name: &[u8], list: &mut [u8]) -> Result<usize, Refused> {
+    let mut record = [0; paper::RECORD_BYTES];
+    paper::record_open(image, &wish(name, &[]), &mut record)?;
+    paper::record_add(image, &body(1_600), &mut record, list)
+}
+
+/// A recording that nothing came to, closed.
+fn record_close(image: &mut [u8], name: &[u8], list: &mut [u8]) -> Result<usize, Refused> {
+    let mut record = [0; paper::RECORD_BYTES];
+    paper::record_open(image, &wish(name, &[]), &mut record)?;
+    paper::record_close(image, &record, list)
+}
+
 #[test]
 fn calls_hold_on_damaged_disks() {
-    let calls: [Call; 9] = [
+    let calls: [Call; 11] = [
         save,
         rename,
         paper::erase,
@@ -78,6 +92,8 @@ fn calls_hold_on_damaged_disks() {
         paper::release,
         paper::gather,
         erase_many,
+        record_add,
+        record_close,
     ];
     let mut disk = blank();
     for (name, length) in [(&b"A"[..], 900), (b"B", 1_500), (b"C", 0)] {

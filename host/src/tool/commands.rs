@@ -1,7 +1,9 @@
 //! The table of commands.
 use super::failure::Outcome;
 use super::words::Given;
-use super::{add, blank, change, check, dump, erase, extract, gather, list, map, read, report, salvage, save, sector, tree};
+use super::{
+    add, blank, change, check, dump, erase, extract, gather, list, map, read, record, report, salvage, save, sector, tree,
+};
 
 /// A command of the tool.
 pub struct Command {
@@ -252,6 +254,15 @@ const START: &str = "The usual start, page 1 and offset 32768, is address 32768.
 const SLOT: &str = "It takes the lowest free slot. Where that is the directory's end and an old
 name stands in the next slot, that name is cleared with it.";
 
+/// What is said of a recording.
+const RECORD: &str = "Reads standard input to its end and saves it as it comes: each sector is
+written and flushed as soon as it is full. When the input ends the file is
+there, and the disk is the same as after `save`. Until then all of it lies in
+free sectors: cut short anywhere, by a signal too, IMAGE holds the old disk and
+nothing of the recording. So it does where the disk gets full (19).";
+const RECORD_LOCK: &str = "IMAGE is locked from the first byte to the last; where it is removed, replaced
+or cut short all the same, the recording fails (status 3).";
+
 /// What is said of a file that takes the place of another.
 const REPLACED: &str = "With --replace the new file is saved under a free name, NEW~1 or the next that
 is free; then the older one is erased, and then the new one is renamed: three
@@ -429,6 +440,14 @@ scattered: `gather` puts a file's sectors in a row.",
         brief: "save FILE (`-`: standard input) under a new name",
         more: &[START, NUMBERS, SLOT, REPLACED, REPLACED_CUT, SAFE, NAMES],
         run: save::run,
+    },
+    Command {
+        name: "record",
+        places: &["IMAGE", "NAME"],
+        options: &[&KIND, &PAGE, &OFFSET, &EXEC, &INFO, &NO_WAIT],
+        brief: "save standard input as it comes under a new name",
+        more: &[RECORD, RECORD_LOCK, START, NUMBERS, SLOT, NAMES],
+        run: record::run,
     },
     Command {
         name: "erase",

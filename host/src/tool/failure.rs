@@ -83,8 +83,15 @@ impl Failure {
                 );
                 Failure::io(path, io::Error::other(words))
             }
+            WriteError::Piece { error, .. } if error.kind() == ErrorKind::Interrupted => Failure::given_up(path, error),
             error => Failure::Write(shown_file(path), error),
         }
+    }
+
+    /// A signal came while something was recorded to this file.
+    pub fn given_up(path: &OsStr, error: io::Error) -> Failure {
+        let words = format!("{error}: the recording is given up. The old disk is still there and reads as before.");
+        Failure::io(path, io::Error::other(words))
     }
 
     /// Whether the library refused it for this reason.

@@ -31,6 +31,7 @@ mod pages;
 mod pattern;
 mod progress;
 mod read;
+mod record;
 mod replace;
 mod report;
 mod salvage;

@@ -1,26 +1,54 @@
 //! `save`: a file or standard input, under a new name.
 use super::change::perform;
-use super::failure::{Failure, Outcome};
+use super::failure::{Failure, Outcome, Reason};
 use super::replace;
 use super::source::{self, STANDARD};
 use super::values::{self, AskedName};
 use super::words::Given;
 use std::ffi::OsStr;
 use std::fs::File;
-use varnucht::{CarriedKind, Change, LONGEST_BODY, NO_EXECUTION, NewFile, Start};
+use varnucht::{CarriedKind, Change, LONGEST_BODY, NO_EXECUTION, Particulars, Start};
+
+/// What the options say of a file that is saved or recorded. Whether the library takes that is not asked yet.
+pub struct Asked {
+    kind: u32,
+    page: u32,
+    offset: u32,
+    execution: [u8; 3],
+    information: [u8; 11],
+}
+
+impl Asked {
+    /// As the command line has it.
+    pub fn read(given: &Given) -> Result<Asked, Failure> {
+        let kind = given
+            .value("--kind")
+            .map_or(Ok(CarriedKind::Code.number().into()), |word| values::kind(given, word))?;
+        Ok(Asked {
+            kind,
+            page: values::number_or(given, "--page", 1)?,
+            offset: values::number_or(given, "--offset", 32_768)?,
+            execution: values::bytes_or(given, "--exec", NO_EXECUTION)?,
+            information: values::bytes_or(given, "--info", [0; 11])?,
+        })
+    }
+
+    /// The file of this name, or why it cannot be one, in the order of the refusals: 12, 13, 14.
+    pub fn file(&self, name: &AskedName) -> Result<Particulars, Reason> {
+        let (name, kind) = (name.new_name("it")?, CarriedKind::from_number(self.kind)?);
+        let file = Particulars::new(kind, name, Start::new(self.page, self.offset)?);
+        Ok(Particulars {
+            execution: self.execution,
+            information: self.information,
+            ..file
+        })
+    }
+}
 
 /// Saves the body under the name.
 pub fn run(given: &Given) -> Outcome {
     let name = AskedName::at(given, 1)?;
-    let kind = given
-        .value("--kind")
-        .map_or(Ok(CarriedKind::Code.number().into()), |word| values::kind(given, word))?;
-    let (page, offset) = (
-        values::number_or(given, "--page", 1)?,
-        values::number_or(given, "--offset", 32_768)?,
-    );
-    let execution = values::bytes_or(given, "--exec", NO_EXECUTION)?;
-    let information = values::bytes_or(given, "--info", [0; 11])?;
+    let asked = Asked::read(given)?;
     match given.has("--dry-run") {
         false => source::not_standard(given)?,
         true if given.word(0) == STANDARD && given.word(2) == STANDARD => {
@@ -30,16 +58,7 @@ pub fn run(given: &Given) -> Outcome {
     }
     // The body comes first, since standard input can take its time; the image is not locked meanwhile.
     let body = body(given.word(2))?;
-    let file = || {
-        // In the order of their refusals: 12, 13, 14.
-        let (name, kind) = (name.new_name("it")?, CarriedKind::from_number(kind)?);
-        let file = NewFile::new(kind, name, Start::new(page, offset)?, &body);
-        Ok(NewFile {
-            execution,
-            information,
-            ..file
-        })
-    };
+    let file = || Ok(asked.file(&name)?.with_body(&body));
     match given.has("--replace") {
         true => replace::perform(given, &name.to_string(), file),
         false => perform(given, "saved", &name.to_string(), || file().map(Change::Save)),

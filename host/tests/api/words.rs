@@ -76,6 +76,7 @@ fn provoked() -> Vec<(u8, u16, Refused)> {
     all.push((27, 1, tree::spoilt(1, 254, 9).tree(None).unwrap_err()));
     all.push((28, 4, tree::spoilt(4, 254, 255).tree(None).unwrap_err()));
     all.push((29, 3, tree::spoilt(1, 0, 0).erase(&name("GAMES")).unwrap_err()));
+    all.push((30, 0, recording::moved()));
     all.push((31, 0, reports::full().add(b"").unwrap_err()));
     all.push((32, 0, gathering::crowded().gather(&name("TUNES")).unwrap_err()));
     all

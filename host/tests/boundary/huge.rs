@@ -4,8 +4,8 @@
 
 use crate::support::asking::Asked;
 use crate::support::calls::{
-    self, ANSWERS, BODY, CALLS, Call, EXEC, IMAGE, INFO, NAME, NAMES, NEW, NOTHING, OUT, ROLES, Request, SLICES, TWO, ask_c,
-    ask_paper,
+    self, ANSWERS, BODY, CALLS, Call, EXEC, IMAGE, INFO, NAME, NAMES, NEW, NOTHING, OUT, RECORD, ROLES, Request, SLICES,
+    TWO, ask_c, ask_paper,
 };
 use crate::support::compare::{self, Lend};
 use crate::support::disks::Disk;
@@ -14,6 +14,7 @@ use crate::support::folders;
 use crate::support::geometry::{bit_place, number};
 use crate::support::guarded::{Empty, Flush, Guarded};
 use crate::support::random::Random;
+use crate::support::recordings::{self, Recording};
 use crate::support::reports;
 use crate::wide;
 use std::env;
@@ -36,7 +37,7 @@ const HUGE: [usize; 8] = [
     below(519),
 ];
 
-/// Those to which the 518 that a save adds before it divides by 510 cannot be added.
+/// Those to which the 518 that a save or a recording adds before it divides by 510 cannot be added.
 const HUGEST: [usize; 10] = [
     below(518),
     below(517),
@@ -85,13 +86,14 @@ fn accepted(call: Call, disk: &Disk, i: usize) -> Asked {
             numbers: [2, 4, 1],
             ..asked.with(TWO, disk.image.clone())
         },
-        Call::Save => {
-            let list = vec![0x5c; 2 * Facts::of(&disk.image).save_sectors(600)];
-            let asked = asked.with(NAME, b"unlike all").with(BODY, [5; 600]).with(OUT, list);
-            Asked {
-                numbers: [19, 1, 40_000],
-                ..asked.with(EXEC, [1, 2, 3]).with(INFO, [4; 11])
-            }
+        Call::Save => save(disk, 600),
+        Call::RecordOpen => recordings::opening(save(disk, 0), vec![0x5c; recordings::LENGTH]),
+        // Four sectors, two of which it completes.
+        Call::RecordAdd => Recording::of(&save(disk, 0), &Facts::of(&disk.image)).add(&[5; 1_600], 4),
+        Call::RecordClose => {
+            let facts = Facts::of(&disk.image);
+            let recording = Recording::of(&save(disk, 0), &facts).with(&[5; 600]);
+            recording.close(2 * recording.close_sectors(&facts))
         }
         Call::EraseMany => asked.with(NAMES, file.name).with(ANSWERS, [0x5c]).with(OUT, [0x5c; 2]),
         Call::Rename => asked.with(NAME, file.name).with(NEW, b"unlike all").with(OUT, [0x5c; 2]),
@@ -99,6 +101,19 @@ fn accepted(call: Call, disk: &Disk, i: usize) -> Asked {
         Call::ReportAdd => asked.with(OUT, report(9)),
         Call::ReportJoin => asked.with(TWO, report(8)).with(OUT, report(7)),
         _ => asked.with(NAME, file.name).with(OUT, [0x5c; 2]),
+    }
+}
+
+/// A save of so many bytes.
+fn save(disk: &Disk, length: usize) -> Asked {
+    let list = vec![0x5c; 2 * Facts::of(&disk.image).save_sectors(length)];
+    let asked = Asked::new(Call::Save)
+        .with(NAME, b"unlike all")
+        .with(BODY, vec![5; length])
+        .with(OUT, list);
+    Asked {
+        numbers: [19, 1, 40_000],
+        ..asked.with(EXEC, [1, 2, 3]).with(INFO, [4; 11])
     }
 }
 
@@ -150,6 +165,7 @@ fn ask(request: &Request, roles: &[usize], length: usize) {
         let left = match role {
             OUT if refused.is_none() => &paper.out,
             ANSWERS if refused.is_none() => &paper.answers,
+            RECORD if refused.is_none() => &paper.record,
             IMAGE if refused.is_none() => paper.image.as_deref().unwrap_or(there(role)),
             _ => there(role),
         };
@@ -194,10 +210,11 @@ fn names_of_a_handful() {
     each(&[NAMES], &[&HUGE[..], &HUGEST, &[(1 << 63) + 2, below(6)]].concat());
 }
 
-/// Execution bytes and information are read at their front alone, a listing, a body, a list and answers written there alone.
+/// Execution bytes, information and a record are read at their front alone, a listing, a body, a list, answers and a record
+/// written there alone.
 #[test]
 fn what_may_be_longer_than_is_needed() {
-    each(&[EXEC, INFO, OUT, ANSWERS], &[&HUGE[..], &HUGEST].concat());
+    each(&[EXEC, INFO, OUT, ANSWERS, RECORD], &[&HUGE[..], &HUGEST].concat());
 }
 
 #[test]
@@ -222,7 +239,8 @@ fn hugest_bodies_here() {
     each(&[BODY], &HUGEST);
 }
 
-/// In a program of its own, because a save that counts too few sectors for such a body reads where nothing is.
+/// In a program of its own, because a save that counts too few sectors for such a body, or a recording for such a piece, reads
+/// where nothing is.
 #[test]
 fn hugest_bodies() {
     let program = env::current_exe().expect("the program knows itself");

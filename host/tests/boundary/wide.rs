@@ -1,8 +1,9 @@
 //! Slices longer than 32 bits can count: the low 32 bits of such a length are a length that would do. The pages take no memory
 //! until they are touched, so a call that answers at once costs nothing.
 
+use crate::support::asking::Asked;
 use crate::support::calls::{
-    self, ANSWERS, BODY, Call, EXEC, IMAGE, INFO, NAME, NAMES, NEW, NOTHING, OUT, Part, SLICES, TWO, ask_c, value,
+    self, ANSWERS, BODY, Call, EXEC, IMAGE, INFO, NAME, NAMES, NEW, NOTHING, OUT, Part, RECORD, SLICES, TWO, ask_c, value,
 };
 use crate::support::compare::Lend;
 use crate::support::disks::{self, Disk};
@@ -13,6 +14,7 @@ use crate::support::gathers::{self, Goes};
 use crate::support::geometry;
 use crate::support::guarded::{Empty, Flush, Guarded, PAGE, Pages};
 use crate::support::random::Random;
+use crate::support::recordings::{self, Recording};
 use crate::support::reports;
 use crate::support::waste;
 
@@ -42,6 +44,13 @@ impl Wide {
     }
 }
 
+/// A recording on this disk that nothing came to.
+fn recording(disk: &Disk) -> Recording {
+    let mut save = Asked::new(Call::Save).with(NAME, b"unlike all");
+    save.numbers = [19, 1, 40_000];
+    Recording::of(&save, &Facts::of(&disk.image))
+}
+
 /// Slices of usual length for every role, between closed pages.
 struct Usual {
     lender: Guarded,
@@ -65,9 +74,11 @@ impl Usual {
             &vec![0x5c; geometry::IMAGE],
             name,
             &[0x5c; 16],
+            &recording(disk).record(),
         ];
         for (role, bytes) in slices.into_iter().enumerate() {
-            usual.parts[role] = usual.lender.lend(role, bytes, matches!(role, IMAGE | OUT | ANSWERS));
+            let may_change = matches!(role, IMAGE | OUT | ANSWERS | RECORD);
+            usual.parts[role] = usual.lender.lend(role, bytes, may_change);
         }
         usual
     }
@@ -124,7 +135,8 @@ fn names() {
     let usual = Usual::new(&disk, &disk.files[i].name);
     let (name, new) = (Wide::new(&disk.files[i].name), Wide::new(b"new"));
     for call in calls::CALLS.into_iter().filter(|call| call.takes().contains(&NAME)) {
-        let part = if call == Call::Save { new.part(3) } else { name.part(10) };
+        let is_new = matches!(call, Call::Save | Call::RecordOpen);
+        let part = if is_new { new.part(3) } else { name.part(10) };
         assert_eq!(usual.ask(call, [19, 1, 40_000], NAME, part), 12, "{call:?}");
     }
     assert_eq!(usual.ask(Call::Rename, [0; 3], NEW, new.part(3)), 12);
@@ -208,6 +220,30 @@ fn what_is_saved() {
     assert_eq!(usual.ask(Call::Save, numbers, BODY, Wide::new(&[]).part(10)), 19);
     assert!(usual.lender.bytes(IMAGE) == disk.image);
     assert!(disk.files[i].body.len() > 9);
+}
+
+/// A piece that long has no room, though its low 32 bits are few; a record and a list whose low 32 bits are too few are long
+/// enough.
+#[test]
+fn recordings() {
+    let (disk, _) = disk();
+    let opened = recording(&disk);
+    let usual = Usual::new(&disk, b"unlike all");
+    assert_eq!(usual.ask(Call::RecordAdd, [0; 3], BODY, Wide::new(&[]).part(10)), 19);
+    assert!(usual.lender.bytes(IMAGE) == disk.image && usual.lender.bytes(RECORD) == opened.record());
+    let wide = Wide::new(&[]);
+    assert_eq!(usual.ask(Call::RecordOpen, [19, 1, 40_000], RECORD, wide.part(1)), 0);
+    let mut expected = opened.record();
+    expected[recordings::EXECUTION..recordings::INFORMATION].copy_from_slice(&[1, 2, 3]);
+    expected[recordings::INFORMATION..recordings::USED].fill(4);
+    assert!(wide.front(recordings::LENGTH) == expected);
+    assert_eq!(wide.front(recordings::LENGTH + 4)[recordings::LENGTH..], [0; 4]);
+    // The usual body is 600 bytes, of which no sector is complete.
+    assert_eq!(usual.ask(Call::RecordAdd, [0; 3], RECORD, wide.part(1)), 0);
+    assert_eq!(usual.ask(Call::RecordAdd, [0; 3], OUT, Wide::new(&[]).part(0)), 0);
+    let closed = usual.ask(Call::RecordClose, [0; 3], RECORD, wide.part(1));
+    assert_eq!(calls::refusal(closed), 0);
+    assert!(value(closed) >= 3 && usual.lender.bytes(IMAGE) != disk.image);
 }
 
 /// An image whose length is right in its low 32 bits is counted as refused 1; a report whose low 32 bits are too few is long

@@ -3,12 +3,13 @@
 
 use crate::change::Change;
 use crate::support::asking::{self, Asked};
-use crate::support::calls::{Call, NAME, NEW, OUT, Request};
+use crate::support::calls::{Call, NAME, NEW, OUT, RECORD, Request};
 use crate::support::compare;
 use crate::support::facts::{Facts, Live};
 use crate::support::margins::Margins;
 use crate::support::names;
 use crate::support::random::Random;
+use crate::support::recordings::{EXECUTION, OWN_NAME};
 
 /// Questions, and what the old disk answers: the packed answer and the output buffer at return.
 pub struct Answers(Vec<(Asked, u64, Vec<u8>)>);
@@ -102,6 +103,8 @@ fn asked_names(change: &Change, random: &mut Random) -> Vec<Vec<u8>> {
         change.asked.slices[NEW].clone(),
         Vec::new(),
     ]);
+    let record = &change.asked.slices[RECORD];
+    asked.extend(record.get(OWN_NAME..EXECUTION).map(<[u8]>::to_vec));
     asked.extend((0..2).map(|_| names::usable(random)));
     asked.extend(erased.first().map(|name| name.to_vec()));
     asked

@@ -85,6 +85,16 @@ impl Change<'_> {
         self.asked.call == Call::Gather && !self.named.is_empty()
     }
 
+    /// The change that this asks for; none where it is refused.
+    pub fn of(asked: Asked, old: &[u8]) -> Option<Change<'_>> {
+        Change::make(asked, Facts::of(old), old)
+    }
+
+    /// Whether it takes a slot: a save, or the close of a recording.
+    pub fn takes_a_slot(&self) -> bool {
+        matches!(self.asked.call, Call::Save | Call::RecordClose)
+    }
+
     fn make<'a>(asked: Asked, facts: Facts, old: &'a [u8]) -> Option<Change<'a>> {
         let left = compare::ask(&asked.on(old), &mut Margins::default());
         let named = left.out.chunks_exact(2).take(calls::value(left.answer));
@@ -100,7 +110,7 @@ impl Change<'_> {
 
     /// No number twice; sectors not named are unchanged; the directory sector comes last, and before it stand data sectors; of a
     /// save that clears the slot behind the directory's end, its sector stands between them. A gather that leaves its file names
-    /// none.
+    /// none, and a piece of a recording none of the directory.
     pub fn names_its_sectors(&self) {
         let mut named = [false; SECTORS];
         for &number in &self.named {
@@ -119,8 +129,9 @@ impl Change<'_> {
         }
         let directory = |number: usize| is_directory(number, self.facts.extra);
         let many = match self.asked.call {
-            Call::Save => self.facts.directory_sectors().len(),
+            Call::Save | Call::RecordClose => self.facts.directory_sectors().len(),
             Call::Gather if !self.moves() => 0,
+            Call::RecordAdd => 0,
             _ => 1,
         };
         let (data, last) = self.named.split_at(self.named.len() - many);
@@ -129,14 +140,15 @@ impl Change<'_> {
             "{:?}",
             self.named
         );
-        let takes = self.asked.call == Call::Save || self.moves();
+        let completes = self.asked.call == Call::RecordAdd && !self.named.is_empty();
+        let takes = self.takes_a_slot() || self.moves() || completes;
         assert!(takes != data.is_empty(), "{:?}", self.named);
     }
 
     /// The directory ends where it ended: unread slots stay unread, but for the one that a whole save takes.
     pub fn keeps_the_end(&self, disk: &[u8], whole: bool) {
         let facts = &self.facts;
-        let taken = whole && self.asked.call == Call::Save && facts.taken == facts.end;
+        let taken = whole && self.takes_a_slot() && facts.taken == facts.end;
         let end = facts
             .end
             .map(|end| end + usize::from(taken))
@@ -175,7 +187,7 @@ impl Change<'_> {
         }
         let (freed, taken) = match self.asked.call {
             Call::Erase => (self.found(), None),
-            Call::Save => (None, self.facts.taken),
+            _ if self.takes_a_slot() => (None, self.facts.taken),
             _ => (None, None),
         };
         let without = |slots: Vec<usize>, gone: Option<usize>| -> Vec<usize> {
@@ -232,9 +244,9 @@ impl Change<'_> {
         }
     }
 
-    /// The slot that the change finds by name; a save finds none.
+    /// The slot that the change finds by name; a save finds none, and neither does a recording.
     pub fn found(&self) -> Option<usize> {
-        if self.asked.call == Call::Save {
+        if self.takes_a_slot() || self.asked.call == Call::RecordAdd {
             return None;
         }
         Some(

@@ -7,6 +7,7 @@
 //! - `after`: what a change must leave, once more from document 01.
 //! - `gathering`: gathers cut after every sector.
 //! - `handful`: names erased at once, where each sector counts as a change of its own.
+//! - `recording`: each piece of a recording, and its close.
 //! - `answers`: the questions, and the answers on the old disk and on a cut one.
 //!
 //! `VARNUCHT_SEED` and `VARNUCHT_ROUNDS` draw other tests, or a single one again.
@@ -19,6 +20,7 @@ mod answers;
 mod change;
 mod gathering;
 mod handful;
+mod recording;
 
 use answers::Answers;
 use change::Change;

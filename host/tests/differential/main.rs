@@ -8,6 +8,7 @@
 //! - `gathers`: every file of drawn disks gathered, alone and one after the other.
 //! - `pieces`: readers, however the asking is cut, and readers of any three numbers.
 //! - `handfuls`: names erased at once, and one after the other.
+//! - `recordings`: saves whose body comes in pieces, alone and among other changes.
 //! - `reports`: shelves in numbers, and reports of any bytes.
 //! - `ticks`: marks in either order, marks of two phones merged, and renames taken back.
 //!
@@ -23,6 +24,7 @@ mod edges;
 mod gathers;
 mod handfuls;
 mod pieces;
+mod recordings;
 mod reports;
 mod sectors;
 mod ticks;

@@ -62,7 +62,8 @@ fn stack_said() -> Vec<(String, usize)> {
 
 /// `stack.c` says of each call how many bytes of painted stack it wrote over. A save took less than 5,900 bytes, the calls on
 /// reports less than 3,000 and every other call less than 2,030 when bigger directories came; an erase of many 6,392 when it
-/// came, the most of it an index of the names and the list as numbers. The frames in the compiled code
+/// came, the most of it an index of the names and the list as numbers; a piece of a recording 8,360 and its close 9,016, of which the
+/// record by value is 1,300 wherever it is handed on. The frames in the compiled code
 /// have fixed sizes and no call leads back to itself, so that their sum, about the same, holds for every input; but for the tree,
 /// which calls itself once for each directory around: at most 255 times, and one of the disks is as deep as that.
 #[test]
@@ -85,6 +86,7 @@ fn the_calls_need_little_stack() {
         assert!(said.is_none_or(|most| bytes <= most), "{line}: the header says {said:?}");
         let most = match call {
             "save" => 8192,
+            "record_open" | "record_add" | "record_close" => 9216,
             "erase_many" => 5120,
             "gather" => 3072,
             "tree" => 30 * 1024,
@@ -97,7 +99,7 @@ fn the_calls_need_little_stack() {
     }
     assert_eq!(
         calls.len(),
-        22,
-        "twenty calls that are accepted, and two checks that are refused"
+        25,
+        "twenty-three calls that are accepted, and two checks that are refused"
     );
 }

@@ -38,6 +38,7 @@ static void check_reasons(void) {
     expect(VARNUCHT_DIRECTORY_MISSING == 27, "the number of a refusal", 27);
     expect(VARNUCHT_DIRECTORY_IN_ITSELF == 28, "the number of a refusal", 28);
     expect(VARNUCHT_DIRECTORY_NOT_EMPTY == 29, "the number of a refusal", 29);
+    expect(VARNUCHT_RECORDING_MOVED == 30, "the number of a refusal", 30);
     expect(VARNUCHT_REPORT_FULL == 31, "the number of a refusal", 31);
     expect(VARNUCHT_NO_RUN == 32, "the number of a refusal", 32);
 }
@@ -57,7 +58,10 @@ static void check_sizes(void) {
     expect(VARNUCHT_SAVE_LIST_BYTES == 2 * (1560 + 2), "bytes of a save's list", 0);
     expect(VARNUCHT_GATHER_LIST_BYTES == 2 * (1560 / 2 + 1), "bytes of a gather's list", 0);
     expect(VARNUCHT_ERASE_LIST_BYTES == 2 * (39 * 10 - 1), "bytes of the list of an erase of many", 0);
+    expect(VARNUCHT_PIECE_LIST_BYTES == 2 * (1560 - 2), "bytes of the list of a piece", 0);
+    expect(VARNUCHT_CLOSE_LIST_BYTES == 2 * 4, "bytes of the list of a close", 0);
     expect(VARNUCHT_CHANGE_LIST_BYTES == 2, "bytes of another list", 0);
+    expect(VARNUCHT_RECORD_BYTES == 2048, "bytes of a record", 0);
     expect(VARNUCHT_REPORT_BYTES == 4 * 124, "bytes of a report", 0);
 }
 

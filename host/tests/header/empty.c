@@ -92,8 +92,8 @@ static uint64_t on_protect(const int *how) { return on_change(varnucht_protect, 
 static uint64_t on_release(const int *how) { return on_change(varnucht_release, how); }
 
 /* Each call with its slices, and the refusal that each gives when it alone is empty; 0: accepted. The next piece refuses
- * nothing: pieces.c has it. reports.c has the calls on reports, tree.c the tree, gather.c the gather and
- * handful.c the erase of many. */
+ * nothing: pieces.c has it. reports.c has the calls on reports, tree.c the tree, gather.c the gather, handful.c the erase
+ * of many and recording.c the calls of a recording. */
 static const struct {
     const char *name;
     call *run;

@@ -202,6 +202,48 @@ fn the_player_reads_piece_by_piece() {
     }
 }
 
+/// Runs a recorder with the file as its standard input.
+fn record(program: &Path, disk: &Path, name: &str, input: &Path) -> Output {
+    let input = fs::File::open(input).expect("the input");
+    let mut command = Command::new(program);
+    command.arg(disk).arg(name).stdin(input).output().expect("the example runs")
+}
+
+/// What is recorded is on the storage as a save of it would be, whatever its length; what is refused leaves the old files.
+#[test]
+fn the_recorder_saves_as_it_comes() {
+    for language in BOTH {
+        let folder = Folder::new(&format!("record-{language:?}"));
+        let recorder = build(language, &["-O2"], &[root().join("examples/record.c")], &folder, "record");
+        let disk = folder.write("disk", vec![0; IMAGE]);
+        let mut image = vec![0; IMAGE];
+        for (place, len) in [0, 1, 501, 502, 1_011, 1_012, 20_000, 700_000].into_iter().enumerate() {
+            let name = char::from(b'A' + place as u8).to_string();
+            let file = folder.write("file", some_bytes(len));
+            assert_eq!(done(record(&recorder, &disk, &name, &file)), b"", "{len} bytes");
+            image = saved(&image, name.as_bytes(), &some_bytes(len)).0;
+            assert!(fs::read(&disk).expect("the disk") == image, "{len} bytes");
+        }
+        let file = folder.write("file", some_bytes(1_000));
+        let words = "open: refused 16, slot 1: a live slot has the new name, capitals or not\n";
+        assert_eq!(refused(record(&recorder, &disk, "a", &file)), words);
+        assert!(fs::read(&disk).expect("the disk") == image, "it writes nothing");
+        // What does not fit has written free sectors alone.
+        let file = folder.write("file", some_bytes(200_000));
+        let words = "add: refused 19, slot 0: fewer free sectors than the save takes\n";
+        assert_eq!(refused(record(&recorder, &disk, "TUNES", &file)), words);
+        let left = fs::read(&disk).expect("the disk");
+        assert!(accepted(&left) && left[..40_960] == image[..40_960], "the old files");
+        let long = folder.write("long", vec![0; IMAGE + 1]);
+        let words = "open: refused 1, slot 0: the image is not 819,200 bytes\n";
+        assert_eq!(refused(record(&recorder, &long, "TUNES", &file)), words);
+        assert_eq!(
+            record(&recorder, &folder.file("nowhere"), "TUNES", &file).status.code(),
+            Some(2)
+        );
+    }
+}
+
 /// A shelf is counted, with what is no disk; a file that is not there is named and the rest is counted.
 #[test]
 fn the_shelf_is_counted() {

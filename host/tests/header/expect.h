@@ -22,5 +22,6 @@ void check_bigger(void);
 void check_trees(void);
 void check_gathering(void);
 void check_handfuls(void);
+void check_recordings(void);
 
 #endif

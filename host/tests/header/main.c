@@ -48,6 +48,7 @@ int main(int argc, char **argv) {
     run("trees", check_trees);
     run("gathering", check_gathering);
     run("handfuls", check_handfuls);
+    run("recordings", check_recordings);
     printf("held %lu, failed %lu\n", held, failed);
     return failed != 0;
 }

@@ -13,6 +13,10 @@ typedef uint64_t save_call(uint8_t *, size_t, uint32_t, const uint8_t *, size_t,
 typedef uint64_t change_call(uint8_t *, size_t, const uint8_t *, size_t, uint8_t *, size_t);
 typedef uint64_t join_call(uint8_t *, size_t, const uint8_t *, size_t);
 typedef uint64_t many_call(uint8_t *, size_t, const uint8_t *, size_t, uint8_t *, size_t, uint8_t *, size_t);
+typedef uint64_t record_call(const uint8_t *, size_t, uint32_t, const uint8_t *, size_t, uint32_t, uint32_t, const uint8_t *,
+                             size_t, const uint8_t *, size_t, uint8_t *, size_t);
+typedef uint64_t piece_call(uint8_t *, size_t, const uint8_t *, size_t, uint8_t *, size_t, uint8_t *, size_t);
+typedef uint64_t close_call(uint8_t *, size_t, const uint8_t *, size_t, uint8_t *, size_t);
 typedef uint64_t rename_call(uint8_t *, size_t, const uint8_t *, size_t, const uint8_t *, size_t, uint8_t *, size_t);
 
 static image_call *const volatile check = varnucht_check;
@@ -26,6 +30,9 @@ static start_call *const volatile start = varnucht_start;
 static sector_call *const volatile sector = varnucht_sector;
 static save_call *const volatile save = varnucht_save;
 static many_call *const volatile erasing = varnucht_erase_many;
+static record_call *const volatile recording = varnucht_record_open;
+static piece_call *const volatile piece = varnucht_record_add;
+static close_call *const volatile closing = varnucht_record_close;
 static rename_call *const volatile renaming = varnucht_rename;
 static list_call *const volatile adding = varnucht_report_add;
 static join_call *const volatile joining = varnucht_report_join;
@@ -47,6 +54,9 @@ void check_prototypes(void) {
     expect(save(NULL, 0, 0, NULL, 0, 0, 0, NULL, 0, NULL, 0, NULL, 0, NULL, 0) == 1, "save of nothing", 0);
     expect(erasing(NULL, 0, NULL, 0, NULL, 0, NULL, 0) == 1, "erase of many of nothing", 0);
     expect(renaming(NULL, 0, NULL, 0, NULL, 0, NULL, 0) == 1, "rename of nothing", 0);
+    expect(recording(NULL, 0, 0, NULL, 0, 0, 0, NULL, 0, NULL, 0, NULL, 0) == 1, "a recording of nothing", 0);
+    expect(piece(NULL, 0, NULL, 0, NULL, 0, NULL, 0) == 1, "a piece of nothing", 0);
+    expect(closing(NULL, 0, NULL, 0, NULL, 0) == 1, "a close of nothing", 0);
     expect(adding(NULL, 0, NULL, 0) == 20, "a disk added to nothing", 0);
     expect(joining(NULL, 0, NULL, 0) == 20, "nothing joined to nothing", 0);
     for (unsigned long i = 0; i < sizeof changes / sizeof changes[0]; i++) {

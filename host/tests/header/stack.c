@@ -4,7 +4,7 @@
  * last link but one leading back to its first sector, which is refused 10 where that comes again. For the save also a disk
  * whose directory ends at slot 2, with an old name behind it in another sector; for the gather the greatest file that can move,
  * which has half of the data sectors, falling; for the erase of many every name of the crowded disks, with a list that always
- * suffices and with one that just does. */
+ * suffices and with one that just does; for a recording those of the saves, each filled by one piece. */
 #define _XOPEN_SOURCE 700
 #include <stdio.h>
 #include <string.h>
@@ -22,6 +22,8 @@ static uint8_t biggest[VARNUCHT_IMAGE_BYTES], deep[VARNUCHT_IMAGE_BYTES], ring[V
 static uint8_t falling[VARNUCHT_IMAGE_BYTES];
 static uint8_t image[VARNUCHT_IMAGE_BYTES];
 static uint8_t body[VARNUCHT_BODY_BYTES], list[VARNUCHT_SAVE_LIST_BYTES];
+static uint8_t recorded[VARNUCHT_IMAGE_BYTES], record[VARNUCHT_RECORD_BYTES];
+static size_t piece_len;
 static uint8_t report[VARNUCHT_REPORT_BYTES], shelf[VARNUCHT_REPORT_BYTES];
 static const uint8_t name[] = {'A', '0'}, other[] = {'T', 'U', 'N', 'E', 'S'};
 static uint8_t names[VARNUCHT_NAME_BYTES * VARNUCHT_SLOTS], answers[VARNUCHT_SLOTS];
@@ -47,6 +49,18 @@ static void saving(void) { refusal = varnucht_refusal(save(image, other, 5, 510 
 static void saving_on(void) { refusal = varnucht_refusal(save(image, other, 5, 510 * 1559 - 9)); }
 static void saving_last(void) { refusal = varnucht_refusal(save(image, other, 5, 510 * 1480 - 9)); }
 static void saving_778th(void) { refusal = varnucht_refusal(save(image, other, 5, 510 * (1211 - 777) - 9)); }
+static void record_open(void) {
+    refusal = varnucht_refusal(varnucht_record_open(image, sizeof image, 19, other, 5, 1, 32768, NULL, 0, NULL, 0, record,
+                                                    sizeof record));
+}
+static void record_add(void) {
+    refusal = varnucht_refusal(varnucht_record_add(image, sizeof image, body, piece_len, record, sizeof record, list,
+                                                   VARNUCHT_PIECE_LIST_BYTES));
+}
+static void record_close(void) {
+    refusal = varnucht_refusal(varnucht_record_close(image, sizeof image, record, sizeof record, list,
+                                                     VARNUCHT_CLOSE_LIST_BYTES));
+}
 static void erase_many(void) {
     refusal = varnucht_refusal(varnucht_erase_many(image, sizeof image, names, sizeof names, answers, sizeof answers, list,
                                                    VARNUCHT_ERASE_LIST_BYTES));
@@ -165,6 +179,15 @@ static void make_disks(void) {
     let_fall(falling);
 }
 
+/* A recording that takes so many sectors. */
+static void say_recording(const uint8_t *disk, unsigned sectors) {
+    piece_len = 510 * sectors - 9;
+    say("record_open", record_open, disk);
+    say("record_add", record_add, disk);
+    memcpy(recorded, image, sizeof recorded);
+    say("record_close", record_close, recorded);
+}
+
 int main(void) {
     make_disks();
     make_names();
@@ -198,5 +221,9 @@ int main(void) {
     say("save", saving_on, ended);
     say("save", saving_last, crowded);
     say("save", saving_778th, biggest);
+    say_recording(blank, 1560);
+    say_recording(ended, 1559);
+    say_recording(crowded, 1480);
+    say_recording(biggest, 1211 - 777);
     return 0;
 }

@@ -8,6 +8,7 @@ use super::handfuls;
 use super::names;
 use super::random::Random;
 use super::readers;
+use super::recordings;
 use super::reports;
 use super::wishes;
 
@@ -74,6 +75,9 @@ pub fn draw(call: Call, facts: &Facts, random: &mut Random) -> Asked {
             };
             asked.with(NAME, name).with(NEW, new).with(OUT, list(1, random))
         }
+        Call::RecordOpen => recordings::draw_open(facts, random),
+        Call::RecordAdd => recordings::draw_piece(facts, random),
+        Call::RecordClose => recordings::draw_close(facts, random),
         Call::Gather => {
             let name = asked_name(facts, random);
             let need = 1 + facts.find(&name).map_or(0, |live| live.sectors.len());

@@ -1,7 +1,7 @@
 //! The same request to the C layer and to `paper`, each with copies of its own of all buffers: equal answers, and every buffer
 //! equal at return, those too that are only read.
 
-use super::calls::{self, ANSWERS, Answer, BODY, Call, IMAGE, OUT, Part, ROLES, Request, SLICES, ask_c, ask_paper};
+use super::calls::{self, ANSWERS, Answer, BODY, Call, IMAGE, OUT, Part, RECORD, ROLES, Request, SLICES, ask_c, ask_paper};
 
 /// A way to lend buffers to the C layer.
 pub trait Lend {
@@ -22,6 +22,7 @@ pub struct Left {
     pub image: Option<Vec<u8>>,
     pub out: Vec<u8>,
     pub answers: Vec<u8>,
+    pub record: Vec<u8>,
 }
 
 /// Asks both and fails where they differ.
@@ -56,6 +57,7 @@ pub fn ask(request: &Request, lender: &mut impl Lend) -> Left {
         image,
         out: paper.out,
         answers: paper.answers,
+        record: paper.record,
     }
 }
 
@@ -73,6 +75,7 @@ fn left<'a>(paper: &'a Answer, role: usize, old: &'a [u8]) -> &'a [u8] {
     match role {
         OUT => &paper.out,
         ANSWERS => &paper.answers,
+        RECORD => &paper.record,
         IMAGE => paper.image.as_deref().unwrap_or(old),
         _ => old,
     }
@@ -129,7 +132,7 @@ pub fn read_out(answer: u64) -> String {
 /// The request in words; of long slices the length alone.
 pub fn tell(request: &Request) -> String {
     let mut text = format!("{:?}", request.call);
-    if matches!(request.call, Call::Save | Call::Sector | Call::Next) {
+    if matches!(request.call, Call::Save | Call::RecordOpen | Call::Sector | Call::Next) {
         text += &format!(" numbers {:?}", request.numbers);
     }
     for &role in request.call.takes() {

@@ -13,6 +13,7 @@
 //! - `gathers`: where a scattered file goes.
 //! - `handfuls`: names that are erased at once, and what becomes of them.
 //! - `facts`, `asking`, `wishes`, `readers`: drawn requests that fit a disk.
+//! - `recordings`: drawn recordings, their records, and what each call writes.
 //! - `reports`: drawn reports, and what is counted of a disk.
 //! - `tally`: how often each call gave each refusal.
 
@@ -35,6 +36,7 @@ pub mod margins;
 pub mod names;
 pub mod random;
 pub mod readers;
+pub mod recordings;
 pub mod reports;
 pub mod settings;
 pub mod shapes;

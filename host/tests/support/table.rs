@@ -1,7 +1,6 @@
-/// The words of document 01's table by number, copied from it; and those of the rows that document 02 moves or adds. Numbers
-/// between them belong to requests that have not landed.
+/// The words of document 01's table by number, copied from it; and those of the rows that document 02 moves or adds.
 #[rustfmt::skip]
-pub const TABLE: [(u8, &str); 31] = [
+pub const TABLE: [(u8, &str); 32] = [
     (1, "the image is not 819,200 bytes"),
     (2, "the kind is not known"),
     (3, "the first name byte is 0 (given no more)"),
@@ -31,6 +30,7 @@ pub const TABLE: [(u8, &str); 31] = [
     (27, "a live slot's byte 254 is not 0 and no directory's code (tree)"),
     (28, "a directory lies inside itself at some depth (tree)"),
     (29, "a directory whose code, not 0, is another live slot's byte 254 (erase)"),
+    (30, "the used map or n is not what it was at opening or a sector that its pieces listed lacks its link (recording)"),
     (31, "a disk or join that would pass 65,535 disks"),
     (32, "the file must move and no run of consecutive free map bits has its length (gather)"),
 ];

@@ -27,6 +27,9 @@ pub fn possible(call: Call) -> Vec<u8> {
         Call::Rename => &[12, 15, 16, 17, 20],
         Call::Hide | Call::Show | Call::Protect | Call::Release => &[12, 15, 20],
         Call::Gather => &[12, 13, 15, 32, 20],
+        Call::RecordOpen => &[12, 13, 14, 16, 18, 19, 20],
+        Call::RecordAdd => &[30, 19, 20],
+        Call::RecordClose => &[30, 12, 13, 14, 16, 18, 19, 20],
     };
     let disk = (0..=11).filter(|&number| number != 3).chain([24, 25]);
     disk.chain(own.iter().copied()).collect()

@@ -132,8 +132,8 @@ fn blank_makes_a_disk_and_replaces_none() {
 #[test]
 fn help_and_version() {
     let commands = [
-        "check", "list", "tree", "map", "read", "save", "erase", "rename", "hide", "show", "protect", "release", "gather",
-        "sector", "blank", "report", "salvage", "extract", "add", "dump", "start",
+        "check", "list", "tree", "map", "read", "save", "record", "erase", "rename", "hide", "show", "protect", "release",
+        "gather", "sector", "blank", "report", "salvage", "extract", "add", "dump", "start",
     ];
     let all = run(["help"]);
     for command in commands {

@@ -2,14 +2,21 @@
 //! A file that the tool makes is whole and flushed before it has its name, and then its folder is flushed. `watch.c`, loaded
 //! in front of the system's library, notes what the tool writes, when it flushes, and when it names a file.
 use crate::support::{Folder, Run, body, disk, library, on, tool};
-use std::fs;
+use std::fs::{self, File};
 use std::path::Path;
+use std::process::Stdio;
 
 /// Runs the tool in the folder with these words, and gives what the watcher noted too.
 fn watched(folder: &Folder, watch: &Path, words: &[&str]) -> (Run, String) {
+    watched_with(folder, watch, words, Stdio::null())
+}
+
+/// The same with this standard input.
+fn watched_with(folder: &Folder, watch: &Path, words: &[&str], input: Stdio) -> (Run, String) {
     let notes = folder.path("notes");
     let mut command = tool(words);
     command
+        .stdin(input)
         .current_dir(folder.path(""))
         .env("LD_PRELOAD", watch)
         .env("WATCH", &notes);
@@ -71,6 +78,27 @@ fn each_sector_is_flushed_before_the_next() {
             .collect();
         assert_eq!(noted, expected, "{command}");
     }
+}
+
+/// A recording writes the sectors of a save, the first of the file after its last.
+#[test]
+fn each_sector_of_a_recording_is_flushed_before_the_next() {
+    let folder = Folder::new();
+    let watch = library(&folder, "watch.c");
+    let image = folder.image(&disk(&[("OLD", 3_000), ("KEPT", 600)]));
+    let file = folder.file("file", &body(20_000));
+    let planned = on("save", &image, ["TUNES", file.to_str().expect("a path in text"), "--dry-run"]);
+    let mut sectors = named(planned.done());
+    assert_eq!(sectors.len(), 41);
+    sectors[..40].rotate_left(1);
+    let input = File::open(&file).expect("the file is there");
+    let (run, noted) = watched_with(&folder, &watch, &["record", "disk.mgt", "TUNES"], input.into());
+    run.done();
+    let expected: String = sectors
+        .iter()
+        .map(|sector| format!("write 512 at {}\nflush\n", 512 * sector))
+        .collect();
+    assert_eq!(noted, expected);
 }
 
 /// The lengths of the writes that stand at the front of the notes, each where the one before ended; and what follows them.

@@ -24,6 +24,7 @@ fn images_of_every_length() {
         }
         on("gather", &image, ["--all"]).fails(1, "refusal 1: ");
         on("save", &image, ["ONE", "/dev/null"]).fails(1, "refusal 1: ");
+        on("record", &image, ["ONE"]).fails(1, "refusal 1: ");
         on("rename", &image, ["ONE", "TWO"]).fails(1, "refusal 1: ");
         assert_eq!(fs::metadata(&image).unwrap().len(), length, "its length stays");
         assert!(began.elapsed().as_secs() < 10, "a long file is not read whole");
@@ -71,7 +72,12 @@ fn what_is_no_file() {
         on(command, &directory, NONE).fails(3, "directory");
         on(command, &missing, NONE).fails(3, "missing.mgt: No such file");
     }
-    let changes: [(&str, &[&str]); 3] = [("erase", &["A"]), ("save", &["A", "/dev/null"]), ("rename", &["A", "B"])];
+    let changes: [(&str, &[&str]); 4] = [
+        ("erase", &["A"]),
+        ("save", &["A", "/dev/null"]),
+        ("record", &["A"]),
+        ("rename", &["A", "B"]),
+    ];
     for (command, words) in changes {
         on(command, &directory, words).fails(3, "directory");
         on(command, &missing, words).fails(3, "missing.mgt: No such file");
@@ -144,6 +150,11 @@ fn command_lines_that_are_not_understood() {
         &["save", "I", "NEW", "/dev/null", "--exec", "0g"],
         &["save", "I", "NEW", "/dev/null", "--exec", "é"],
         &["save", "I", "NEW", "/dev/null", "--info", "000102030405060708090a0b"],
+        &["record", "I"],
+        &["record", "I", "NEW", "/dev/null"],
+        &["record", "I", "NEW", "--dry-run"],
+        &["record", "I", "NEW", "--kind", "tune"],
+        &["record", "-", "NEW"],
         &["erase", "I"],
         &["erase", "I", "ONE", r"\q"],
         &["hide", "I", "ONE", "TWO"],
@@ -181,7 +192,7 @@ fn words_of_any_bytes() {
     let mut runs = 0;
     for word in odd.map(OsString::from_vec) {
         for command in [
-            "check", "list", "tree", "map", "read", "save", "erase", "rename", "hide", "sector", "blank", "help",
+            "check", "list", "tree", "map", "read", "save", "record", "erase", "rename", "hide", "sector", "blank", "help",
         ] {
             let path = image.clone().into_os_string();
             let lines = [

@@ -125,6 +125,7 @@ fn refusal_12_says_why() {
     }
     for (name, why) in UNUSABLE.iter().chain(&NOT_NEW) {
         on("save", &image, [name, "/dev/null"]).fails(1, &said("it", why));
+        on("record", &image, [name]).fails(1, &said("it", why));
         on("rename", &image, ["ONE", name]).fails(1, &said("the new one", why));
     }
     // Where both are at fault the old one is named, as the library would.

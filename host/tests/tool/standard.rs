@@ -72,7 +72,7 @@ fn a_closed_standard_output_is_an_error() {
 fn a_closed_standard_input_is_an_error() {
     let folder = scene();
     let before = state(&folder.path("disk.mgt"));
-    for line in ["save disk.mgt NEW -", "save disk.mgt NEW - --dry-run"] {
+    for line in ["save disk.mgt NEW -", "save disk.mgt NEW - --dry-run", "record disk.mgt NEW"] {
         redirected(&folder, "<&-", line).fails(3, "varnucht: standard input: it is closed\n");
         redirected(&folder, "0>/dev/null", line).fails(3, "standard input: Bad file descriptor");
     }

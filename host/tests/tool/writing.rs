@@ -83,6 +83,7 @@ fn a_refused_change_writes_nothing() {
     let before = state(&image);
     for words in [
         &["save", "ONE", "/dev/null"][..],
+        &["record", "ONE"],
         &["erase", "NONE"],
         &["rename", "ONE", "TWO"],
         &["hide", "NONE"],

@@ -3,7 +3,7 @@ use super::{Scene, borrowed};
 use crate::disk;
 use crate::pace::Pace;
 use crate::tally::Tally;
-use crate::victim;
+use crate::victim::{self, line};
 use std::path::Path;
 
 impl Scene {
@@ -18,10 +18,10 @@ impl Scene {
         let words: Vec<String> = ["erase".into(), self.path("image")].into_iter().chain(given).collect();
         let words = borrowed(&words);
         let moment = pace.moment(&mut self.draw, sectors.len());
-        let end = victim::kill_at(&words, moment, Path::new(&self.path("image")), sectors[0]);
+        let end = victim::kill_at(line(&words), moment, Path::new(&self.path("image")), sectors[0]);
         let k = self.judge_handful(&new, &sectors, &names);
         tally.count(&end, k, sectors.len());
-        self.again(&words, new, k > 0, true);
+        self.again(line(&words), new, k > 0, true);
         self.bodies.retain(|name, _| !names.contains(name));
         self.make_room(20);
     }

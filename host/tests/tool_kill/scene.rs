@@ -1,12 +1,14 @@
 //! A disk in a file, what is known to be on it, and the rounds: a change by the tool, killed, judged, and made again.
 #[path = "handful.rs"]
 mod handful;
+#[path = "recording.rs"]
+mod recording;
 
 use crate::disk::{self, Change, Wish};
 use crate::draw::Draw;
 use crate::pace::Pace;
 use crate::tally::Tally;
-use crate::victim;
+use crate::victim::{self, Line, line};
 use std::collections::BTreeMap;
 use std::fs;
 use std::path::{Path, PathBuf};
@@ -106,12 +108,18 @@ impl Scene {
 
     /// The tool's words for a save; the body goes to a file.
     fn save_words(&self, wish: &Wish) -> Vec<String> {
+        self.words_of(wish, &["save", &self.path("image"), &self.path("body")])
+    }
+
+    /// The tool's words for a save or a recording: the command and its places but for the name, which is the second.
+    fn words_of(&self, wish: &Wish, places: &[&str]) -> Vec<String> {
         fs::write(self.path("body"), &wish.body).expect("the body is stored");
         let hex = |bytes: &[u8]| bytes.iter().map(|byte| format!("{byte:02x}")).collect::<String>();
         let name = String::from_utf8(wish.name.clone()).expect("a plain name");
         let (kind, page, offset) = (wish.kind.to_string(), wish.page.to_string(), wish.offset.to_string());
         let (exec, info) = (hex(&wish.exec), hex(&wish.info));
-        let places = ["save".to_string(), self.path("image"), name, self.path("body")];
+        let mut places: Vec<String> = places.iter().map(|place| place.to_string()).collect();
+        places.insert(2, name);
         let options = [
             ("--kind", kind),
             ("--page", page),
@@ -133,12 +141,12 @@ impl Scene {
         for _ in 0..3 {
             self.store();
             let start = Instant::now();
-            assert!(victim::run(&["hide", &self.path("image"), &name]).status.success());
+            assert!(victim::run(line(&["hide", &self.path("image"), &name])).status.success());
             short.push(start.elapsed());
             let wish = self.wish(sectors);
             let words = self.save_words(&wish);
             let start = Instant::now();
-            assert!(victim::run(&borrowed(&words)).status.success());
+            assert!(victim::run(line(&borrowed(&words))).status.success());
             long.push(start.elapsed());
         }
         self.store();
@@ -177,8 +185,8 @@ impl Scene {
 
     /// The tool makes the change again, on what the kill left. It does it, or is refused where it was done already; either
     /// way the new disk is there, byte for byte.
-    fn again(&mut self, words: &[&str], new: Vec<u8>, done_already: bool, refused: bool) {
-        let output = victim::run(words);
+    fn again(&mut self, line: Line, new: Vec<u8>, done_already: bool, refused: bool) {
+        let (words, output) = (line.words, victim::run(line));
         let status = if done_already && refused { 1 } else { 0 };
         assert_eq!(
             output.status.code(),
@@ -201,29 +209,29 @@ impl Scene {
         let words = self.save_words(&wish);
         let words = borrowed(&words);
         let moment = pace.moment(&mut self.draw, sectors.len());
-        let end = victim::kill_at(&words, moment, Path::new(&self.path("image")), sectors[0]);
+        let end = victim::kill_at(line(&words), moment, Path::new(&self.path("image")), sectors[0]);
         let k = self.judge(&new, &sectors, &wish.name);
-        let left = self.stored();
-        let (body, free_left) = if k < sectors.len() {
-            (Err(15), free)
-        } else {
-            (Ok(wish.body.clone()), free - size)
-        };
-        assert!(
-            disk::read(&left, &wish.name) == body,
-            "{k} of {}: the new file",
-            sectors.len()
-        );
-        assert_eq!(disk::list(&left).1, free_left, "{k} of {}: free sectors", sectors.len());
+        self.judge_new(&wish, k == sectors.len(), free, size);
         tally.count(&end, k, sectors.len());
         pace.learn(&end, k, sectors.len());
-        self.again(&words, new, k == sectors.len(), true);
+        self.again(line(&words), new, k == sectors.len(), true);
         assert_eq!(
             disk::list(&self.image).1,
             free - size,
             "what the cut save wrote is used again"
         );
         self.bodies.insert(wish.name, wish.body);
+    }
+
+    /// The new file is there and has its sectors, or is not and has none.
+    fn judge_new(&self, wish: &Wish, all: bool, free: usize, size: usize) {
+        let left = self.stored();
+        let (body, free_left) = match all {
+            false => (Err(15), free),
+            true => (Ok(wish.body.clone()), free - size),
+        };
+        assert!(disk::read(&left, &wish.name) == body, "all written: {all}: the new file");
+        assert_eq!(disk::list(&left).1, free_left, "all written: {all}: free sectors");
     }
 
     /// A gather of the first scattered file that can move, killed; where there is none, none.
@@ -236,12 +244,12 @@ impl Scene {
         let image = self.path("image");
         let words = ["gather", &image, &given];
         let moment = pace.moment(&mut self.draw, sectors.len());
-        let end = victim::kill_at(&words, moment, Path::new(&image), sectors[0]);
+        let end = victim::kill_at(line(&words), moment, Path::new(&image), sectors[0]);
         // It reads as it was saved too, wherever its sectors are.
         let k = self.judge(&new, &sectors, b"");
         tally.count(&end, k, sectors.len());
         pace.learn(&end, k, sectors.len());
-        self.again(&words, new, k == sectors.len(), false);
+        self.again(line(&words), new, k == sectors.len(), false);
     }
 
     /// An erase, a rename or a mark, killed.
@@ -262,10 +270,11 @@ impl Scene {
         };
         let (new, sectors) = disk::change(&self.image, &name, &change);
         assert_eq!(sectors.len(), 1);
-        let end = victim::kill_at(&words, pace.short_moment(&mut self.draw), Path::new(&image), sectors[0]);
+        let moment = pace.short_moment(&mut self.draw);
+        let end = victim::kill_at(line(&words), moment, Path::new(&image), sectors[0]);
         let k = self.judge(&new, &sectors, &name);
         tally.count(&end, k, 1);
-        self.again(&words, new, k == 1, matches!(change, Change::Erase | Change::Rename(_)));
+        self.again(line(&words), new, k == 1, matches!(change, Change::Erase | Change::Rename(_)));
         let body = self.bodies.remove(&name).expect("its body");
         match change {
             Change::Erase => assert_eq!(disk::read(&self.image, &name), Err(15)),

@@ -22,22 +22,35 @@ pub struct End {
     pub lived: Duration,
 }
 
-fn tool(words: &[&str]) -> Command {
+/// The tool's words, and the file that is its standard input, if one is.
+#[derive(Clone, Copy)]
+pub struct Line<'a> {
+    pub words: &'a [&'a str],
+    pub input: Option<&'a str>,
+}
+
+/// These words alone.
+pub fn line<'a>(words: &'a [&'a str]) -> Line<'a> {
+    Line { words, input: None }
+}
+
+fn tool(line: Line) -> Command {
     let mut command = Command::new(env!("CARGO_BIN_EXE_varnucht"));
-    command.args(words).stdin(Stdio::null());
+    let input = line.input.map(|path| File::open(path).expect("the input"));
+    command.args(line.words).stdin(input.map_or(Stdio::null(), Stdio::from));
     command
 }
 
 /// Runs the tool to its end.
-pub fn run(words: &[&str]) -> Output {
-    tool(words).output().expect("the tool runs")
+pub fn run(line: Line) -> Output {
+    tool(line).output().expect("the tool runs")
 }
 
 /// Runs the tool until the moment, and kills it then.
-pub fn kill_at(words: &[&str], moment: Moment, image: &Path, first: usize) -> End {
+pub fn kill_at(line: Line, moment: Moment, image: &Path, first: usize) -> End {
     let watched = File::open(image).expect("the image");
     let before = sector(&watched, first);
-    let mut child = tool(words)
+    let mut child = tool(line)
         .stdout(Stdio::null())
         .stderr(Stdio::null())
         .spawn()

@@ -5,7 +5,7 @@ use mathlib.Core.Path.{_≡_, sym, ap, _∙_}
 use native.Mathlib.Omega.{arith}
 use lib.ListN.{length, replicate, length-replicate}
 use Rattle.refusals.specs.Answers.{outcomeOf}
-use Rattle.bytelists.proofs.Changing.{lent-long, lent-of, back-long}
+use Rattle.bytelists.proofs.Lent.{lent-long, lent-of, back-long}
 use Rattle.bytelists.proofs.Handfuls.{counted, erasing-is}
 use borrow.Author.Needs.{needs}
 use Rattle.bytelists.proofs.erase_many.Statement.{statement}

@@ -2,7 +2,7 @@
 use mathlib.Core.Path.{sym, ap, _∙_}
 use native.Mathlib.Omega.{arith}
 use Rattle.refusals.specs.Answers.{outcomeOf}
-use Rattle.bytelists.proofs.Changing.{lent-long, lent-of, back-long}
+use Rattle.bytelists.proofs.Lent.{lent-long, lent-of, back-long}
 use Rattle.bytelists.proofs.Trees.{counted, tree-bytes}
 use borrow.Author.Needs.{needs}
 use Rattle.bytelists.proofs.list_tree.Statement.{statement}

@@ -3,7 +3,8 @@ use mathlib.Core.Path.{sym, ap, _∙_}
 use native.Mathlib.Omega.{arith}
 use Rattle.refusals.specs.Answers.{outcomeOf}
 use Rattle.plans.specs.Change.{save}
-use Rattle.bytelists.proofs.Changing.{lent-long, lent-of, back-long, counted, changing-is}
+use Rattle.bytelists.proofs.Lent.{lent-long, lent-of, back-long}
+use Rattle.bytelists.proofs.Changing.{counted, changing-is}
 use borrow.Author.Needs.{needs}
 use Rattle.bytelists.proofs.save.Statement.{statement}
 use Rattle.bytelists.proofs.save.Tie as tie

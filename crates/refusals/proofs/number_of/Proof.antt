@@ -104,6 +104,9 @@ enum-told-30 c = search needs
 enum-told-31 : tie.Need-enum-told-31
 enum-told-31 c = search needs
 
+enum-told-32 : tie.Need-enum-told-32
+enum-told-32 c = search needs
+
 returns : tie.Need-returns
 returns c = told (c .enum-told .given .1) refl (omega arith)
 
@@ -197,6 +200,9 @@ returns-30 c = told (c .enum-told30 .given .1) refl (omega arith)
 returns-31 : tie.Need-returns-31
 returns-31 c = told (c .enum-told31 .given .1) refl (omega arith)
 
+returns-32 : tie.Need-returns-32
+returns-32 c = told (c .enum-told32 .given .1) refl (omega arith)
+
 pub number-of-spec : {M : Type 1} → statement M
 number-of-spec =
     tie.close
@@ -232,6 +238,7 @@ number-of-spec =
     enum-told-29
     enum-told-30
     enum-told-31
+    enum-told-32
     returns
     returns-2
     returns-3
@@ -262,4 +269,5 @@ number-of-spec =
     returns-28
     returns-29
     returns-30
-    returns-31)
+    returns-31
+    returns-32)

@@ -1,10 +1,8 @@
 -- `saves::save_at` meets its contract: each way out has the tests that led there.
 use mathlib.Core.Path.{refl}
 use denote.Ref.{now}
-use Prim.Native.Nat.{_<_}
-use Rattle.directory.specs.Places.{slots}
 use Rattle.slots.specs.Slot.{sectorsFor}
-use Rattle.saves.proofs.Planned.{place-few, open-long, save-few, save-large, save-short, savable, save-done}
+use Rattle.saves.proofs.Planned.{open-long, save-few, save-large, save-short, savable, save-done}
 use borrow.Author.Needs.{needs}
 use Rattle.saves.proofs.save_at.Statement.{statement}
 use Rattle.saves.proofs.save_at.Tie as tie
@@ -30,17 +28,11 @@ returns-2 : tie.Need-returns-2
 unfolding sectorsFor
 returns-2 c = save-few _ _ _ _ _ _ _ _ _ (c .before .before .before .before .before .before .before .before .before .before .pre) _ (c .before .before .free-of .ensures) (c .before .if2 .taken) _ (c .no2 .ensures)
 
--- the slot is one of the directory's
-
--- the slot is one of the directory's
-slot-few : (c : tie.Else2) → c .before .before .before .before .before .before .before .before .before .args .i < slots
-slot-few c = let s = c .before .before .before .before .before .before .before .before .before in place-few _ _ _ (now (s .args .exec)) (now (s .args .info)) (now (s .args .body)) _ (s .pre .place)
-
 has-old-name-requires : tie.Need-has-old-name-requires
-has-old-name-requires c κs = slot-few (c .before)
+has-old-name-requires c κs = search needs
 
 dir-count-requires : tie.Need-dir-count-requires
-dir-count-requires c κs = slot-few (c .before .before)
+dir-count-requires c κs = search needs
 
 add-named : tie.Need-add-named
 add-named c = search needs

@@ -32,6 +32,9 @@ shared-slice-read-write-sector c = search needs
 cast-write-sector : tie.Need-cast-write-sector Inv-loop μ-loop
 cast-write-sector c = omega (arith, c .shared-slice-known4 .given (c .before .before .before .before .loop .k))
 
+mul-write-sector-2 : tie.Need-mul-write-sector-2 Inv-loop μ-loop
+mul-write-sector-2 c = search needs
+
 write-sector-requires : tie.Need-write-sector-requires Inv-loop μ-loop
 write-sector-requires c κs = search needs
 
@@ -47,7 +50,7 @@ loop-again c =
     let l = w .before .before .before in
     let t = l .before in
     let s = t .before .before .before .before .before .before in
-    chain-more _ _ _ _ _ (t .before .loop .inv) (t .loop-test .taken) (s .pre .1 .small _ (t .loop-test .taken)) _ (l .link-to .ensures) _ (w .write-sector .ensures)
+    chain-more _ _ _ _ _ (t .before .loop .inv) (t .loop-test .taken) (s .pre .small _ (t .loop-test .taken)) _ (l .link-to .ensures) _ (w .write-sector .ensures)
 
 same-length : tie.Need-same-length Inv-loop μ-loop
 same-length c = c .before .loop .inv .long
@@ -67,6 +70,7 @@ write-chain-spec =
     mul-write-sector
     shared-slice-read-write-sector
     cast-write-sector
+    mul-write-sector-2
     write-sector-requires
     add-k
     loop-less

@@ -2,7 +2,7 @@
 use mathlib.Core.Path.{sym}
 use native.Mathlib.Omega.{arith}
 use lib.Seq.{length-take-le}
-use Rattle.saves.proofs.Whole.{front-writable, back-listable, saved-is}
+use Rattle.saves.proofs.Whole.{front-writable, saved-is}
 use borrow.Author.Needs.{needs}
 use Rattle.saves.proofs.write_save.Statement.{statement}
 use Rattle.saves.proofs.write_save.Tie as tie
@@ -23,10 +23,7 @@ to-numbers-requires : tie.Need-to-numbers-requires
 to-numbers-requires c κs = (omega (arith, c .before .before .before .before .before .before .before .before .before .before .before .before .before .before .before .before .before .pre .0 .room), front-writable _ _ _ _ _ _ _ (c .before .before .before .before .before .before .before .before .before .before .before .before .before .before .before .before .before .pre .0) _ (c .before .before .before .before .before .before .before .before .pick-bits .ensures) .bits)
 
 put-dirs-requires : tie.Need-put-dirs-requires
-put-dirs-requires c κs =
-    let t = c .before .before .before in
-    let p = t .before .before .before .before .before .before .before .before .before in
-    back-listable _ _ _ _ _ _ _ (p .before .before .before .before .before .before .before .before .before .pre .0) _ _ _ _ (p .pick-bits .ensures) (t .to-numbers .ensures) _ (omega arith)
+put-dirs-requires c κs = search needs
 
 same-length : tie.Need-same-length
 same-length c = search needs
@@ -41,7 +38,7 @@ returns c =
     let w = t .before .before .before .before in
     let p = w .before .before .before .before .before in
     let r = p .before .before .before .before .before .before .before .before .before .pre .0 in
-    saved-is _ _ _ _ _ _ _ _ _ (r .enough) (r .room) _ _ _ (p .pick-bits .ensures) (w .write-file .ensures) (t .to-numbers .ensures) (l .put-dirs .ensures)
+    saved-is _ _ _ _ _ _ _ _ _ (r .enough) (r .room) _ _ _ (p .pick-bits .ensures) (w .write-file .ensures) (t .to-numbers .ensures) (l .put-dirs .ensures) (r .file .slot) (r .file .next)
 
 pub write-save-spec : {M : Type 1} → statement M
 write-save-spec =

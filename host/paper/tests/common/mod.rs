@@ -1,6 +1,8 @@
 //! Small helps for the tests: disks, wishes, places.
 #![allow(dead_code)]
 
+pub mod recording;
+
 use paper::{Refused, Wish};
 
 pub const IMAGE: usize = 819_200;

@@ -11,6 +11,7 @@ mod handful;
 mod letters;
 mod names;
 mod order;
+mod recording;
 mod release;
 mod slots;
 mod spectrum;

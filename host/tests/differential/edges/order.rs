@@ -103,10 +103,11 @@ fn the_disk_before_the_request() {
     let last = disk.files[2].clone();
     disk.sector_mut(last.chain[0])[0] ^= 1;
     let takes_name = |call: &Call| call.takes().contains(&NAME);
-    for call in calls::CALLS
-        .into_iter()
-        .filter(takes_name)
-        .chain([Call::List, Call::EraseMany])
+    for call in
+        calls::CALLS
+            .into_iter()
+            .filter(takes_name)
+            .chain([Call::List, Call::EraseMany, Call::RecordAdd, Call::RecordClose])
     {
         let left = expect(&Asked::new(call), &disk.image, 11);
         assert_eq!(calls::slot(left.answer), last.slot);

@@ -4,8 +4,10 @@ use super::expect;
 use crate::support::asking::Asked;
 use crate::support::calls::{self, CALLS, Call, NAME, OUT};
 use crate::support::disks::{Disk, File};
+use crate::support::facts::Facts;
 use crate::support::fields;
 use crate::support::geometry::{fills, sectors_for};
+use crate::support::recordings::{self, Recording};
 use crate::support::reports;
 use crate::support::waste;
 
@@ -169,6 +171,11 @@ fn at_two_slots() {
     given(&disk, (10, first.slot), (22, first.slot));
 }
 
+/// A recording on this disk that nothing came to.
+fn recording(image: &[u8]) -> Recording {
+    Recording::of(&super::save(Vec::new()), &Facts::of(image))
+}
+
 /// No other call minds waste sectors.
 #[test]
 fn other_calls_accept_them() {
@@ -188,6 +195,9 @@ fn other_calls_accept_them() {
             Call::Open | Call::Start => Asked::new(call).with(NAME, file.name),
             Call::ReportAdd => Asked::new(call).with(OUT, [0; reports::REPORT]),
             Call::Save => super::save(vec![7; 10]),
+            Call::RecordOpen => recordings::opening(super::save(Vec::new()), vec![0x5c; recordings::LENGTH]),
+            Call::RecordAdd => recording(&disk.image).add(&[7; 10], 0),
+            Call::RecordClose => recording(&disk.image).close(8),
             Call::EraseMany => Asked::new(call)
                 .with(calls::NAMES, file.name)
                 .with(calls::ANSWERS, [0])

@@ -1,7 +1,7 @@
 //! A request to `paper`, on copies of what a call may change.
 
 use super::packed::{Parts, pack};
-use super::{ANSWERS, Call, IMAGE, NAMES, OUT, Request};
+use super::{ANSWERS, Call, IMAGE, NAMES, OUT, RECORD, Request};
 use paper::{Reader, Refused, Wish};
 
 /// What `paper` answers, and what it leaves of the slices that a call may change.
@@ -11,30 +11,33 @@ pub struct Answer {
     pub image: Option<Vec<u8>>,
     pub out: Vec<u8>,
     pub answers: Vec<u8>,
+    pub record: Vec<u8>,
 }
 
 pub fn ask_paper(request: &Request) -> Answer {
-    let [mut out, mut answers] = [OUT, ANSWERS].map(|role| request.slices[role].to_vec());
-    if request.call.is_change() {
-        let mut image = request.slices[IMAGE].to_vec();
-        let sectors = change(request, &mut image, &mut answers, &mut out);
-        return Answer {
-            packed: pack(sectors.map(|sectors| [0, sectors, 0])),
-            image: Some(image),
-            out,
-            answers,
-        };
-    }
-    Answer {
-        packed: pack(look(request, &mut out)),
-        image: None,
-        out,
-        answers,
-    }
+    let lent = |role: usize| request.slices[role].to_vec();
+    let mut answer = Answer {
+        packed: 0,
+        image: request.call.is_change().then(|| lent(IMAGE)),
+        out: lent(OUT),
+        answers: lent(ANSWERS),
+        record: lent(RECORD),
+    };
+    let given = match answer.image.take() {
+        Some(mut image) => {
+            let sectors = change(request, &mut image, &mut answer);
+            answer.image = Some(image);
+            sectors.map(|sectors| [0, sectors, 0])
+        }
+        None => look(request, &mut answer),
+    };
+    answer.packed = pack(given);
+    answer
 }
 
 /// The calls that read.
-fn look(request: &Request, out: &mut [u8]) -> Result<Parts, Refused> {
+fn look(request: &Request, lent: &mut Answer) -> Result<Parts, Refused> {
+    let out = &mut lent.out[..];
     let [image, two, name, ..] = request.slices;
     let [a, b, c] = request.numbers;
     match request.call {
@@ -52,6 +55,7 @@ fn look(request: &Request, out: &mut [u8]) -> Result<Parts, Refused> {
         Call::Tree => paper::tree(image, name, out).map(|slots| [0, slots, 0]),
         Call::Start => paper::start(image, name).map(|address| [0, address as usize, 0]),
         Call::Sector => paper::sector(image, two, a, b, c).map(|place| [0, place, 0]),
+        Call::RecordOpen => paper::record_open(image, &wish(request), &mut lent.record).map(|()| [0, 0, 0]),
         Call::ReportAdd => paper::report_add(image, out).map(|disks| [0, disks, 0]),
         Call::ReportJoin => paper::report_join(out, two).map(|disks| [0, disks, 0]),
         call => unreachable!("{call:?} is a change"),
@@ -64,31 +68,36 @@ fn at(reader: Reader, value: usize) -> Parts {
 }
 
 /// The changes: how many sectors.
-fn change(request: &Request, image: &mut [u8], answers: &mut [u8], list: &mut [u8]) -> Result<usize, Refused> {
-    let [_, _, name, new, exec, info, body, ..] = request.slices;
-    let [kind, page, offset] = request.numbers;
+fn change(request: &Request, image: &mut [u8], lent: &mut Answer) -> Result<usize, Refused> {
+    let [_, _, name, new, _, _, body, ..] = request.slices;
+    let list = &mut lent.out[..];
     match request.call {
-        Call::Save => paper::save(
-            image,
-            &Wish {
-                kind,
-                name,
-                page,
-                offset,
-                exec,
-                info,
-                body,
-            },
-            list,
-        ),
+        Call::Save => paper::save(image, &wish(request), list),
         Call::Erase => paper::erase(image, name, list),
-        Call::EraseMany => paper::erase_many(image, request.slices[NAMES], answers, list),
+        Call::EraseMany => paper::erase_many(image, request.slices[NAMES], &mut lent.answers, list),
         Call::Rename => paper::rename(image, name, new, list),
         Call::Hide => paper::hide(image, name, list),
         Call::Show => paper::show(image, name, list),
         Call::Protect => paper::protect(image, name, list),
         Call::Release => paper::release(image, name, list),
         Call::Gather => paper::gather(image, name, list),
+        Call::RecordAdd => paper::record_add(image, body, &mut lent.record, list),
+        Call::RecordClose => paper::record_close(image, &lent.record, list),
         call => unreachable!("{call:?} changes nothing"),
+    }
+}
+
+/// What a save or a recording asks for.
+fn wish<'a>(request: &Request<'a>) -> Wish<'a> {
+    let [_, _, name, _, exec, info, body, ..] = request.slices;
+    let [kind, page, offset] = request.numbers;
+    Wish {
+        kind,
+        name,
+        page,
+        offset,
+        exec,
+        info,
+        body,
     }
 }

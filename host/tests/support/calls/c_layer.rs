@@ -21,7 +21,7 @@ pub const NOTHING: Part = Part {
 ///
 /// Every part is readable over its length; those that the call changes are writable too and overlap no other.
 pub unsafe fn ask_c(call: Call, numbers: [u32; 3], parts: &[Part; SLICES]) -> u64 {
-    let [image, two, name, new, exec, info, body, out, names, answers] = *parts;
+    let [image, two, name, new, exec, info, body, out, names, answers, record] = *parts;
     let [a, b, c] = numbers;
     let (i, il, n, nl, o, ol) = (image.front, image.length, name.front, name.length, out.front, out.length);
     // Safety: the caller's promise is the one that every call asks.
@@ -63,6 +63,23 @@ pub unsafe fn ask_c(call: Call, numbers: [u32; 3], parts: &[Part; SLICES]) -> u6
             Call::Protect => raw::varnucht_protect(i, il, n, nl, o, ol),
             Call::Release => raw::varnucht_release(i, il, n, nl, o, ol),
             Call::Gather => raw::varnucht_gather(i, il, n, nl, o, ol),
+            Call::RecordOpen => raw::varnucht_record_open(
+                i,
+                il,
+                a,
+                n,
+                nl,
+                b,
+                c,
+                exec.front,
+                exec.length,
+                info.front,
+                info.length,
+                record.front,
+                record.length,
+            ),
+            Call::RecordAdd => raw::varnucht_record_add(i, il, body.front, body.length, record.front, record.length, o, ol),
+            Call::RecordClose => raw::varnucht_record_close(i, il, record.front, record.length, o, ol),
             Call::ReportAdd => raw::varnucht_report_add(i, il, o, ol),
             Call::ReportJoin => raw::varnucht_report_join(o, ol, two.front, two.length),
         }

@@ -32,11 +32,14 @@ pub enum Call {
     Protect,
     Release,
     Gather,
+    RecordOpen,
+    RecordAdd,
+    RecordClose,
     ReportAdd,
     ReportJoin,
 }
 
-pub const CALLS: [Call; 20] = [
+pub const CALLS: [Call; 23] = [
     Call::Check,
     Call::CheckRelease,
     Call::List,
@@ -55,11 +58,15 @@ pub const CALLS: [Call; 20] = [
     Call::Protect,
     Call::Release,
     Call::Gather,
+    Call::RecordOpen,
+    Call::RecordAdd,
+    Call::RecordClose,
     Call::ReportAdd,
     Call::ReportJoin,
 ];
 
-/// The changes that count as one, whole or not at all. Of a handful that is erased each sector does.
+/// The changes that count as one, whole or not at all, and that stand alone. Of a handful that is erased each sector does, and a
+/// recording takes several calls.
 pub const CHANGES: [Call; 8] = [
     Call::Save,
     Call::Erase,
@@ -79,14 +86,17 @@ pub const NAME: usize = 2;
 pub const NEW: usize = 3;
 pub const EXEC: usize = 4;
 pub const INFO: usize = 5;
+/// The body of a save, or a piece of a recording.
 pub const BODY: usize = 6;
 /// The output buffer of list, read, next and tree, the list of sector numbers of a change, the report that is added or joined to.
 pub const OUT: usize = 7;
 /// The names of a handful that is erased, and the answers to them.
 pub const NAMES: usize = 8;
 pub const ANSWERS: usize = 9;
+/// The record of a recording.
+pub const RECORD: usize = 10;
 /// How many slices there are.
-pub const SLICES: usize = 10;
+pub const SLICES: usize = 11;
 pub const ROLES: [&str; SLICES] = [
     "image",
     "second image or report",
@@ -98,11 +108,12 @@ pub const ROLES: [&str; SLICES] = [
     "output",
     "names",
     "answers",
+    "record",
 ];
 
 impl Call {
     pub fn is_change(self) -> bool {
-        CHANGES.contains(&self) || self == Call::EraseMany
+        CHANGES.contains(&self) || matches!(self, Call::EraseMany | Call::RecordAdd | Call::RecordClose)
     }
 
     /// Whether this call refuses no directory: what a damaged one holds makes no difference to its refusal.
@@ -137,6 +148,9 @@ impl Call {
             Call::Save => &[IMAGE, NAME, EXEC, INFO, BODY, OUT],
             Call::Rename => &[IMAGE, NAME, NEW, OUT],
             Call::EraseMany => &[IMAGE, NAMES, ANSWERS, OUT],
+            Call::RecordOpen => &[IMAGE, NAME, EXEC, INFO, RECORD],
+            Call::RecordAdd => &[IMAGE, BODY, RECORD, OUT],
+            Call::RecordClose => &[IMAGE, RECORD, OUT],
             Call::ReportAdd => &[IMAGE, OUT],
             Call::ReportJoin => &[TWO, OUT],
             _ => &[IMAGE, NAME, OUT],
@@ -145,7 +159,12 @@ impl Call {
 
     /// Whether this call may change that slice.
     pub fn changes(self, role: usize) -> bool {
-        matches!(role, OUT | ANSWERS) || role == IMAGE && self.is_change()
+        match role {
+            OUT | ANSWERS => true,
+            IMAGE => self.is_change(),
+            RECORD => self != Call::RecordClose,
+            _ => false,
+        }
     }
 }
 
@@ -153,7 +172,7 @@ impl Call {
 #[derive(Clone, Copy)]
 pub struct Request<'a> {
     pub call: Call,
-    /// Save: kind, start page, offset. Sector: drive, track, sector. Next: sector, offset, left.
+    /// Save and record open: kind, start page, offset. Sector: drive, track, sector. Next: sector, offset, left.
     pub numbers: [u32; 3],
     pub slices: [&'a [u8]; SLICES],
 }

@@ -1,0 +1,4 @@
+pub mod Slot
+pub mod KeptSlot
+pub mod Dirs
+pub mod Laws

@@ -1,0 +1,5 @@
+pub mod Clear
+pub mod Sectors
+pub mod Longer
+pub mod Blocks
+pub mod Settle

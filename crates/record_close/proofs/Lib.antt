@@ -1,0 +1,3 @@
+pub mod Ends
+pub mod Whole
+pub mod Planned

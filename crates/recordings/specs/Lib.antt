@@ -1,0 +1,5 @@
+pub mod Recording
+pub mod Closed
+pub mod Record
+pub mod Refused
+pub mod Calls
