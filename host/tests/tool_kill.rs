@@ -1,6 +1,6 @@
 //! Kills the tool in the middle of saves, recordings and gathers, many times, at drawn moments. The image left is accepted each
 //! time, shows the old files or the new, and takes the change again. Where it erases several files those of the sectors written
-//! are gone.
+//! are gone. A journey goes over one image through all kills, beside a ledger.
 //! `VARNUCHT_KILLS` is how many saves to kill, `VARNUCHT_SEED` what is drawn.
 //!
 //! A sector is written in one call of 512 bytes, which a kill cannot tear: the disk left is held to whole sectors.
@@ -19,8 +19,13 @@ mod tally;
 mod victim;
 
 use scene::Scene;
+use scene::journey::Journey;
 use std::env;
+use std::sync::{Mutex, PoisonError};
 use tally::Tally;
+
+/// One test at a time: the moments of the kills are measured, and the folder is one.
+static TURN: Mutex<()> = Mutex::new(());
 
 /// A number from the environment, or the usual one.
 fn number(name: &str, usual: usize) -> usize {
@@ -31,6 +36,7 @@ fn number(name: &str, usual: usize) -> usize {
 
 #[test]
 fn a_killed_tool_leaves_the_old_files_or_the_new() {
+    let _turn = TURN.lock().unwrap_or_else(PoisonError::into_inner);
     let kills = number("VARNUCHT_KILLS", 120);
     let mut scene = Scene::new(number("VARNUCHT_SEED", 1) as u64);
     let mut pace = scene.measure();
@@ -68,4 +74,27 @@ fn a_killed_tool_leaves_the_old_files_or_the_new() {
     );
     assert!(gathers.kills() >= kills / 5, "too few gathers were killed: {gathers}");
     assert!(saves.middle >= kills / 5, "too few kills fell between two writes: {saves}");
+}
+
+#[test]
+fn a_journey_through_kills_goes_as_the_ledger_says() {
+    let _turn = TURN.lock().unwrap_or_else(PoisonError::into_inner);
+    let kills = number("VARNUCHT_KILLS", 120);
+    let mut journey = Journey::new(number("VARNUCHT_SEED", 1) as u64);
+    let (mut pace, mut changes) = (journey.measure(), Tally::default());
+    while changes.kills() < kills {
+        assert!(
+            changes.rounds < 4 * kills + 20,
+            "too few runs were still there to kill: {changes}"
+        );
+        journey.round(&mut pace, &mut changes);
+        if changes.rounds % 16 == 0 {
+            journey.refused_round();
+        }
+    }
+    println!("a journey: {changes}");
+    assert!(
+        changes.middle >= kills / 8,
+        "too few kills fell between two writes: {changes}"
+    );
 }

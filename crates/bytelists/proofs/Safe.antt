@@ -35,7 +35,7 @@ put-back b ss h =
     ap (λ (y : List ℕ). take (length ss) (numbersIn y)) e ∙ pairs-back ss (drop (length x) (put b 0 x))
 
 -- by what it is run with
-asking-is : (a : Ask) (d b : List ℕ) → asking a d b ≡ changingBy (ran a d (length b / 2)) d b
+pub asking-is : (a : Ask) (d b : List ℕ) → asking a d b ≡ changingBy (ran a d (length b / 2)) d b
 unfolding changing erasing
 asking-is (single c) d b = refl
 asking-is (piece r x) d b = refl

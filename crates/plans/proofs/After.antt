@@ -246,10 +246,10 @@ kind-bits protect x = omega arith
 kind-bits release x = omega arith
 
 -- a known kind leaves the slot live
-known-some : (j : ℕ) → Known j → 1 ≤ j
+pub known-some : (j : ℕ) → Known j → 1 ≤ j
 known-some j h = ⊎-elim (λ p. p .0) (λ p. let q : 16 ≤ j = p .0 in omega arith) h
 
-marked-some : (k : Mark) (x : ℕ) → 1 ≤ x % 64 → marked k x ≡ 0 → ⊥
+pub marked-some : (k : Mark) (x : ℕ) → 1 ≤ x % 64 → marked k x ≡ 0 → ⊥
 marked-some k x h e = omega (arith, kind-bits k x)
 
 -- the first byte of the slot found, on the disk

@@ -102,6 +102,14 @@ released-of d ok new ss finds s unseen after k h =
 
 -- ---- every change
 
+-- before the last sector nothing is seen to change
+pub change-unseen : (c : Change) (d : List ℕ) (room : ℕ) (new ss : List ℕ) → checkDisk d ≡ none → run c d room ≡ made new ss
+    → (k : ℕ) → k < length ss → look (cut d new ss k) ≡ look d
+change-unseen c d room new ss ok e k =
+    let m = run-made c d room new ss ok e in
+    subst₂ (λ (n s : List ℕ). k < length s → look (cut d n s k) ≡ look d) (m .disk) (m .named)
+    (unseen (finds c) d ok (m .steps) (sure c d (m .steps) (disk-sound d ok) (m .planned)) k)
+
 module _ (d : List ℕ) (ok : checkRelease d ≡ none) (room : ℕ) (new ss : List ℕ) where
   first : checkDisk d ≡ none
   first = release-accepts d ok
@@ -154,13 +162,6 @@ module _ (d : List ℕ) (ok : checkRelease d ≡ none) (room : ℕ) (new ss : Li
   pub change-released : (c : Change) → run c d room ≡ made new ss → checkRelease new ≡ none
   change-released c e = release-exactly new .1 (change-accepted c d room new ss first e, change-lean c e)
 
-  -- before the last sector nothing is seen to change
-  cut-look : (c : Change) → run c d room ≡ made new ss → (k : ℕ) → k < length ss → look (cut d new ss k) ≡ look d
-  cut-look c e k =
-      let m = run-made c d room new ss first e in
-      subst₂ (λ (n s : List ℕ). k < length s → look (cut d n s k) ≡ look d) (m .disk) (m .named)
-      (unseen (finds c) d first (m .steps) (sure c d (m .steps) (disk-sound d first) (m .planned)) k)
-
   -- and every cut of it
   pub cut-released : (c : Change) → run c d room ≡ made new ss → (k : ℕ) → k ≤ length ss → checkRelease (cut d new ss k) ≡ none
-  cut-released c e = released-of d ok new ss (finds c) (crash c d room new ss first e) (cut-look c e) (change-lean c e)
+  cut-released c e = released-of d ok new ss (finds c) (crash c d room new ss first e) (change-unseen c d room new ss first e) (change-lean c e)

@@ -21,6 +21,7 @@
 //! - `record`: the bytes that are kept of a recording
 //! - `recording`: save while recording
 //! - `report`: a shelf of disks in numbers
+//! - `ledger`: a plain ledger of slots, in which changes are entered
 //! - `refusal`: the numbers of refusal
 
 mod calls;
@@ -30,6 +31,7 @@ mod erase_many;
 mod extent;
 mod gather;
 mod geometry;
+mod ledger;
 mod map;
 mod name;
 mod names;
@@ -47,6 +49,7 @@ pub use calls::{Listed, check, check_release, list, read, sector, start};
 pub use changes::{erase, hide, protect, release, rename, show};
 pub use erase_many::erase_many;
 pub use gather::gather;
+pub use ledger::{Change, Ledger, Mark};
 pub use pieces::{Reader, next, open};
 pub use record::RECORD_BYTES;
 pub use recording::{record_add, record_close, record_open};

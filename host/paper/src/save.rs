@@ -221,7 +221,7 @@ fn write_slot(image: &mut Image, place: &Place, file: &Particulars, map: &Map) {
 
 /// The bytes of slot 1 that are about the disk and not about a file: its name, its random word, and the number of its
 /// directory tracks beyond four.
-const KEPT: [std::ops::RangeInclusive<usize>; 3] = [210..=219, 252..=253, 255..=255];
+pub const KEPT: [std::ops::RangeInclusive<usize>; 3] = [210..=219, 252..=253, 255..=255];
 
 /// The first bytes, up to a number of them.
 fn at_most(bytes: &[u8], most: usize) -> &[u8] {

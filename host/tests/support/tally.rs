@@ -49,6 +49,10 @@ impl Tally {
         self.0[call as usize][usize::from(number)] += 1;
     }
 
+    pub fn times(&self, call: Call, number: u8) -> usize {
+        self.0[call as usize][usize::from(number)]
+    }
+
     pub fn requests(&self) -> usize {
         self.0.iter().flatten().sum()
     }

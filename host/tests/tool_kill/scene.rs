@@ -1,6 +1,8 @@
 //! A disk in a file, what is known to be on it, and the rounds: a change by the tool, killed, judged, and made again.
 #[path = "handful.rs"]
 mod handful;
+#[path = "journey.rs"]
+pub mod journey;
 #[path = "recording.rs"]
 mod recording;
 

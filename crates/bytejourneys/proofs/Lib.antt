@@ -1,0 +1,5 @@
+pub mod Left
+pub mod Reading
+pub mod Got
+pub mod Journey
+pub mod Recorded

@@ -1,0 +1,11 @@
+pub mod Alike
+pub mod Entries
+pub mod Along
+pub mod Reading
+pub mod Releasing
+pub mod Refusing
+pub mod Entering
+pub mod Closed
+pub mod Handfuls
+pub mod Ticking
+pub mod Journey

@@ -1,0 +1,4 @@
+pub mod Ledger
+pub mod Entered
+pub mod Journey
+pub mod Answers
