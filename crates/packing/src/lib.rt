@@ -30,7 +30,7 @@ pub fn pack_place(sector: usize, value: usize, offset: usize) -> u64
         + 281474976710656 * (offset % 65536) as u64
 }
 
-// The verdict of a check; 0 of a accepted disk.
+// The verdict of a check; 0 of an accepted disk.
 pub fn pack_verdict(v: Verdict) -> u64
     ensures { λ r. ⌜ r ≡ clipped (checkOutcome (replyOf v)) ⌝ }
 {

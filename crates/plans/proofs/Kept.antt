@@ -92,7 +92,7 @@ accepted-long d w = sym (view-long d) ∙ w .long
 pub tracks-view : (d e : List ℕ) → view d ≡ view e → tracksOf d ≡ tracksOf e
 tracks-view d e q = sym (view-extra d) ∙ ap viewTracks q ∙ view-extra e
 
--- no file of a accepted disk has a bit inside the directory
+-- no file of an accepted disk has a bit inside the directory
 pub accepted-data : (d : List ℕ) → AcceptedDisk (view d) → AllData d
 unfolding fileOf
 accepted-data d w j s e b m =

@@ -119,7 +119,7 @@ module _ (f : File) (bs : List ℕ) (long : length (f .bytes) ≡ 256) where
             ∙ placed-map bs;
       }
 
--- ---- on free bits of a accepted disk
+-- ---- on free bits of an accepted disk
 
 -- a file of another kind than 21 has sectors
 pub has-sectors : (d : List ℕ) → AcceptedDisk (view d) → (i : ℕ) (f : File) → view d .files i ≡ some f → (kindOf (f .bytes) ≡ 21 → ⊥) → HasSectors f
