@@ -1,12 +1,12 @@
 /* Varnucht: disk images of the SAM Coupé. Check a disk, list it, read a file's body, whole or piece by piece, give its start
  * address, tell what lies beneath a subdirectory, find a raw sector; save, erase, rename, hide, show, protect and release
- * files, erase a handful at once, gather a scattered one, save while recording; count a shelf of disks. C99 and C++. Link
+ * files, erase many at once, gather a scattered one, save while recording; count a shelf of disks. C99 and C++. Link
  * libvarnucht.a.
  *
  * Contents: 1 what a call takes and answers, 2 sizes, 3 refusals, 4 the calls that read, 5 the calls that change, and how
  * to write what they changed, 6 reading a listing, and what a disk says of itself, 7 names and kinds, 8 what is proved and
  * where it runs. A whole program stands in examples/tunes.c, one that reads piece by piece in examples/play.c, one that saves
- * while it records in examples/record.c, and one that counts a shelf of disks in examples/shelf.c.
+ * while it records in examples/record.c, and one that counts a shelf of disks in examples/report.c.
  *
  *
  * 1. WHAT A CALL TAKES AND ANSWERS
@@ -107,7 +107,7 @@ enum varnucht_size {
 
 /* 3. REFUSALS, in the words of the rules (document 01), in the order in which they are tested: 1 first; then 24; then 2 to
  * 9 at every live slot, the lowest slot first and at a slot the lowest number; then 10, 11 and 25 likewise; then the lowest
- * that applies of 12 to 20. So 12 to 20 say that the disk itself is good. varnucht_check_release alone tests 22 too,
+ * that applies of 12 to 20. So 12 to 20 say that the disk itself is accepted. varnucht_check_release alone tests 22 too,
  * directly after 7 at a slot. varnucht_tree alone tests 26 at every live slot, the lowest slot first, and then 27 and 28
  * likewise; both come before 12 to 20. varnucht_erase alone tests 29, after 17 and before 20, and varnucht_gather alone 32,
  * after 15 and before 20. varnucht_erase_many tests 23 and then 20, and of each name 12, 15, 17 and 29, which it answers
@@ -121,7 +121,7 @@ enum varnucht_size {
  * and with 17 and 29. With all others, 13 and 14 of varnucht_save and of a recording too, it is 0. */
 enum varnucht_reason {
     VARNUCHT_ACCEPTED = 0,
-    /* The disk is not good. Every call can give these, 24 and 25 but varnucht_sector, which can give 1, varnucht_next, and
+    /* The disk is not accepted. Every call can give these, 24 and 25 but varnucht_sector, which can give 1, varnucht_next, and
        the calls on reports. */
     VARNUCHT_NOT_AN_IMAGE = 1,          /* the image is not 819,200 bytes */
     VARNUCHT_KIND_UNKNOWN = 2,          /* the kind is not known (1 to 12 and 16 to 23 are) */
@@ -138,7 +138,7 @@ enum varnucht_reason {
                                            back to one already passed, or a last link that is not 0, 0 */
     VARNUCHT_HEADER_DIFFERS = 11,       /* carried kind, and the header's first byte, remainder or pages differ from the
                                            slot's kind, remainder, pages */
-    /* The request is not good, or cannot be met. Each call says which of these it can give. */
+    /* The request is not usable, or cannot be met. Each call says which of these it can give. */
     VARNUCHT_NAME_NOT_USABLE = 12,      /* the name is not usable: section 7 */
     VARNUCHT_WRONG_KIND = 13,           /* the kind asked for (save, record: 16 to 20) or found (read, open, start: 16 to 20
                                            and 1 to 4; tree: 21; gather: any but 21) is not one that this call takes */
@@ -156,9 +156,9 @@ enum varnucht_reason {
     /* The disk is not fit to go out. */
     VARNUCHT_WASTE_SECTORS = 22,        /* carried kind, and the count is above the least that its length needs: the least n
                                            with 510 * n at least 9 + length (varnucht_check_release alone) */
-    /* The names of a handful are not ten bytes each. */
+    /* The names to varnucht_erase_many are not ten bytes each. */
     VARNUCHT_NAMES_NOT_TENS = 23,       /* the names are not a whole number of tens (varnucht_erase_many alone) */
-    /* The disk is not good, as with 1 to 11; the same calls can give these, but varnucht_sector. */
+    /* The disk is not accepted, as with 1 to 11; the same calls can give these, but varnucht_sector. */
     VARNUCHT_TRACKS_OUT_OF_RANGE = 24,  /* the number of directory tracks beyond four, byte 255 of slot 1, is 36 to 254 */
     VARNUCHT_BODY_TOO_LONG = 25,        /* kind 1 to 4, and 510 * count is below 9 + the length in the file's header */
     /* The subdirectories of the disk do not fit together (varnucht_tree alone). Every other call takes such a disk still. */
@@ -233,12 +233,12 @@ static inline const char *varnucht_words(unsigned refusal) {
  * refused 1, but not by varnucht_next, which refuses nothing, nor by varnucht_report_add, which counts it. A name has 1 to 10
  * bytes (section 7). What a call does not fill of `out` or `slots` stays as it was. */
 
-/* Whether the disk is good. Its directory up to its end, sector maps and chains agree exactly when this accepts. Value: 0.
+/* Whether the disk is accepted. Its directory up to its end, sector maps and chains agree exactly when this accepts. Value: 0.
  * Refusals: 1 to 11, 24, 25. */
 uint64_t varnucht_check(const uint8_t *image, varnucht_length image_len);
 
-/* Whether the disk is good and fit to go out: no file of a carried kind has waste sectors behind it, where old texts hide. A
- * file has them where its count is above the least that its length needs. Every other call accepts such a disk still.
+/* Whether the disk is accepted and fit to go out: no file of a carried kind has waste sectors behind it, where old texts hide.
+ * A file has them where its count is above the least that its length needs. Every other call accepts such a disk still.
  * Value: 0. Refusals: 1 to 11, 22, 24, 25. Stack: 1,592 bytes. */
 uint64_t varnucht_check_release(const uint8_t *image, varnucht_length image_len);
 
@@ -457,7 +457,7 @@ uint64_t varnucht_save(uint8_t *image, varnucht_length image_len, uint32_t kind,
 uint64_t varnucht_erase(uint8_t *image, varnucht_length image_len, const uint8_t *name, varnucht_length name_len,
                         uint8_t *list, varnucht_length list_len);
 
-/* Erases a handful of files at once: those of the names, one after the other, as varnucht_erase does. The disk is checked
+/* Erases many files at once: those of the names, one after the other, as varnucht_erase does. The disk is checked
  * once for all of them.
  *   names     any number of names, none too, of ten bytes each, laid end to end; fill a shorter one with spaces (32)
  *   answers   gets a byte for each name, in their order: 0 where its file is erased, else the number that varnucht_erase
@@ -528,9 +528,9 @@ uint64_t varnucht_gather(uint8_t *image, varnucht_length image_len, const uint8_
  *
  * The disk may be changed in between, and two recordings may be open at once. Where that gave sectors to others, or took
  * what was recorded already, the next call is refused 30, and so it is where sectors of a piece were not written, unless an
- * erased file left the same links in them: open a new recording then. Where it is not refused, the close leaves a good disk
- * and alters no other file; the file then reads as its sectors do. So if a change in between wrote into them and gave them
- * back, the bytes there are that change's.
+ * erased file left the same links in them: open a new recording then. Where it is not refused, the close leaves an accepted
+ * disk and alters no other file; the file then reads as its sectors do. So if a change in between wrote into them and gave
+ * them back, the bytes there are that change's.
  *
  * A refused call leaves the record as it was, and a close never changes it: a close whose writing was stopped can be made
  * again. Of a record that was not made by these calls alone no more is promised than that each call answers, and that a

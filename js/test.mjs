@@ -15,7 +15,7 @@ const code = (name, body) => ({ kind: Kind.CODE, name, start: START, body });
 const bytes = (length, seed = 1) => Uint8Array.from({ length }, (_, i) => (seed + i * 7 + (i >> 8)) & 255);
 const chunks = (body, length) => Array.from({ length: Math.ceil(body.length / length) }, (_, i) => body.subarray(i * length, (i + 1) * length));
 // All that is seen of an image: what the directory says of each file, and its body.
-const look = (image) => {
+const view = (image) => {
   const opened = varnucht.open(image);
   const said = opened.listing.entries.map((entry) => [...entry.bytes, ...opened.read(entry.name)]);
   opened.close();
@@ -165,11 +165,11 @@ const tests = {
     ];
     changes.forEach((change, which) => {
       const copy = disk.image;
-      const before = look(copy);
+      const before = view(copy);
       const sectors = [...change(disk)];
       assert.equal(which === changes.length - 1, sectors.length === 0);
       sectors.forEach(({ place, bytes: written, number, track, sector }, i) => {
-        assert.equal(look(copy), before);
+        assert.equal(view(copy), before);
         assert.deepEqual([place, module.sectorNumber(track, sector), written.length], [512 * number, number, 512]);
         copy.set(written, place);
         if (i + 1 === sectors.length) assert.notEqual(copy, before);
@@ -363,7 +363,7 @@ const tests = {
     assert.equal(String(name), 'TUNES');
   },
 
-  'trees, handfuls, starts and the disk\'s name'() {
+  'trees, many erased at once, starts and the disk\'s name'() {
     const image = blank(20);
     image.set(new TextEncoder().encode('MAGAZINE 7'), 210);
     for (const [slot, name, kind, parent] of [[0, 'GAMES', 7, 0], [1, 'ARCADE', 8, 7], [2, 'MUSIC', 9, 0]]) {
@@ -442,7 +442,7 @@ const tests = {
   },
 
   'pieces make the disk of one save, and nothing is seen of them before the close'() {
-    const before = look(sample);
+    const before = view(sample);
     for (const length of [0, 1, 501, 502, 1011, 1012, 5000]) {
       const saved = varnucht.open(sample);
       const numbers = saved.save(code('TUNE', bytes(length))).numbers;
@@ -458,7 +458,7 @@ const tests = {
         const inner = chunks(bytes(length), piece).flatMap((part) => write(recording.add(part)));
         write(recording.add(new ArrayBuffer(0)));
         assert.equal(disk.listing, listing);
-        assert.equal(look(store), before);
+        assert.equal(view(store), before);
         const kept = recording.bytes;
         const closing = recording.close();
         const ends = write(closing);
@@ -502,17 +502,17 @@ const tests = {
     refused(14, null, () => disk.record({ ...code('A'), start: { page: 0, offset: 49152 } }));
     refused(16, 1, () => disk.record(code('tunes')));
     for (const bad of [undefined, null, 'AAA', 7, {}, [1, 2], new Uint16Array(1024)]) {
-      assert.throws(() => disk.goOn(bad), TypeError);
+      assert.throws(() => disk.resume(bad), TypeError);
       assert.throws(() => disk.record(code('A')).add(bad), TypeError);
     }
-    for (const length of [0, RECORD_LENGTH - 1, RECORD_LENGTH + 1]) assert.throws(() => disk.goOn(new Uint8Array(length)), RangeError);
+    for (const length of [0, RECORD_LENGTH - 1, RECORD_LENGTH + 1]) assert.throws(() => disk.resume(new Uint8Array(length)), RangeError);
     assert.throws(() => disk.record({ ...code('A'), kind: 1.5 }), RangeError);
     // Any bytes may be handed over as a record: each call answers, and a refused one changes nothing.
-    refused(30, null, () => disk.goOn(new ArrayBuffer(RECORD_LENGTH)).add(bytes(3)));
-    refused(30, null, () => disk.goOn(bytes(RECORD_LENGTH)).close());
+    refused(30, null, () => disk.resume(new ArrayBuffer(RECORD_LENGTH)).add(bytes(3)));
+    refused(30, null, () => disk.resume(bytes(RECORD_LENGTH)).close());
     const nameless = disk.record(code('A')).bytes;
     nameless[12] = 0;
-    refused(12, null, () => disk.goOn(nameless).close());
+    refused(12, null, () => disk.resume(nameless).close());
     assert.deepEqual(disk.image, was);
     for (let i = 0; i < 79; i++) disk.save(code(`FILE${i}`, bytes(1)));
     refused(18, null, () => disk.record(code('A')));
@@ -572,11 +572,11 @@ const tests = {
       const disk = varnucht.open(blank());
       const recording = disk.record(code('TUNE'));
       recording.add(bytes(2300));
-      refused(30, null, () => varnucht.open(blank()).goOn(recording.bytes).close());
+      refused(30, null, () => varnucht.open(blank()).resume(recording.bytes).close());
       const old = varnucht.open(blank());
       old.save(code('OLD', bytes(2300, 5)));
       old.erase('OLD');
-      old.goOn(recording.bytes).close();
+      old.resume(recording.bytes).close();
       assert.deepEqual(old.read('TUNE').subarray(501, 2031), bytes(2300, 5).subarray(501, 2031));
     }
     { // Two at once have the same sectors; the one that closes has them.
@@ -597,7 +597,7 @@ const tests = {
     const expected = varnucht.open(blank()); // where no old file left a link
     expected.save(code('ONE', bytes(700)));
     const old = expected.image;
-    const before = look(old);
+    const before = view(old);
     expected.save(code('TUNE', bytes(2900)));
     for (let room = 0; room <= 7; room++) {
       const store = old.slice();
@@ -618,11 +618,11 @@ const tests = {
       assert.equal(piece.length, 3);
       if (room < 3) await cut(piece, room, /^\d of 3 sectors were written, and then: full\. All files are there as before; the recording cannot go on$/);
       else await piece.writeTo(write);
-      assert.equal(look(store), before);
+      assert.equal(view(store), before);
       // The rest by the bytes that were kept, on a disk that was opened anew.
       const anew = varnucht.open(store);
       const kept = recording.bytes;
-      const rest = anew.goOn(kept);
+      const rest = anew.resume(kept);
       if (room < 3) {
         refused(30, null, () => rest.add(bytes(2900).subarray(2300)));
         refused(30, null, () => rest.close());
@@ -634,7 +634,7 @@ const tests = {
         assert.deepEqual(kept, recording.bytes); // it goes on with a copy
         if (room < 4) await cut(last, 0, /the recording cannot go on$/);
         else await last.writeTo(write);
-        assert.equal(look(store), before);
+        assert.equal(view(store), before);
         const closing = rest.close();
         if (room === 3) await assert.rejects(closing.writeTo(write), /not written whole/);
         else if (room < 7) await cut(closing, room - 4, room < 6 ? /reads as before$/ : /The directory's sector was the one that failed/);
@@ -642,8 +642,8 @@ const tests = {
         assert.deepEqual(anew.image, expected.image);
         // A close that was stopped is made again, from what is stored.
         if (room > 3) {
-          const again = room < 7 ? varnucht.open(store).goOn(rest.bytes).close() : [];
-          if (room < 7) assert.equal(look(store), before);
+          const again = room < 7 ? varnucht.open(store).resume(rest.bytes).close() : [];
+          if (room < 7) assert.equal(view(store), before);
           for (const { place, bytes: written } of again) store.set(written, place);
           assert.deepEqual(store, expected.image);
         }
@@ -654,7 +654,7 @@ const tests = {
     expected.close();
   },
 
-  'a report counts a shelf'() {
+  'a report counts disks'() {
     const report = varnucht.report();
     const disk = varnucht.open(blank());
     disk.save(code('TUNES', bytes(1000)));

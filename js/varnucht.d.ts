@@ -317,7 +317,7 @@ export class Reader {
  * call is refused 30: open a new one then.
  */
 export class Recording {
-  /** Its record, 2,048 bytes however long it is, to be kept: {@link Disk.goOn} takes it. */
+  /** Its record, 2,048 bytes however long it is, to be kept: {@link Disk.resume} takes it. */
   readonly bytes: Uint8Array;
   /**
    * Adds a piece of any length. Each sector after the first is to be written when a byte beyond it has come, so that often there is
@@ -371,7 +371,7 @@ export class Disk {
   /** Opens a recording of a file. Nothing is changed. Refused as a save with an empty body is. */
   record(file: Particulars): Recording;
   /** Goes on with a recording by its {@link Recording.bytes}, also after the disk was opened anew from where it is stored. */
-  goOn(record: Uint8Array | ArrayBuffer): Recording;
+  resume(record: Uint8Array | ArrayBuffer): Recording;
   /** Erases a file, or a directory that nothing is in. Refused 12, 15, 17 and 29. */
   erase(name: NameLike): Sectors;
   /** Erases the files of these names, one after the other. For each: null where it is done, or why not (15, 17, 29). */

@@ -14,7 +14,7 @@ export const RECORD_LENGTH = 2048;
 export const MOST_DISKS = 65535;
 
 const ENTRY_LENGTH = 258;
-const TREE_LENGTH = 2 * 778;
+const TREE_LIST_LENGTH = 2 * 778;
 const LIST_LENGTH = 2 * (DATA_SECTORS + 2); // enough for every change
 
 // ---- Refusals
@@ -631,15 +631,15 @@ export class WriteError extends Error {
 }
 
 // What a sector is to the disk that is stored.
-const WHOLE = 'whole'; // the last one makes the change
-const APART = 'apart'; // each is a change of its own
-const UNSEEN = 'unseen'; // none changes anything that is seen
+const WHOLE_CHANGE = 'whole change'; // the last one makes the change
+const EACH_SECTOR = 'each sector'; // each is a change of its own
+const INVISIBLE = 'invisible'; // none changes anything that is seen
 
-const stopped = (written, of, parts, cause) => {
+const stopped = (written, of, unit, cause) => {
   let then = 'The old disk is still there and reads as before';
-  if (parts === UNSEEN) {
+  if (unit === INVISIBLE) {
     then = 'All files are there as before; the recording cannot go on';
-  } else if (parts === APART) {
+  } else if (unit === EACH_SECTOR) {
     then = 'The files erased in those are gone, and all others are still there; but the sector that failed may hold the old bytes or the new: check the disk';
   } else if (written + 1 >= of) {
     then = "The directory's sector was the one that failed, and may hold the old bytes or the new: check the disk";
@@ -649,14 +649,14 @@ const stopped = (written, of, parts, cause) => {
 
 export class Sectors {
   #sectors;
-  #turn;
-  #parts;
+  #order;
+  #unit;
 
-  // turn: where this change stands among those of its disk.
-  constructor(sectors, turn, parts) {
+  // order: where this change stands among those of its disk.
+  constructor(sectors, order, unit) {
     this.#sectors = sectors;
-    this.#turn = turn;
-    this.#parts = parts;
+    this.#order = order;
+    this.#unit = unit;
   }
 
   get numbers() {
@@ -674,8 +674,8 @@ export class Sectors {
   async writeTo(write, progress = () => {}) {
     const of = this.length;
     if (of === 0) return;
-    if (this.#turn.written()) throw new WriteError('nothing was written, because these sectors are written already', 0, of);
-    if (this.#turn.skips()) {
+    if (this.#order.written()) throw new WriteError('nothing was written, because these sectors are written already', 0, of);
+    if (this.#order.skips()) {
       throw new WriteError(
         'nothing was written, because an earlier change of this disk was not written whole. Open the disk anew from where it is stored', 0, of);
     }
@@ -684,11 +684,11 @@ export class Sectors {
       try {
         await write(place, bytes, number);
       } catch (cause) {
-        throw stopped(written, of, this.#parts, cause);
+        throw stopped(written, of, this.#unit, cause);
       }
       progress(++written, of);
     }
-    this.#turn.done();
+    this.#order.done();
   }
 }
 
@@ -754,7 +754,7 @@ export class Recording {
 // ---- Disks
 
 // A file to save or to record, as the library is asked for it.
-const wishOf = ({ kind, name, start, execution = [255, 255, 255], information = [] }) => {
+const requestOf = ({ kind, name, start, execution = [255, 255, 255], information = [] }) => {
   const { page, offset } = start;
   return [kind, newNameOf(name), page, offset, Uint8Array.from(execution), Uint8Array.from(information)];
 };
@@ -767,8 +767,8 @@ export class Disk {
   #at; // where its image lies in the library's memory
   #listing;
   #changes = 0; // of what is seen
-  #turns = 0; // all that is to be written: these changes, and pieces of recordings
-  #stored = 0; // how many of the turns were written whole
+  #writes = 0; // all that is to be written: these changes, and pieces of recordings
+  #stored = 0; // how many of these writes are done whole
 
   constructor(library, image) {
     const bytes = bytesOf(image, 'an image');
@@ -890,7 +890,7 @@ export class Disk {
   }
 
   tree(name) {
-    const slots = new Uint8Array(TREE_LENGTH);
+    const slots = new Uint8Array(TREE_LIST_LENGTH);
     const asked = name === undefined || name === null ? new Uint8Array(0) : nameOf(name);
     const many = this.#ask('tree', asked, slots).value;
     const bySlot = new Map(this.#listing.entries.map((entry) => [entry.slot, entry]));
@@ -898,18 +898,18 @@ export class Disk {
   }
 
   save(file) {
-    return this.#change('save', ...wishOf(file), bytesOf(file.body, 'a body'));
+    return this.#change('save', ...requestOf(file), bytesOf(file.body, 'a body'));
   }
 
   record(file) {
     const record = new Uint8Array(RECORD_LENGTH);
-    this.#ask('recordOpen', ...wishOf(file), record);
-    return this.goOn(record);
+    this.#ask('recordOpen', ...requestOf(file), record);
+    return this.resume(record);
   }
 
-  goOn(record) {
+  resume(record) {
     return new Recording(record, {
-      add: (piece, own) => this.#sectors(...this.#make('recordAdd', piece, own), UNSEEN),
+      add: (piece, own) => this.#sectors(...this.#make('recordAdd', piece, own), INVISIBLE),
       close: (own) => this.#change('recordClose', own),
     });
   }
@@ -923,7 +923,7 @@ export class Disk {
     const ten = new Uint8Array(NAME_LENGTH * asked.length);
     asked.forEach((bytes, i) => ten.set(bytes, NAME_LENGTH * i));
     const answers = new Uint8Array(asked.length);
-    const sectors = this.#changed(...this.#make('eraseMany', ten, answers), APART);
+    const sectors = this.#changeSectors(...this.#make('eraseMany', ten, answers), EACH_SECTOR);
     return { answers: Array.from(answers, (number) => (number === 0 ? null : new Refused(number))), sectors };
   }
 
@@ -952,7 +952,7 @@ export class Disk {
   }
 
   #change(name, ...given) {
-    return this.#changed(...this.#make(name, ...given), WHOLE);
+    return this.#changeSectors(...this.#make(name, ...given), WHOLE_CHANGE);
   }
 
   // The list that a call filled, and how many sectors it names.
@@ -962,28 +962,28 @@ export class Disk {
   }
 
   // After a change of what is seen. One that alters no sector leaves readers where they are.
-  #changed(list, many, parts) {
+  #changeSectors(list, many, unit) {
     this.#list();
     if (many > 0) this.#changes++;
-    return this.#sectors(list, many, parts);
+    return this.#sectors(list, many, unit);
   }
 
   // The sectors of a list, with the bytes that they hold now: later changes do not alter them.
-  #sectors(list, many, parts) {
+  #sectors(list, many, unit) {
     const image = this.#lent();
     const sectors = Array.from({ length: many }, (_, i) => {
       const number = list[2 * i] + 256 * list[2 * i + 1];
       const place = placeOf(number);
       return { number, place, track: trackOf(number), sector: sectorOf(number), bytes: image.slice(place, place + SECTOR_LENGTH) };
     });
-    // Where there is nothing to write it is nobody's turn.
-    const mine = many === 0 ? this.#turns : ++this.#turns;
-    const turn = {
+    // Where there is nothing to write none is counted.
+    const mine = many === 0 ? this.#writes : ++this.#writes;
+    const order = {
       skips: () => this.#stored < mine - 1,
       written: () => this.#stored >= mine,
       done: () => { this.#stored = mine; },
     };
-    return new Sectors(sectors, turn, parts);
+    return new Sectors(sectors, order, unit);
   }
 }
 

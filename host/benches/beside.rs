@@ -13,10 +13,10 @@ mod geometry;
 #[allow(dead_code)]
 #[path = "../tests/support/random.rs"]
 mod random;
+#[path = "beside/reports.rs"]
+mod reports;
 #[path = "beside/rows.rs"]
 mod rows;
-#[path = "beside/shelf.rs"]
-mod shelf;
 #[path = "beside/sides.rs"]
 mod sides;
 #[path = "beside/table.rs"]
@@ -37,7 +37,7 @@ fn main() {
         table::print_pieces(row, most, &clock::together(row, timer));
     }
     println!();
-    shelf::measure(&rows::reported(&rows));
+    reports::measure(&rows::reported(&rows));
     println!();
     println!(
         "{} rows, each equal on both sides before it was timed. {:.1} seconds.",

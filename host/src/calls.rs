@@ -102,7 +102,7 @@ pub fn report_join(report: &mut [u8], other: &[u8]) -> Answer {
 
 /// What a save is asked for.
 #[derive(Clone, Copy, Debug)]
-pub struct Wish<'a> {
+pub struct SaveRequest<'a> {
     /// The kind; a save takes 16 to 20.
     pub kind: u32,
     /// The new name.
@@ -120,23 +120,23 @@ pub struct Wish<'a> {
 }
 
 /// Saves a file. Value: how many sectors are to be written.
-pub fn save(image: &mut [u8], wish: &Wish, list: &mut [u8]) -> Answer {
+pub fn save(image: &mut [u8], request: &SaveRequest, list: &mut [u8]) -> Answer {
     // SAFETY: pointers and lengths are those of slices; `image` and `list` are borrowed alone.
     Answer::from_number(unsafe {
         raw::varnucht_save(
             image.as_mut_ptr(),
             image.len(),
-            wish.kind,
-            wish.name.as_ptr(),
-            wish.name.len(),
-            wish.page,
-            wish.offset,
-            wish.execution.as_ptr(),
-            wish.execution.len(),
-            wish.information.as_ptr(),
-            wish.information.len(),
-            wish.body.as_ptr(),
-            wish.body.len(),
+            request.kind,
+            request.name.as_ptr(),
+            request.name.len(),
+            request.page,
+            request.offset,
+            request.execution.as_ptr(),
+            request.execution.len(),
+            request.information.as_ptr(),
+            request.information.len(),
+            request.body.as_ptr(),
+            request.body.len(),
             list.as_mut_ptr(),
             list.len(),
         )
@@ -228,23 +228,23 @@ pub fn gather(image: &mut [u8], name: &[u8], list: &mut [u8]) -> Answer {
     on_name(raw::varnucht_gather, image, name, list)
 }
 
-/// Opens a recording with a save's particulars: its record, 2,048 bytes, comes to the front of `record`. The wish's body is not
+/// Opens a recording with a save's particulars: its record, 2,048 bytes, comes to the front of `record`. The request's body is not
 /// looked at. Value: 0.
-pub fn record_open(image: &[u8], wish: &Wish, record: &mut [u8]) -> Answer {
+pub fn record_open(image: &[u8], request: &SaveRequest, record: &mut [u8]) -> Answer {
     // SAFETY: pointers and lengths are those of slices, and `record` is borrowed alone.
     Answer::from_number(unsafe {
         raw::varnucht_record_open(
             image.as_ptr(),
             image.len(),
-            wish.kind,
-            wish.name.as_ptr(),
-            wish.name.len(),
-            wish.page,
-            wish.offset,
-            wish.execution.as_ptr(),
-            wish.execution.len(),
-            wish.information.as_ptr(),
-            wish.information.len(),
+            request.kind,
+            request.name.as_ptr(),
+            request.name.len(),
+            request.page,
+            request.offset,
+            request.execution.as_ptr(),
+            request.execution.len(),
+            request.information.as_ptr(),
+            request.information.len(),
             record.as_mut_ptr(),
             record.len(),
         )

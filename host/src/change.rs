@@ -1,6 +1,6 @@
 //! The eight changes, as values.
 use crate::answer::Answer;
-use crate::calls::{self, Wish};
+use crate::calls::{self, SaveRequest};
 use crate::image::Image;
 use crate::kind::CarriedKind;
 use crate::name::{Name, NewName};
@@ -41,7 +41,7 @@ impl<'a> NewFile<'a> {
 }
 
 /// A change of a disk, not made yet. [`Disk::change`](crate::Disk::change) makes it, and
-/// [`Disk::try_change`](crate::Disk::try_change) tells what it would do. A handful of files erased at once is none of these:
+/// [`Disk::try_change`](crate::Disk::try_change) tells what it would do. Many files erased at once are none of these:
 /// [`Disk::erase_many`](crate::Disk::erase_many) answers for each of them.
 #[derive(Clone, Copy, Debug)]
 pub enum Change<'a> {
@@ -72,7 +72,7 @@ impl Change<'_> {
     pub(crate) fn make(&self, image: &mut Image, list: &mut [u8]) -> Answer {
         let image = &mut image.as_bytes_mut()[..];
         match self {
-            Change::Save(file) => calls::save(image, &wish(file), list),
+            Change::Save(file) => calls::save(image, &request(file), list),
             Change::Erase(name) => calls::erase(image, name.as_bytes(), list),
             Change::Rename(name, new) => calls::rename(image, name.as_bytes(), new.as_bytes(), list),
             Change::Hide(name) => calls::hide(image, name.as_bytes(), list),
@@ -85,8 +85,8 @@ impl Change<'_> {
 }
 
 /// A file to save, as the library is asked for it.
-fn wish<'a>(file: &'a NewFile) -> Wish<'a> {
-    Wish {
+fn request<'a>(file: &'a NewFile) -> SaveRequest<'a> {
+    SaveRequest {
         kind: file.kind.number().into(),
         name: file.name.as_bytes(),
         page: file.start.page().into(),

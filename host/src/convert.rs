@@ -1,9 +1,9 @@
 //! The usual conversions of the standard library, each by the function that it stands for.
 use crate::directory::Directory;
-use crate::disk::{Disk, Unsound};
+use crate::disk::{Disk, NotAccepted};
 use crate::entry::Entry;
 use crate::escape::{BadEscape, unescape};
-use crate::image::{Image, WrongLength};
+use crate::image::{IMAGE_LENGTH, Image, WrongLength};
 use crate::kind::{CarriedKind, Kind};
 use crate::listing::Listing;
 use crate::name::{NAME_LENGTH, Name, NewName, Unusable};
@@ -189,7 +189,7 @@ impl TryFrom<&[u8]> for Image {
 
     fn try_from(bytes: &[u8]) -> Result<Image, Refused> {
         match bytes.len() {
-            crate::IMAGE_LENGTH => Ok(Image::from_bytes(bytes.to_vec())?),
+            IMAGE_LENGTH => Ok(Image::from_bytes(bytes.to_vec())?),
             _ => Err(Refusal::ImageLength.into()),
         }
     }
@@ -203,9 +203,9 @@ impl AsRef<[u8]> for Image {
 
 /// [`Disk::open`].
 impl TryFrom<Image> for Disk {
-    type Error = Unsound;
+    type Error = NotAccepted;
 
-    fn try_from(image: Image) -> Result<Disk, Unsound> {
+    fn try_from(image: Image) -> Result<Disk, NotAccepted> {
         Disk::open(image)
     }
 }

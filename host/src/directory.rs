@@ -1,6 +1,5 @@
 //! What a disk says of itself in slot 1: how large its directory is, and its name.
 use crate::escape::escape;
-use crate::image::Image;
 use crate::name::NAME_LENGTH;
 use crate::place::{DATA_SECTORS, SECTOR_LENGTH, SECTORS, SectorNumber};
 use crate::refusal::{Refusal, Refused, Slot};
@@ -44,9 +43,9 @@ impl Directory {
     }
 
     /// The directory of an image, as slot 1 says, whether a file is there or not. Refused 24 where that is no size.
-    pub(crate) fn of(image: &Image) -> Result<Directory, Refused> {
+    pub(crate) fn of(image: &[u8; SECTORS * SECTOR_LENGTH]) -> Result<Directory, Refused> {
         // SAMDOS fills unused bytes with 255.
-        let more = match image.as_bytes()[MORE_AT] {
+        let more = match image[MORE_AT] {
             255 => 0,
             more => more,
         };
@@ -54,8 +53,8 @@ impl Directory {
     }
 
     /// Writes it to an image without a file.
-    pub(crate) fn put(self, image: &mut Image) {
-        image.as_bytes_mut()[MORE_AT] = self.tracks - 4;
+    pub(crate) fn put(self, image: &mut [u8; SECTORS * SECTOR_LENGTH]) {
+        image[MORE_AT] = self.tracks - 4;
     }
 
     /// How many tracks it has.
@@ -127,9 +126,9 @@ pub struct DiskName {
 impl DiskName {
     /// The name of the disk in an image; none where its first byte is 0, or 255 as SAMDOS fills it, or nothing but spaces is
     /// there.
-    pub(crate) fn of(image: &Image) -> Option<DiskName> {
+    pub(crate) fn of(image: &[u8; SECTORS * SECTOR_LENGTH]) -> Option<DiskName> {
         let mut bytes = [0; NAME_LENGTH];
-        bytes.copy_from_slice(&image.as_bytes()[NAME_AT..NAME_AT + NAME_LENGTH]);
+        bytes.copy_from_slice(&image[NAME_AT..NAME_AT + NAME_LENGTH]);
         bytes[0] &= 127;
         let last = bytes.iter().rposition(|byte| !matches!(byte, b' ' | 0))?;
         let named = !matches!(bytes[0], 0 | 127);

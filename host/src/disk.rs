@@ -4,7 +4,7 @@ use crate::chain;
 use crate::change::{Change, NewFile};
 use crate::directory::{Directory, DiskName};
 use crate::entry::Entry;
-use crate::handful::{self, Erased};
+use crate::erase_many::{self, Erased};
 use crate::image::Image;
 use crate::listing::Listing;
 use crate::name::{Name, NewName};
@@ -52,19 +52,19 @@ impl Disk {
     ///
     /// let mut image = Image::blank();
     /// image.as_bytes_mut()[..2].copy_from_slice(&[13, b'A']); // a file of no known kind in slot 1
-    /// let unsound = Disk::open(image).unwrap_err();
-    /// assert_eq!(unsound.to_string(), "refusal 2 at slot 1: the kind is not known");
-    /// let image = unsound.image; // nothing is lost
+    /// let not_accepted = Disk::open(image).unwrap_err();
+    /// assert_eq!(not_accepted.to_string(), "refusal 2 at slot 1: the kind is not known");
+    /// let image = not_accepted.image; // nothing is lost
     /// # let _ = image;
     /// ```
-    pub fn open(image: Image) -> Result<Disk, Unsound> {
+    pub fn open(image: Image) -> Result<Disk, NotAccepted> {
         match Listing::of(&image) {
             Ok(listing) => Ok(Disk {
                 image,
                 listing,
                 written: true,
             }),
-            Err(refused) => Err(Unsound { image, refused }),
+            Err(refused) => Err(NotAccepted { image, refused }),
         }
     }
 
@@ -236,11 +236,11 @@ impl Disk {
     pub fn change(&mut self, change: &Change) -> Result<Sectors<'_>, Refused> {
         let mut list = [0; LIST_LENGTH];
         let done = change.make(&mut self.image, &mut list).decode()?;
-        self.changed(&list, done.value)
+        self.change_sectors(&list, done.value)
     }
 
     /// Lists the disk anew after a change, and gives the first `many` sectors of its list.
-    pub(crate) fn changed(&mut self, list: &[u8], many: u32) -> Result<Sectors<'_>, Refused> {
+    pub(crate) fn change_sectors(&mut self, list: &[u8], many: u32) -> Result<Sectors<'_>, Refused> {
         // An accepted change leaves an accepted disk, so this is not refused. If it were, nothing would be written anywhere,
         // and every later call would be refused by the library.
         self.listing = Listing::of(&self.image)?;
@@ -248,8 +248,8 @@ impl Disk {
     }
 
     /// The same after a piece of a recording, which changes nothing that is seen.
-    pub(crate) fn unseen(&mut self, list: &[u8], many: u32) -> Sectors<'_> {
-        Sectors::new(&self.image, &mut self.written, list, many).unseen()
+    pub(crate) fn piece_sectors(&mut self, list: &[u8], many: u32) -> Sectors<'_> {
+        Sectors::new(&self.image, &mut self.written, list, many).invisible()
     }
 
     /// The image, for a change that the library makes.
@@ -323,10 +323,10 @@ impl Disk {
     /// # Ok::<(), varnucht::Refused>(())
     /// ```
     pub fn erase_many(&mut self, names: &[Name]) -> Result<Erased<'_>, Refused> {
-        let made = handful::erase(&mut self.image, names)?;
+        let erased = erase_many::erase_many(&mut self.image, names)?;
         Ok(Erased {
-            answers: made.answers,
-            sectors: self.changed(&made.list, made.many)?.apart(),
+            answers: erased.answers,
+            sectors: self.change_sectors(&erased.list, erased.many)?.each_sector(),
         })
     }
 
@@ -419,23 +419,23 @@ impl Disk {
 
 /// An image that is no accepted disk, and why.
 #[derive(Clone, Debug, PartialEq, Eq)]
-pub struct Unsound {
+pub struct NotAccepted {
     /// The image, as it was.
     pub image: Image,
     /// The first refusal of the check, and its slot.
     pub refused: Refused,
 }
 
-impl From<Unsound> for Refused {
-    fn from(unsound: Unsound) -> Refused {
-        unsound.refused
+impl From<NotAccepted> for Refused {
+    fn from(not_accepted: NotAccepted) -> Refused {
+        not_accepted.refused
     }
 }
 
-impl fmt::Display for Unsound {
+impl fmt::Display for NotAccepted {
     fn fmt(&self, f: &mut fmt::Formatter<'_>) -> fmt::Result {
         self.refused.fmt(f)
     }
 }
 
-impl Error for Unsound {}
+impl Error for NotAccepted {}

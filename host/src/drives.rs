@@ -1,8 +1,7 @@
 //! The raw sector call over two drives.
-use crate::calls;
-use crate::image::Image;
+use crate::image::{Image, sector_of};
 use crate::place::{Drive, SECTOR_LENGTH, Sector, Track};
-use crate::refusal::{Refusal, Refused};
+use crate::refusal::Refused;
 
 /// Two drives with an image in each.
 ///
@@ -30,18 +29,6 @@ impl<'a> Drives<'a> {
     ///
     /// Its types rule out every refusal; the answer is the library's all the same.
     pub fn sector(self, drive: Drive, track: Track, sector: Sector) -> Result<&'a [u8; SECTOR_LENGTH], Refused> {
-        let (one, two) = (self.one.as_bytes(), self.two.as_bytes());
-        let (track, sector) = (u32::from(track.number()), u32::from(sector.number()));
-        let found = calls::sector(one, two, drive.number(), track, sector).decode()?;
-        let chosen = match drive {
-            Drive::One => one,
-            Drive::Two => two,
-        };
-        // A place outside the image is no sector's.
-        let place = usize::try_from(found.value).unwrap_or(usize::MAX);
-        chosen
-            .get(place..)
-            .and_then(<[u8]>::first_chunk)
-            .ok_or(Refusal::NoSuchSector.into())
+        sector_of(self.one, self.two, drive, track, sector)
     }
 }

@@ -16,10 +16,10 @@ pub struct Entry {
 
 impl Entry {
     /// How many bytes a listing has for each file.
-    pub(crate) const LISTED: usize = 258;
+    pub(crate) const LISTED_LENGTH: usize = 258;
 
     /// The entry that 258 bytes of a listing describe; none where they name no slot.
-    pub(crate) fn listed(listed: &[u8; Entry::LISTED]) -> Option<Entry> {
+    pub(crate) fn from_listed(listed: &[u8; Entry::LISTED_LENGTH]) -> Option<Entry> {
         let (number, bytes) = listed.split_first_chunk()?;
         Some(Entry {
             slot: Slot::new(u16::from_le_bytes(*number))?,
@@ -54,7 +54,7 @@ impl Entry {
 
     /// The file's name.
     pub fn name(&self) -> Name {
-        Name::stored(self.part())
+        Name::stored(self.name_bytes())
     }
 
     /// Its code, where it is a directory: [`Entry::parent_code`] of what is in it. None for a file.
@@ -117,7 +117,7 @@ impl Entry {
     }
 
     /// The ten name bytes.
-    fn part(&self) -> [u8; 10] {
+    fn name_bytes(&self) -> [u8; 10] {
         let mut name = [0; 10];
         name.copy_from_slice(&self.bytes[1..11]);
         name

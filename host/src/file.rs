@@ -47,7 +47,7 @@ impl DiskFile {
     /// [`FileError::Io`] where the file cannot be opened for reading and writing, locked or read, or is no plain file;
     /// [`FileError::Refused`] 1, 24, and 2 to 11 and 25 with the slot, where it holds no accepted disk.
     pub fn open(path: impl AsRef<Path>) -> Result<DiskFile, FileError> {
-        let file = plain(path.as_ref())?;
+        let file = open_plain(path.as_ref())?;
         file.lock()?;
         DiskFile::locked(file)
     }
@@ -58,7 +58,7 @@ impl DiskFile {
     ///
     /// As [`DiskFile::open`], and [`ErrorKind::WouldBlock`] where another program has locked it.
     pub fn try_open(path: impl AsRef<Path>) -> Result<DiskFile, FileError> {
-        let file = plain(path.as_ref())?;
+        let file = open_plain(path.as_ref())?;
         match file.try_lock() {
             Ok(()) => DiskFile::locked(file),
             Err(TryLockError::WouldBlock) => Err(io::Error::from(ErrorKind::WouldBlock).into()),
@@ -68,7 +68,7 @@ impl DiskFile {
 
     /// The disk in a file that is locked.
     fn locked(mut file: File) -> Result<DiskFile, FileError> {
-        let disk = read(&mut file)?;
+        let disk = read_disk(&mut file)?;
         Ok(DiskFile { file, disk })
     }
 
@@ -89,7 +89,7 @@ impl DiskFile {
     ///
     /// As [`DiskFile::open`]; then the disk in memory stays.
     pub fn reload(&mut self) -> Result<(), FileError> {
-        self.disk = read(&mut self.file)?;
+        self.disk = read_disk(&mut self.file)?;
         Ok(())
     }
 
@@ -101,7 +101,7 @@ impl DiskFile {
     /// be written, or an earlier change was not: then the disk in memory is ahead of the file, and [`DiskFile::reload`] reads
     /// it anew.
     pub fn change(&mut self, change: &Change) -> Result<usize, FileError> {
-        store(&mut self.file, self.disk.change(change)?)
+        write_sectors(&mut self.file, self.disk.change(change)?)
     }
 
     /// Saves a file: [`Change::Save`].
@@ -129,7 +129,7 @@ impl DiskFile {
     /// [`FileError::Write`], where what was written before is done: [`WriteError::Partly`].
     pub fn erase_many(&mut self, names: &[Name]) -> Result<Vec<Result<(), Refusal>>, FileError> {
         let erased = self.disk.erase_many(names)?;
-        store(&mut self.file, erased.sectors)?;
+        write_sectors(&mut self.file, erased.sectors)?;
         Ok(erased.answers)
     }
 
@@ -189,7 +189,7 @@ impl DiskFile {
 }
 
 /// Opens a file for reading and writing. A pipe holds no disk, and reading it could wait for ever.
-fn plain(path: &Path) -> io::Result<File> {
+fn open_plain(path: &Path) -> io::Result<File> {
     let file = File::options().read(true).write(true).open(path)?;
     match file.metadata()?.is_file() {
         true => Ok(file),
@@ -198,7 +198,7 @@ fn plain(path: &Path) -> io::Result<File> {
 }
 
 /// The disk in a file. Of a longer file no more is read than shows that it is too long.
-fn read(file: &mut File) -> Result<Disk, FileError> {
+fn read_disk(file: &mut File) -> Result<Disk, FileError> {
     file.rewind()?;
     let mut bytes = Vec::with_capacity(IMAGE_LENGTH + 1);
     file.take(IMAGE_LENGTH as u64 + 1).read_to_end(&mut bytes)?;
@@ -207,7 +207,7 @@ fn read(file: &mut File) -> Result<Disk, FileError> {
 }
 
 /// Writes the sectors of a change. Gives how many they are.
-fn store(file: &mut File, mut sectors: Sectors) -> Result<usize, FileError> {
+fn write_sectors(file: &mut File, mut sectors: Sectors) -> Result<usize, FileError> {
     sectors.write_to(file, |_, _| {})?;
     Ok(sectors.numbers().len())
 }

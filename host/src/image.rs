@@ -1,7 +1,6 @@
 //! Images: 819,200 bytes of any content.
 use crate::calls;
 use crate::directory::{Directory, DiskName};
-use crate::drives::Drives;
 use crate::place::{Drive, SECTOR_LENGTH, Sector, SectorNumber, Track};
 use crate::refusal::{Refusal, Refused};
 use std::error::Error;
@@ -31,11 +30,11 @@ impl Image {
     ///
     /// let disk = Disk::open(Image::blank_with(Directory::new(39).unwrap()))?;
     /// assert_eq!((disk.listing().free_slots(), disk.listing().free()), (778, 1_211));
-    /// # Ok::<(), varnucht::Unsound>(())
+    /// # Ok::<(), varnucht::NotAccepted>(())
     /// ```
     pub fn blank_with(directory: Directory) -> Image {
         let mut image = Image::blank();
-        directory.put(&mut image);
+        directory.put(image.as_bytes_mut());
         image
     }
 
@@ -78,12 +77,12 @@ impl Image {
     ///
     /// Refused 24 where that is no size.
     pub fn directory(&self) -> Result<Directory, Refused> {
-        Directory::of(self)
+        Directory::of(self.as_bytes())
     }
 
     /// The disk's name, as slot 1 says, whatever else the image holds; none where it has none. A save keeps it.
     pub fn name(&self) -> Option<DiskName> {
-        DiskName::of(self)
+        DiskName::of(self.as_bytes())
     }
 
     /// Whether the image is an accepted disk. [`Disk::open`](crate::Disk::open) asks the same and keeps the answer in the
@@ -122,7 +121,7 @@ impl Image {
     /// # Ok::<(), varnucht::Refused>(())
     /// ```
     pub fn sector(&self, track: Track, sector: Sector) -> Result<&[u8; SECTOR_LENGTH], Refused> {
-        Drives { one: self, two: self }.sector(Drive::One, track, sector)
+        sector_of(self, self, Drive::One, track, sector)
     }
 
     /// The bytes of the sector with this number.
@@ -130,6 +129,29 @@ impl Image {
         // A sector number is below 1,600, and the image has as many sectors.
         &self.0.as_chunks().0[usize::from(number.number())]
     }
+}
+
+/// One raw sector of the image in the chosen one of two drives, not copied. No directory is checked.
+pub(crate) fn sector_of<'a>(
+    one: &'a Image,
+    two: &'a Image,
+    drive: Drive,
+    track: Track,
+    sector: Sector,
+) -> Result<&'a [u8; SECTOR_LENGTH], Refused> {
+    let (one, two) = (one.as_bytes(), two.as_bytes());
+    let (track, sector) = (u32::from(track.number()), u32::from(sector.number()));
+    let found = calls::sector(one, two, drive.number(), track, sector).decode()?;
+    let chosen = match drive {
+        Drive::One => one,
+        Drive::Two => two,
+    };
+    // A place outside the image is no sector's.
+    let place = usize::try_from(found.value).unwrap_or(usize::MAX);
+    chosen
+        .get(place..)
+        .and_then(<[u8]>::first_chunk)
+        .ok_or(Refusal::NoSuchSector.into())
 }
 
 impl fmt::Debug for Image {

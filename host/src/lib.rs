@@ -143,7 +143,7 @@
 //! [`Write`](std::io::Write) does, and stores each sector as soon as it is full. It becomes a file when it is closed: given up,
 //! or cut short, it leaves all files as they were.
 //!
-//! # A handful of files
+//! # Many files at once
 //!
 //! [`Disk::erase_many`] erases the files of several names by one call, and answers for each of them. Each sector that it names
 //! is a change of its own: cut short, the files of the sectors written are gone, and the others are still there.
@@ -164,8 +164,8 @@
 //! good when the call returns. Below it stands what it is made of, for other stores than files.
 //!
 //! A change answers with the [`Sectors`] that it altered, in the order in which they are to be written. Wherever that
-//! writing is cut short, the file holds the old disk until the last sector is written, and the new one from then on (of a
-//! handful of files erased at once that holds of each sector): [`Sectors::write_to`] does it, and waits for each sector to
+//! writing is cut short, the file holds the old disk until the last sector is written, and the new one from then on (of
+//! many files erased at once that holds of each sector): [`Sectors::write_to`] does it, and waits for each sector to
 //! reach the disk before it goes on to the next. If a write fails, the disk in memory is ahead of the file: write the same
 //! sectors again, or open the disk anew from the file. A later change is not written before that.
 //!
@@ -209,9 +209,9 @@ mod directory;
 mod disk;
 mod drives;
 mod entry;
+mod erase_many;
 pub mod escape;
 mod file;
-mod handful;
 mod image;
 mod kind;
 mod listing;
@@ -232,11 +232,11 @@ pub use answer::{Accepted, Answer};
 pub use change::{Change, NO_EXECUTION, NewFile};
 pub use convert::BadName;
 pub use directory::{Directory, DiskName};
-pub use disk::{Disk, Unsound};
+pub use disk::{Disk, NotAccepted};
 pub use drives::Drives;
 pub use entry::Entry;
+pub use erase_many::Erased;
 pub use file::{DiskFile, FileError};
-pub use handful::Erased;
 pub use image::{IMAGE_LENGTH, Image, WrongLength};
 pub use kind::{CarriedKind, Kind};
 pub use listing::Listing;

@@ -20,10 +20,10 @@ impl Listing {
         // Where slot 1 says no size the library refuses the image, whatever the room.
         let directory = image.directory();
         let slots = directory.map_or(0, Directory::slots);
-        let mut out = vec![0; slots * Entry::LISTED];
+        let mut out = vec![0; slots * Entry::LISTED_LENGTH];
         let done = calls::list(image.as_bytes(), &mut out).decode()?;
         let many = usize::try_from(done.value).unwrap_or(usize::MAX);
-        let entries = out.as_chunks().0.iter().take(many).filter_map(Entry::listed).collect();
+        let entries = out.as_chunks().0.iter().take(many).filter_map(Entry::from_listed).collect();
         Ok(Listing {
             entries,
             free: done.free,

@@ -1,5 +1,5 @@
 //! Save while recording: a save whose body comes in pieces.
-use crate::calls::{self, Wish};
+use crate::calls::{self, SaveRequest};
 use crate::change::{NO_EXECUTION, NewFile};
 use crate::disk::Disk;
 use crate::kind::CarriedKind;
@@ -16,10 +16,10 @@ use std::io::{self, ErrorKind, Write};
 const RECORD_LENGTH: usize = 2_048;
 
 /// The bytes of a list with room for every piece: all data sectors but the first and the last, two bytes to a number.
-const PIECE_LENGTH: usize = 2 * 1_558;
+const PIECE_LIST_LENGTH: usize = 2 * 1_558;
 
 /// The same for a close: the last sector, the first, and two of the directory.
-const CLOSE_LENGTH: usize = 2 * 4;
+const CLOSE_LIST_LENGTH: usize = 2 * 4;
 
 /// A file to record: all that a save asks for but its body.
 #[derive(Clone, Copy, Debug)]
@@ -83,7 +83,7 @@ impl Disk {
     /// Refused as a save with an empty body is: 16 with the slot that has the name, 18 and 19.
     pub fn open_record(&self, file: &Particulars) -> Result<Record, Refused> {
         let mut record = [0; RECORD_LENGTH];
-        calls::record_open(self.image().as_bytes(), &wish(file), &mut record).decode()?;
+        calls::record_open(self.image().as_bytes(), &request(file), &mut record).decode()?;
         Ok(Record(record))
     }
 
@@ -98,10 +98,10 @@ impl Disk {
     /// they were at opening, or a sector that the pieces have written leads elsewhere. Refused 19 where the pieces do not fit.
     /// Then the record is as before.
     pub fn add_piece(&mut self, record: &mut Record, piece: &[u8]) -> Result<Sectors<'_>, Refused> {
-        let mut list = [0; PIECE_LENGTH];
+        let mut list = [0; PIECE_LIST_LENGTH];
         let image = self.image_mut().as_bytes_mut();
         let done = calls::record_add(image, piece, &mut record.0, &mut list).decode()?;
-        Ok(self.unseen(&list, done.value))
+        Ok(self.piece_sectors(&list, done.value))
     }
 
     /// Makes a recording a file: its last sector, its first and the directory's are to be written, in this order, and until
@@ -115,9 +115,9 @@ impl Disk {
     /// Refused 30 as [`add_piece`](Disk::add_piece) is, 16 with the slot where a file got the name since, and 18 where the last
     /// slot was taken since.
     pub fn close_record(&mut self, record: &Record) -> Result<Sectors<'_>, Refused> {
-        let mut list = [0; CLOSE_LENGTH];
+        let mut list = [0; CLOSE_LIST_LENGTH];
         let done = calls::record_close(self.image_mut().as_bytes_mut(), &record.0, &mut list).decode()?;
-        self.changed(&list, done.value)
+        self.change_sectors(&list, done.value)
     }
 
     /// Opens a recording of this file that writes to a store, which holds this disk, as its pieces come.
@@ -127,13 +127,13 @@ impl Disk {
     /// Refused as [`open_record`](Disk::open_record) is.
     pub fn record<'d, S: Store>(&'d mut self, file: &Particulars, store: &'d mut S) -> Result<Recording<'d, S>, Refused> {
         let record = self.open_record(file)?;
-        Ok(Recording::go_on(self, store, record, 0))
+        Ok(Recording::resume(self, store, record, 0))
     }
 }
 
 /// A file to record, as the library is asked for it.
-fn wish(file: &Particulars) -> Wish<'_> {
-    Wish {
+fn request(file: &Particulars) -> SaveRequest<'_> {
+    SaveRequest {
         kind: file.kind.number().into(),
         name: file.name.as_bytes(),
         page: file.start.page().into(),
@@ -193,7 +193,7 @@ fn wish(file: &Particulars) -> Wish<'_> {
 ///     recording.write_all(b"la la")?;
 ///     let (record, bytes) = recording.pause();
 ///     disk.hide(other)?.write_to(store, |_, _| {})?;
-///     let mut recording = Recording::go_on(disk, store, record, bytes);
+///     let mut recording = Recording::resume(disk, store, record, bytes);
 ///     recording.write_all(b" la")?;
 ///     recording.close()?;
 ///     Ok(())
@@ -210,7 +210,7 @@ pub struct Recording<'d, S> {
 impl<'d, S: Store> Recording<'d, S> {
     /// Goes on with a recording that [`pause`](Recording::pause) interrupted, so many bytes long. Where the disk is not the one
     /// that was recorded on, the next piece is refused 30.
-    pub fn go_on(disk: &'d mut Disk, store: &'d mut S, record: Record, bytes: u64) -> Recording<'d, S> {
+    pub fn resume(disk: &'d mut Disk, store: &'d mut S, record: Record, bytes: u64) -> Recording<'d, S> {
         Recording {
             disk,
             store,

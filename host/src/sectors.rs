@@ -13,7 +13,7 @@ pub(crate) const LIST_LENGTH: usize = 2 * (DATA_SECTORS + 2);
 /// The sectors that a change altered, in the order in which they are to be written, with the bytes that they hold now.
 ///
 /// The change is made in memory. A copy of the disk elsewhere follows when these sectors are written there, in this order:
-/// cut short anywhere, that copy is still the old disk to every call until the last one is written. Those of a handful of files
+/// cut short anywhere, that copy is still the old disk to every call until the last one is written. Those of many files
 /// erased at once ([`Disk::erase_many`](crate::Disk::erase_many)) are a change of their own each, and those of a recording's
 /// piece ([`Disk::add_piece`](crate::Disk::add_piece)) change nothing that is seen. As long as this value is kept,
 /// the disk can take no other change. Whoever writes with [`iter`](Sectors::iter) must leave out no change: the sectors of the
@@ -62,18 +62,18 @@ pub struct Sectors<'d> {
     numbers: Vec<SectorNumber>,
     written: &'d mut bool,
     skipped: bool,
-    parts: Parts,
+    unit: WriteUnit,
 }
 
 /// What a sector is to the disk that is stored.
 #[derive(Clone, Copy, Debug)]
-enum Parts {
+enum WriteUnit {
     /// The last one makes the change.
-    Whole,
+    WholeChange,
     /// Each is a change of its own.
-    Apart,
+    EachSector,
     /// None changes anything that is seen.
-    Unseen,
+    Invisible,
 }
 
 impl<'d> Sectors<'d> {
@@ -95,22 +95,22 @@ impl<'d> Sectors<'d> {
             numbers,
             written,
             skipped,
-            parts: Parts::Whole,
+            unit: WriteUnit::WholeChange,
         }
     }
 
     /// The same of a change whose every sector is a change of its own.
-    pub(crate) fn apart(self) -> Sectors<'d> {
+    pub(crate) fn each_sector(self) -> Sectors<'d> {
         Sectors {
-            parts: Parts::Apart,
+            unit: WriteUnit::EachSector,
             ..self
         }
     }
 
     /// The same of a piece of a recording, whose sectors were free and still are.
-    pub(crate) fn unseen(self) -> Sectors<'d> {
+    pub(crate) fn invisible(self) -> Sectors<'d> {
         Sectors {
-            parts: Parts::Unseen,
+            unit: WriteUnit::Invisible,
             ..self
         }
     }
@@ -170,10 +170,10 @@ impl<'d> Sectors<'d> {
         }
         let of = self.numbers.len();
         for (written, (number, bytes)) in self.iter().enumerate() {
-            store.write_sector(number, bytes).map_err(|error| match self.parts {
-                Parts::Whole => WriteError::Stopped { written, of, error },
-                Parts::Apart => WriteError::Partly { written, of, error },
-                Parts::Unseen => WriteError::Piece { written, of, error },
+            store.write_sector(number, bytes).map_err(|error| match self.unit {
+                WriteUnit::WholeChange => WriteError::Stopped { written, of, error },
+                WriteUnit::EachSector => WriteError::Partly { written, of, error },
+                WriteUnit::Invisible => WriteError::Piece { written, of, error },
             })?;
             progress(written + 1, of);
         }

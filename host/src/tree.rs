@@ -7,7 +7,7 @@ use crate::name::Name;
 use crate::refusal::Refused;
 
 /// The bytes of a list with room for every tree: 778 slots, two bytes to a number.
-const TREE_LENGTH: usize = 2 * 778;
+const TREE_LIST_LENGTH: usize = 2 * 778;
 
 /// What lies beneath a directory or beneath the root: every file and every directory there, at whatever depth.
 /// [`Disk::tree`](crate::Disk::tree) gives it.
@@ -32,15 +32,15 @@ impl Tree {
     pub(crate) fn of(image: &Image, listing: &Listing, directory: Option<&Name>) -> Result<Tree, Refused> {
         let name = directory.map_or(&[][..], |name| name.as_bytes());
         // With room for every slot there is the library need not count them first.
-        let mut slots = [0; TREE_LENGTH];
+        let mut slots = [0; TREE_LIST_LENGTH];
         let done = calls::tree(image.as_bytes(), name, &mut slots).decode()?;
         let numbers = slots.as_chunks().0.iter().take(done.value as usize);
-        let entries = numbers.filter_map(|number| at_slot(listing, u16::from_le_bytes(*number)));
-        Ok(Tree::nested(entries))
+        let entries = numbers.filter_map(|number| entry_of_slot(listing, u16::from_le_bytes(*number)));
+        Ok(Tree::of_entries(entries))
     }
 
     /// The tree of a list in which a directory is directly followed by what lies beneath it.
-    fn nested<'a>(entries: impl Iterator<Item = &'a Entry>) -> Tree {
+    fn of_entries<'a>(entries: impl Iterator<Item = &'a Entry>) -> Tree {
         let mut nodes: Vec<Node> = Vec::new();
         // The directories around the next entry: their places in the list and their codes.
         let mut around: Vec<(usize, u8)> = Vec::new();
@@ -130,7 +130,7 @@ fn level(mut nodes: &[Node]) -> impl Iterator<Item = Branch<'_>> {
 }
 
 /// The entry of a slot.
-fn at_slot(listing: &Listing, number: u16) -> Option<&Entry> {
+fn entry_of_slot(listing: &Listing, number: u16) -> Option<&Entry> {
     let entries = listing.entries();
     let place = entries.binary_search_by_key(&number, |entry| entry.slot().number());
     place.ok().map(|place| &entries[place])

@@ -5,12 +5,12 @@ mod bigger;
 mod changing;
 #[path = "api/conversions.rs"]
 mod conversions;
+#[path = "api/erase_many.rs"]
+mod erase_many;
 #[path = "api/file.rs"]
 mod file;
 #[path = "api/gathering.rs"]
 mod gathering;
-#[path = "api/handful.rs"]
-mod handful;
 #[path = "api/pieces.rs"]
 mod pieces;
 #[path = "api/reading.rs"]
@@ -73,7 +73,7 @@ fn pair() -> Disk {
     let mut disk = blank();
     save(&mut disk, &code("ONE", &body(1_000)));
     save(&mut disk, &code("TWO", &body(900)));
-    Disk::open(disk.into_image()).expect("it is sound")
+    Disk::open(disk.into_image()).expect("it is accepted")
 }
 
 /// The pair with some bytes of slot 2 changed.
@@ -101,7 +101,7 @@ fn shortened(length: u16) -> Disk {
     let mut image = damaged(&[(240, low), (241, high)]);
     // ONE has bits 0 and 1, so TWO begins at track 4, sector 3.
     image.as_bytes_mut()[82 * 512 + 1..][..2].copy_from_slice(&[low, high]);
-    Disk::open(image).expect("it is sound")
+    Disk::open(image).expect("it is accepted")
 }
 
 /// The pair with a file of the Spectrum in slot 2: its header has this length and this start, and it has two sectors.

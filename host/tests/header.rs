@@ -29,7 +29,7 @@ const CHECKS: [&str; 14] = [
     "bigger.c",
     "tree.c",
     "gather.c",
-    "handful.c",
+    "erase_many.c",
     "recording.c",
 ];
 

@@ -9,17 +9,17 @@
 mod disk;
 #[path = "tool_kill/draw.rs"]
 mod draw;
+#[path = "tool_kill/fixture.rs"]
+mod fixture;
+#[path = "tool_kill/killed_process.rs"]
+mod killed_process;
 #[path = "tool_kill/pace.rs"]
 mod pace;
-#[path = "tool_kill/scene.rs"]
-mod scene;
 #[path = "tool_kill/tally.rs"]
 mod tally;
-#[path = "tool_kill/victim.rs"]
-mod victim;
 
-use scene::Scene;
-use scene::journey::Journey;
+use fixture::Fixture;
+use fixture::journey::Journey;
 use std::env;
 use std::sync::{Mutex, PoisonError};
 use tally::Tally;
@@ -38,36 +38,36 @@ fn number(name: &str, usual: usize) -> usize {
 fn a_killed_tool_leaves_the_old_files_or_the_new() {
     let _turn = TURN.lock().unwrap_or_else(PoisonError::into_inner);
     let kills = number("VARNUCHT_KILLS", 120);
-    let mut scene = Scene::new(number("VARNUCHT_SEED", 1) as u64);
-    let mut pace = scene.measure();
+    let mut fixture = Fixture::new(number("VARNUCHT_SEED", 1) as u64);
+    let mut pace = fixture.measure();
     println!("at first: {}, saves of 20 to {} sectors", pace.words(), pace.most_sectors());
-    let [mut saves, mut recordings, mut gathers, mut handfuls, mut others] = [(); 5].map(|()| Tally::default());
+    let [mut saves, mut recordings, mut gathers, mut many, mut others] = [(); 5].map(|()| Tally::default());
     while saves.kills() < kills {
         assert!(
             saves.rounds < 3 * kills + 20,
             "too few runs were still there to kill: {saves}"
         );
-        scene.save_round(&mut pace, &mut saves);
+        fixture.save_round(&mut pace, &mut saves);
         if saves.rounds % 2 == 1 {
-            scene.gather_round(&mut pace, &mut gathers);
+            fixture.gather_round(&mut pace, &mut gathers);
         }
         if saves.rounds % 2 == 0 {
-            scene.record_round(&mut pace, &mut recordings);
+            fixture.record_round(&mut pace, &mut recordings);
         }
         if saves.rounds % 8 == 5 {
-            scene.erase_round(&mut pace, &mut handfuls);
+            fixture.erase_round(&mut pace, &mut many);
         }
         if saves.rounds % 4 == 0 {
-            scene.change_round(&pace, &mut others);
+            fixture.change_round(&pace, &mut others);
         }
     }
     println!("at last: {}, saves of 20 to {} sectors", pace.words(), pace.most_sectors());
     println!("saves: {saves}");
     println!("recordings: {recordings}");
     println!("gathers: {gathers}");
-    println!("several erased at once: {handfuls}");
+    println!("several erased at once: {many}");
     println!("erase, rename, hide, show: {others}");
-    assert!(handfuls.rounds >= kills / 10, "too few handfuls were erased: {handfuls}");
+    assert!(many.rounds >= kills / 10, "too few files were erased at once: {many}");
     assert!(
         recordings.middle >= kills / 10,
         "too few recordings were killed between two writes: {recordings}"

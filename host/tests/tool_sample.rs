@@ -54,7 +54,7 @@ fn the_tool_prints_what_is_kept() {
 #[test]
 fn the_bodies_read_back() {
     let image = sample("sample.mgt");
-    let disk = held(&image);
+    let disk = disk_in(&image);
     for entry in disk.listing().entries() {
         let length = entry.length().expect("all kinds are carried") as usize;
         let expected: Vec<u8> = match entry.name().to_string().as_str() {

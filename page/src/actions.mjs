@@ -4,9 +4,9 @@ import { closeView, showFile, showSector } from './bytes.mjs';
 import { byId } from './dom.mjs';
 import { draw } from './draw.mjs';
 import { counted } from './format.mjs';
-import { getAll, getDisk, getFile, saveBack } from './give.mjs';
+import { getAll, getDisk, getFile, saveBack } from './downloads.mjs';
 import { moveTo, ownerOf } from './map.mjs';
-import { attempt, say, whyNot } from './said.mjs';
+import { attempt, say, whyNot } from './status.mjs';
 import { entries, state, tickedEntries } from './state.mjs';
 
 // A change: done, drawn and said; whether it was done. `what` is what can be undone then.
@@ -38,17 +38,17 @@ const leftWords = (left) => (left.length === 0 ? '' : `. Left: ${left.join('; ')
 
 // Each file by rising slot, into what those before it left free. Those that find no room stay, and are named.
 function gatherEach(disk) {
-  const told = { moved: 0, left: [] };
+  const result = { moved: 0, left: [] };
   for (const { name, isDirectory } of disk.listing.entries) {
     if (isDirectory) continue;
     try {
-      if (disk.gather(name).length > 0) told.moved++;
+      if (disk.gather(name).length > 0) result.moved++;
     } catch (error) {
       if (!(error instanceof Refused)) throw error;
-      told.left.push(`${name}: ${whyNot(error)}`);
+      result.left.push(`${name}: ${whyNot(error)}`);
     }
   }
-  return told;
+  return result;
 }
 
 const gatherAll = () =>
@@ -85,7 +85,7 @@ function choose(slot) {
   state.slot = slot;
   draw();
   byId('file').scrollIntoView({ block: 'nearest' });
-  say(`${byId('file-title').textContent} is chosen: ${byId('file-said').textContent}`);
+  say(`${byId('file-title').textContent} is chosen: ${byId('file-status').textContent}`);
 }
 
 function tick(slot, on) {

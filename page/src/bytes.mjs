@@ -34,19 +34,19 @@ function textOf(bytes, last) {
   return text;
 }
 
-let turn = 0; // a view that was begun later stops those before
+let latestView = 0; // a view that was begun later stops those before
 
 function open(title, said) {
   byId('view').hidden = false;
   byId('view-title').textContent = title;
-  byId('view-said').textContent = said;
+  byId('view-status').textContent = said;
   byId('bytes').scrollTop = 0;
   byId('bytes').replaceChildren();
-  return ++turn;
+  return ++latestView;
 }
 
 export function closeView() {
-  turn++;
+  latestView++;
   byId('view').hidden = true;
   byId('bytes').replaceChildren();
 }
@@ -73,13 +73,13 @@ export function showFile(entry, asText) {
   const pieces = reader.pieces(PIECE);
   let [done, last] = [0, 0];
   const step = () => {
-    if (mine !== turn) return;
+    if (mine !== latestView) return;
     const { value: piece } = pieces.next();
     if (piece) {
       pre.append(asText ? textOf(piece, last) : make('div', {}, hexOf(piece, done, digits)));
       [done, last] = [done + piece.length, piece.at(-1)];
     }
-    byId('view-said').textContent = done < total ? `${grouped(done)} of ${grouped(total)} bytes` : `${grouped(total)} bytes`;
+    byId('view-status').textContent = done < total ? `${grouped(done)} of ${grouped(total)} bytes` : `${grouped(total)} bytes`;
     if (done < total) setTimeout(step);
   };
   step();

@@ -6,8 +6,8 @@ import { drawFile } from './file.mjs';
 import { counted, grouped } from './format.mjs';
 import { drawList } from './list.mjs';
 import { drawMap } from './map.mjs';
-import { refusedWords } from './said.mjs';
-import { drawShelf } from './shelf.mjs';
+import { refusedWords } from './status.mjs';
+import { drawItems } from './items.mjs';
 import { chosenEntry, entries, state } from './state.mjs';
 import { drawTree } from './tree.mjs';
 
@@ -57,7 +57,7 @@ function refusedTools({ refusal }) {
 const TITLE = document.title;
 
 function drawSections() {
-  drawShelf();
+  drawItems();
   const { item } = state;
   document.title = item === null ? TITLE : [item.changed ? '* ' : '', item.label, ' - Varnucht'].join('');
   for (const id of ['disk', 'sectors']) byId(id).hidden = item === null;

@@ -21,7 +21,7 @@ export function drawFile(act) {
   byId('file').hidden = entry === null;
   if (entry === null) return;
   byId('file-title').textContent = String(entry.name);
-  byId('file-said').textContent = wordsOf(entry);
+  byId('file-status').textContent = wordsOf(entry);
   const all = [
     ['Get', () => act.get(entry)],
     ['Hex', () => act.view(entry, false)],

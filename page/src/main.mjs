@@ -4,8 +4,8 @@ import { act } from './actions.mjs';
 import { closeView } from './bytes.mjs';
 import { byId, make } from './dom.mjs';
 import { readyMap } from './map.mjs';
-import { attempt, say } from './said.mjs';
-import { openAll, report, unsavedItems } from './shelf.mjs';
+import { attempt, say } from './status.mjs';
+import { openAll, report, unsavedItems } from './items.mjs';
 import { chosenEntry, state } from './state.mjs';
 
 // page/make puts the library here, without vectors: so one page serves every browser.

@@ -69,12 +69,12 @@ function paint() {
   const style = getComputedStyle(document.documentElement);
   const variable = (name) => style.getPropertyValue(name).trim();
   const plain = { [DIRECTORY]: variable('--map-dir'), [FREE]: variable('--map-free'), [UNKNOWN]: variable('--map-free') };
-  const hot = state.hover ?? chosenEntry()?.slot ?? null;
+  const highlighted = state.hover ?? chosenEntry()?.slot ?? null;
   const pen = canvas.getContext('2d');
   pen.scale(ratio, ratio);
   owned.forEach((owner, number) => {
     const { x, y } = placeIn(form, number);
-    pen.globalAlpha = hot !== null && owner > 0 && owner !== hot ? 0.35 : 1;
+    pen.globalAlpha = highlighted !== null && owner > 0 && owner !== highlighted ? 0.35 : 1;
     pen.fillStyle = owner > 0 ? colourOf(owner) : plain[owner];
     pen.fillRect(x, y, form.cell - 1, form.cell - 1);
   });
@@ -86,11 +86,11 @@ function paint() {
 }
 
 // What is said is what the cursor is at; a screen reader reads it as the slider's value.
-function tell() {
+function announce() {
   const text = sectorWords(state.sector);
   byId('map').setAttribute('aria-valuenow', state.sector);
   byId('map').setAttribute('aria-valuetext', text);
-  byId('map-said').textContent = text;
+  byId('map-status').textContent = text;
 }
 
 export function drawMap() {
@@ -98,7 +98,7 @@ export function drawMap() {
   if (listing === null || listing !== ownedOf) owned = owners();
   ownedOf = listing;
   paint();
-  tell();
+  announce();
 }
 
 // Points at a file: its sectors stand out.
@@ -111,7 +111,7 @@ export function pointAt(slot) {
 export function moveTo(number) {
   state.sector = number;
   paint();
-  tell();
+  announce();
 }
 
 // Arrows go by tracks and by sectors, over the edges to the other side.
@@ -138,12 +138,12 @@ export function readyMap(choose) {
   };
   canvas.addEventListener('pointermove', (event) => {
     const number = under(event);
-    byId('map-said').textContent = sectorWords(number ?? state.sector);
+    byId('map-status').textContent = sectorWords(number ?? state.sector);
     pointAt(number === null ? null : ownerOf(number)?.slot ?? null);
   });
   canvas.addEventListener('pointerleave', () => {
     pointAt(null);
-    byId('map-said').textContent = sectorWords(state.sector);
+    byId('map-status').textContent = sectorWords(state.sector);
   });
   canvas.addEventListener('click', (event) => {
     const number = under(event);

@@ -14,8 +14,8 @@ function classWords({ from, to }) {
   return from === to ? grouped(from) : `${grouped(from)} to ${grouped(to)}`;
 }
 
-const shelfWords = ({ disks, accepted: good, files, fileSectors, freeSectors }) =>
-  `${counted(disks, 'disk')}, ${grouped(good)} accepted; ${counted(files, 'file')} with ${counted(fileSectors, 'sector')}, ${counted(freeSectors, 'sector')} free`;
+const reportWords = ({ disks, accepted, files, fileSectors, freeSectors }) =>
+  `${counted(disks, 'disk')}, ${grouped(accepted)} accepted; ${counted(files, 'file')} with ${counted(fileSectors, 'sector')}, ${counted(freeSectors, 'sector')} free`;
 
 export function drawReport() {
   const report = state.library.report();
@@ -23,7 +23,7 @@ export function drawReport() {
   const refused = report.refusals.map(({ number, words: why, disks }) => [`${number}: ${why}`, disks]);
   byId('report').hidden = false;
   byId('report').replaceChildren(...[
-    make('p', { id: 'report-said' }, shelfWords(report)),
+    make('p', { id: 'report-status' }, reportWords(report)),
     refused.length === 0 ? null : table('Refused disks', ['reason', 'disks'], refused),
     table('Files by kind', ['kind', 'files'], report.kinds.map(({ kind, words: name, files }) => [`${kind} ${name}`, files])),
     table('Files by their sectors', ['sectors', 'files'], report.classes.map((each) => [classWords(each), each.files])),

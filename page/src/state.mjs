@@ -9,7 +9,7 @@ export const state = {
   sector: 0, // where the map's cursor is
   ticked: new Set(), // slots
   sort: { by: 'slot', down: false },
-  given: new Set(), // names of disks that were downloaded
+  downloaded: new Set(), // names of disks that were downloaded
 };
 
 export const entries = () => state.item?.disk?.listing.entries ?? [];

@@ -3,7 +3,7 @@ import { kindWords } from '../../js/varnucht.js';
 import { byId, make } from './dom.mjs';
 import { counted } from './format.mjs';
 import { nameButton } from './list.mjs';
-import { refusedWords } from './said.mjs';
+import { refusedWords } from './status.mjs';
 import { entries, state } from './state.mjs';
 
 // Made without calls inside calls: subdirectories may lie 255 deep.

@@ -53,7 +53,7 @@ export default ({ browser, tab, disks, body, sample, chooseFile, onFile, toDisk,
     await save(long, 'LONG', 18, '5', '40000');
     await tab.says('LONG is saved');
     tool('save', host, 'LONG', long, '--kind', 'string-array', '--page', '5', '--offset', '40000');
-    assert.match(await tab.text('#file-said'), /^slot 3, string array, 589 sectors, scattered, 300,000 bytes, start 105,536 \(page 5, offset 40000\)$/);
+    assert.match(await tab.text('#file-status'), /^slot 3, string array, 589 sectors, scattered, 300,000 bytes, start 105,536 \(page 5, offset 40000\)$/);
 
     await onFile('TUNES', 'Gather');
     await tab.says('TUNES is moved to sectors in a row');
@@ -78,10 +78,10 @@ export default ({ browser, tab, disks, body, sample, chooseFile, onFile, toDisk,
 
   async 'a long file shows before it is whole'() {
     await chooseFile('LONG');
-    await tab.evaluate(`window.seen = []; new MutationObserver(() => seen.push(document.getElementById('view-said').textContent))
-      .observe(document.getElementById('view-said'), { childList: true }); 0`);
+    await tab.evaluate(`window.seen = []; new MutationObserver(() => seen.push(document.getElementById('view-status').textContent))
+      .observe(document.getElementById('view-status'), { childList: true }); 0`);
     await tab.click('#file-tools button', 'Hex');
-    await tab.until('it is whole', async () => (await tab.text('#view-said')) === '300,000 bytes');
+    await tab.until('it is whole', async () => (await tab.text('#view-status')) === '300,000 bytes');
     const seen = await tab.evaluate('seen.filter(Boolean)');
     assert.ok(seen[0] === '4,096 of 300,000 bytes' && seen.length > 20, seen.slice(0, 3).join());
     assert.equal(await tab.evaluate(`document.querySelectorAll('#bytes pre div').length`), Math.ceil(300000 / 4096));
@@ -111,7 +111,7 @@ export default ({ browser, tab, disks, body, sample, chooseFile, onFile, toDisk,
     for (; (await last()) !== 'Undo' && many < 20; many++) {
       const before = await last();
       await tab.key('z', { modifiers: 2, code: 'KeyZ' });
-      await tab.until('it is undone', async () => (await last()) !== before || /nothing/.test(await tab.text('#said')));
+      await tab.until('it is undone', async () => (await last()) !== before || /nothing/.test(await tab.text('#status')));
     }
     assert.equal(many, 11);
     assert.equal(await tab.text('#unsaved'), 'Changed, and not downloaded yet.'); // what is downloaded is another disk

@@ -42,6 +42,6 @@ export default ({ browser, tab, disks, toDisk, rows }) => ({
     assert.deepEqual(tables[1], report.kinds.map(({ kind, words, files }) => [`${kind} ${words}`, String(files)]));
     assert.deepEqual(tables[2].map((row) => Number(row[1])), report.classes.map(({ files }) => files));
     const group = (number) => number.toLocaleString('en');
-    assert.equal(await tab.text('#report-said'), `${report.disks} disks, ${report.accepted} accepted; ${report.files} files with ${group(report.file_sectors)} sectors, ${group(report.free_sectors)} sectors free`);
+    assert.equal(await tab.text('#report-status'), `${report.disks} disks, ${report.accepted} accepted; ${report.files} files with ${group(report.file_sectors)} sectors, ${group(report.free_sectors)} sectors free`);
   },
 });

@@ -3,9 +3,9 @@ import assert from 'node:assert/strict';
 import { copyFileSync, readFileSync } from 'node:fs';
 import { tool } from './tool.mjs';
 
-export default ({ browser, tab, body, onFile, toDisk, shelf }) => ({
+export default ({ browser, tab, body, onFile, toDisk, openImages }) => ({
   async 'a file that is dropped on the form is the one to be saved'() {
-    const before = (await shelf()).length;
+    const before = (await openImages()).length;
     const host = `${browser.room}/dropped.mgt`;
     copyFileSync(`${browser.room}/host.mgt`, host);
     const note = body('note.one.txt', 1000);
@@ -17,7 +17,7 @@ export default ({ browser, tab, body, onFile, toDisk, shelf }) => ({
     await tab.key('Enter', { text: '\r' });
     await tab.says('note.one is saved');
     tool('save', host, 'note.one', note, '--kind', 'basic', '--page', '2');
-    assert.equal((await shelf()).length, before);
+    assert.equal((await openImages()).length, before);
     const got = await tab.download(() => toDisk('Download the disk'));
     assert.ok(got.bytes.equals(readFileSync(host)));
   },
@@ -28,10 +28,10 @@ export default ({ browser, tab, body, onFile, toDisk, shelf }) => ({
     tab.answerDialogs(false);
     await tab.click('#items button[aria-label="Take sample.mgt off the shelf"]');
     await tab.until('it asks', () => tab.dialogs.at(-1)?.type === 'confirm');
-    assert.equal((await shelf()).length, 7);
+    assert.equal((await openImages()).length, 7);
     tab.answerDialogs(true);
     await tab.click('#items button[aria-label="Take sample.mgt off the shelf"]');
     await tab.says('sample.mgt is off the shelf');
-    assert.equal((await shelf()).length, 6);
+    assert.equal((await openImages()).length, 6);
   },
 });

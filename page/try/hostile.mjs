@@ -21,7 +21,7 @@ export default ({ tab, disks, onFile, toDisk, showItem, names, view, onMap }) =>
     await showItem('short.mgt');
     assert.match(await tab.text('#verdict'), /^Refused 1: the image is not 819,200 bytes\./);
     await tab.clickAt(await onMap(0, 2));
-    await tab.until('the bytes are shown', async () => /488 bytes of it/.test(await tab.text('#view-said')));
+    await tab.until('the bytes are shown', async () => /488 bytes of it/.test(await tab.text('#view-status')));
     assert.equal((await view()).split('\n').length, 31);
   },
 

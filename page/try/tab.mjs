@@ -43,10 +43,10 @@ export async function openTab(browser, url) {
       const found = await test();
       if (found) return found;
     }
-    throw new Error(`it did not happen: ${what}; the page says: ${await text('#said')}; faults: ${faults.join('; ')}`);
+    throw new Error(`it did not happen: ${what}; the page says: ${await text('#status')}; faults: ${faults.join('; ')}`);
   };
   const says = (wanted) => until(`"${wanted}" is said`, async () => {
-    const said = await text('#said');
+    const said = await text('#status');
     return wanted instanceof RegExp ? wanted.test(said) : said === wanted;
   });
 

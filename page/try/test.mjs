@@ -12,7 +12,7 @@ import counting from './counting.mjs';
 import { drawn, makeDisks } from './disks.mjs';
 import ending from './ending.mjs';
 import hostile from './hostile.mjs';
-import looking from './looking.mjs';
+import viewing from './viewing.mjs';
 import { takePicture } from './picture.mjs';
 import { openTab } from './tab.mjs';
 import { userOf } from './user.mjs';
@@ -29,7 +29,7 @@ async function run(browser) {
   };
   const tab = await openTab(browser, pathToFileURL(page).href);
   const world = { browser, tab, disks, body, sample, page, ...userOf(tab) };
-  const groups = [looking, changing, hostile, counting, access, ending].map((group) => group(world));
+  const groups = [viewing, changing, hostile, counting, access, ending].map((group) => group(world));
   const steps = Object.entries({ ...Object.assign({}, ...groups), 'saving back replaces the file whole': () => savesBack(world) });
   for (const [name, step] of steps) {
     await step().catch((error) => { throw new Error(`${name}: ${error.stack}`); });

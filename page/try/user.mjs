@@ -18,7 +18,7 @@ export function userOf(tab) {
   const names = async () => (await rows()).map((row) => row[1]);
   const view = () => tab.text('#bytes pre');
   const focus = () => tab.evaluate('document.activeElement.dataset.key ?? document.activeElement.id');
-  const shelf = () => tab.evaluate(`[...document.querySelectorAll('#items li')].map((line) => [line.children[0].textContent, line.children[1].textContent])`);
+  const openImages = () => tab.evaluate(`[...document.querySelectorAll('#items li')].map((line) => [line.children[0].textContent, line.children[1].textContent])`);
   // The middle of a sector of the map, side by side as it is drawn on a wide page.
   const onMap = async (track, sector) => {
     const { left, top } = await tab.placeOf('#map');
@@ -30,5 +30,5 @@ export function userOf(tab) {
     const box = map.getBoundingClientRect();
     return [...map.getContext('2d').getImageData(${x} - box.left, ${y} - box.top, 1, 1).data].join();
   })()`);
-  return { chooseFile, onFile, toDisk, showItem, rows, names, view, focus, shelf, onMap, colourAt };
+  return { chooseFile, onFile, toDisk, showItem, rows, names, view, focus, openImages, onMap, colourAt };
 }

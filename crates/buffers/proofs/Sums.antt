@@ -11,7 +11,7 @@ use borrow.Author.Tests.{eqb-true, eqb-false, eq-eqb, ne-eqb}
 use lib.Dec.{eqb}
 use lib.ListN.{length, length-append}
 use Rattle.buffers.specs.Bytes.{tab, count}
-use Rattle.buffers.specs.Sums.{sum, gather, times}
+use Rattle.buffers.specs.Sums.{sum, concat, times}
 
 pub sum-cong : (n : ℕ) (f g : ℕ → ℕ) → ((k : ℕ) → k < n → f k ≡ g k) → sum n f ≡ sum n g
 unfolding sum
@@ -72,38 +72,38 @@ count-sum (suc n) p = ap (λ (x : ℕ). x + cond (p n) 1 0) (count-sum n p)
 
 -- ---- lists joined
 
-pub gather-cong : (n : ℕ) (f g : ℕ → List ℕ) → ((k : ℕ) → k < n → f k ≡ g k) → gather n f ≡ gather n g
-unfolding gather
+pub gather-cong : (n : ℕ) (f g : ℕ → List ℕ) → ((k : ℕ) → k < n → f k ≡ g k) → concat n f ≡ concat n g
+unfolding concat
 gather-cong zero f g h = refl
 gather-cong (suc n) f g h = ap₂ _++_ (gather-cong n f g (λ k l. h k (omega arith))) (h n (omega arith))
 
-pub gather-more : (i : ℕ) (f : ℕ → List ℕ) → gather (i + 1) f ≡ gather i f ++ f i
-unfolding gather
+pub gather-more : (i : ℕ) (f : ℕ → List ℕ) → concat (i + 1) f ≡ concat i f ++ f i
+unfolding concat
 gather-more i f = rw add-one
 
-pub gather-le : (m i : ℕ) (f : ℕ → List ℕ) → length (gather i f) ≤ length (gather (i + m) f)
-unfolding gather
+pub gather-le : (m i : ℕ) (f : ℕ → List ℕ) → length (concat i f) ≤ length (concat (i + m) f)
+unfolding concat
 gather-le zero i f = rw add-zero (omega arith)
-gather-le (suc m) i f = rw add-suc (omega (arith, gather-le m i f, length-append (gather (i + m) f) (f (i + m))))
+gather-le (suc m) i f = rw add-suc (omega (arith, gather-le m i f, length-append (concat (i + m) f) (f (i + m))))
 
 -- where nothing more is to come
-pub gather-rest : (m i : ℕ) (f : ℕ → List ℕ) → ((k : ℕ) → i ≤ k → f k ≡ []) → gather (i + m) f ≡ gather i f
-unfolding gather
+pub gather-rest : (m i : ℕ) (f : ℕ → List ℕ) → ((k : ℕ) → i ≤ k → f k ≡ []) → concat (i + m) f ≡ concat i f
+unfolding concat
 gather-rest zero i f h = rw add-zero
-gather-rest (suc m) i f h = rw (add-suc i m, h (i + m) (omega arith)) (append-nil (gather (i + m) f) ∙ gather-rest m i f h)
+gather-rest (suc m) i f h = rw (add-suc i m, h (i + m) (omega arith)) (append-nil (concat (i + m) f) ∙ gather-rest m i f h)
 
 -- the i-th of them, between those before and those after it
-gather-add : (m i : ℕ) (f : ℕ → List ℕ) → gather (i + m) f ≡ gather i f ++ gather m (λ k. f (i + k))
-unfolding gather
-gather-add zero i f = rw add-zero (sym (append-nil (gather i f)))
+gather-add : (m i : ℕ) (f : ℕ → List ℕ) → concat (i + m) f ≡ concat i f ++ concat m (λ k. f (i + k))
+unfolding concat
+gather-add zero i f = rw add-zero (sym (append-nil (concat i f)))
 gather-add (suc m) i f =
-    rw add-suc (ap (λ (l : List ℕ). l ++ f (i + m)) (gather-add m i f) ∙ append-assoc (gather i f) (gather m (λ k. f (i + k))) (f (i + m)))
+    rw add-suc (ap (λ (l : List ℕ). l ++ f (i + m)) (gather-add m i f) ∙ append-assoc (concat i f) (concat m (λ k. f (i + k))) (f (i + m)))
 
-pub gather-at : (n i : ℕ) (f : ℕ → List ℕ) → i < n → (a : List ℕ) × (b : List ℕ) × (gather n f ≡ a ++ f i ++ b) × (a ≡ gather i f)
-unfolding gather
+pub gather-at : (n i : ℕ) (f : ℕ → List ℕ) → i < n → (a : List ℕ) × (b : List ℕ) × (concat n f ≡ a ++ f i ++ b) × (a ≡ concat i f)
+unfolding concat
 gather-at n i f h =
     let e : suc i + (n - suc i) ≡ n = omega arith in
-    (gather i f, gather (n - suc i) (λ k. f (suc i + k)), ap (λ (m : ℕ). gather m f) (sym e) ∙ gather-add (n - suc i) (suc i) f, refl)
+    (concat i f, concat (n - suc i) (λ k. f (suc i + k)), ap (λ (m : ℕ). concat m f) (sym e) ∙ gather-add (n - suc i) (suc i) f, refl)
 
 -- ---- how often
 
@@ -112,10 +112,10 @@ unfolding times
 times-append x [] b = omega arith
 times-append x (y ∷ a) b = omega (arith, times-append x a b)
 
-pub times-gather : (x n : ℕ) (f : ℕ → List ℕ) → times x (gather n f) ≡ sum n (λ k. times x (f k))
-unfolding gather times sum
+pub times-gather : (x n : ℕ) (f : ℕ → List ℕ) → times x (concat n f) ≡ sum n (λ k. times x (f k))
+unfolding concat times sum
 times-gather x zero f = refl
-times-gather x (suc n) f = times-append x (gather n f) (f n) ∙ ap (λ (m : ℕ). m + times x (f n)) (times-gather x n f)
+times-gather x (suc n) f = times-append x (concat n f) (f n) ∙ ap (λ (m : ℕ). m + times x (f n)) (times-gather x n f)
 
 pub times-same : (x : ℕ) (l : List ℕ) → times x (x ∷ l) ≡ 1 + times x l
 unfolding times

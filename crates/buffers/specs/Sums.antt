@@ -10,9 +10,9 @@ sum zero f = 0
 sum (suc n) f = sum n f + f n
 
 -- the lists f 0, f 1, .., f (n - 1), joined
-unfoldable pub gather : ℕ → (ℕ → List ℕ) → List ℕ
-gather zero f = []
-gather (suc n) f = gather n f ++ f n
+unfoldable pub concat : ℕ → (ℕ → List ℕ) → List ℕ
+concat zero f = []
+concat (suc n) f = concat n f ++ f n
 
 -- how often a number is in a list
 unfoldable pub times : ℕ → List ℕ → ℕ

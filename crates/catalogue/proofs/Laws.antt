@@ -20,11 +20,11 @@ use Rattle.refusals.specs.declared.Answer.the-variants.{Done}
 use Rattle.slots.specs.Slot.{isLive, hidden, countOf}
 use Rattle.slots.specs.Tracks.{tracksBy}
 use Rattle.slots.proofs.Tracks.{data-few}
-use Rattle.lines.specs.Lines.{line, entry, freeLine, refusalLine}
-use Rattle.lines.specs.Written.{Wrote}
-use Rattle.lines.proofs.Laws.{wrote-then, line-most, length-free, decimal-most, refusal-most}
+use Rattle.text_lines.specs.Lines.{line, slotLine, freeLine, refusalLine}
+use Rattle.text_lines.specs.Written.{Wrote}
+use Rattle.text_lines.proofs.Laws.{wrote-then, line-most, length-free, decimal-most, refusal-most}
 use Rattle.directory.specs.Places.{slotCount, slots}
-use Rattle.directory.specs.Directory.{held, Directory, labelOf, tracksOf, slotsRead, directory, slotOr}
+use Rattle.directory.specs.Directory.{foldOption, Directory, labelOf, tracksOf, slotsRead, directory, slotOr}
 use Rattle.surveys.specs.Survey.{survey, counted, usedMap, usedOr, freeOf, free}
 use Rattle.surveys.specs.declared.UsedMap.{UsedMap}
 use Rattle.directory.proofs.Ends.{read-most}
@@ -34,11 +34,11 @@ use Rattle.surveys.proofs.Pass.{survey-passed}
 use Rattle.catalogue.specs.Text.{lines, moreTracks, replyTo, textBy, text, catalogueOf}
 
 -- of the lines of the first k slots, the last is that of the bytes read there
-pub lines-more : (d : List ℕ) (k : ℕ) → k < slotsRead d → lines (directory d) (k + 1) ≡ lines (directory d) k ++ entry (k + 1) (slotOr d k)
-unfolding lines entry
+pub lines-more : (d : List ℕ) (k : ℕ) → k < slotsRead d → lines (directory d) (k + 1) ≡ lines (directory d) k ++ slotLine (k + 1) (slotOr d k)
+unfolding lines slotLine
 lines-more d k h = rw (add-one, directory-read d k h) (ap (λ (l : List ℕ). lines (directory d) k ++ l) (by (isLive (slotOr d k)) (slotOr d k)))
   where
-    by : (t : Bool) (s : List ℕ) → held [] (λ s. cond (hidden s) [] (line (suc k) s)) (cond t (some s) none) ≡ cond t (cond (hidden s) [] (line (suc k) s)) []
+    by : (t : Bool) (s : List ℕ) → foldOption [] (λ s. cond (hidden s) [] (line (suc k) s)) (cond t (some s) none) ≡ cond t (cond (hidden s) [] (line (suc k) s)) []
     by true s = refl
     by false s = refl
 
@@ -59,7 +59,7 @@ unfolding slotCount
 lines-base d z = lines-rest (directory d) 80 698 (directory-base d z)
 
 pub lines-turn : (d : List ℕ) (k : ℕ) {s p e f : List ℕ} {a b : ℕ} → k < slotsRead d → s ≡ slotOr d k → Wrote p 0 (lines (directory d) k) e a
-    → Wrote e a (entry (k + 1) s) f b → Wrote p 0 (lines (directory d) (k + 1)) f b
+    → Wrote e a (slotLine (k + 1) s) f b → Wrote p 0 (lines (directory d) (k + 1)) f b
 lines-turn d k h q w x = rw (lines-more d k h, ← q) (wrote-then w x)
 
 pub lines-none : (v : Directory) → lines v 0 ≡ []
@@ -70,13 +70,13 @@ pub lines-most : (v : Directory) (k : ℕ) → k ≤ 80 → length (lines v k) �
 unfolding lines
 lines-most v zero h = omega arith
 lines-most v (suc k) h =
-    omega (arith, lines-most v k (omega arith), length-append (lines v k) (held [] (λ s. cond (hidden s) [] (line (suc k) s)) (v k)), by (v k))
+    omega (arith, lines-most v k (omega arith), length-append (lines v k) (foldOption [] (λ s. cond (hidden s) [] (line (suc k) s)) (v k)), by (v k))
   where
     one : (t : Bool) (s : List ℕ) → length (cond t [] (line (suc k) s)) ≤ 24
     one true s = omega arith
     one false s = line-most (suc k) s (omega arith)
 
-    by : (o : Option (List ℕ)) → length (held [] (λ s. cond (hidden s) [] (line (suc k) s)) o) ≤ 24
+    by : (o : Option (List ℕ)) → length (foldOption [] (λ s. cond (hidden s) [] (line (suc k) s)) o) ≤ 24
     by none = omega arith
     by (some s) = one (hidden s) s
 
@@ -128,10 +128,10 @@ module _ (d : List ℕ) (h : 40960 ≤ length d) where
         let q : survey 0 (directory d) ≡ some r = sym (ap (λ (n : ℕ). survey n (directory d)) (no-tracks d t)) ∙ e in
         rw (le-ltb (length d) 40960 h, t, q)
 
-    pub text-sound : (u : UsedMap) (n : ℕ) → survey (tracksOf d) (directory d) ≡ none → u ≡ usedOr (survey (tracksOf d) (directory d)) (tracksOf d) (directory d) → n ≡ freeOf u
+    pub text-accepted : (u : UsedMap) (n : ℕ) → survey (tracksOf d) (directory d) ≡ none → u ≡ usedOr (survey (tracksOf d) (directory d)) (tracksOf d) (directory d) → n ≡ freeOf u
         → lines (directory d) slots ++ freeLine n ≡ text d
     unfolding text replyTo free
-    text-sound u n e p q =
+    text-accepted u n e p q =
         let s : survey 0 (directory d) ≡ none = sym (ap (λ (n : ℕ). survey n (directory d)) (no-tracks d t)) ∙ e in
         let f : n ≡ freeOf (usedMap 0 (directory d)) =
         q ∙ ap freeOf (p ∙ ap (λ (o : Reply). usedOr o (tracksOf d) (directory d)) e ∙ ap (λ (n : ℕ). usedMap n (directory d)) (no-tracks d t)) in

@@ -8,15 +8,15 @@ use lib.ListN.{length}
 use Rattle.refusals.specs.Order.{Reply, _else_, row}
 use Rattle.refusals.specs.Answers.{Out, filled, done}
 use Rattle.slots.specs.Slot.{hidden}
-use Rattle.lines.specs.Lines.{line, freeLine, refusalLine}
+use Rattle.text_lines.specs.Lines.{line, freeLine, refusalLine}
 use Rattle.directory.specs.Places.{slotCount}
-use Rattle.directory.specs.Directory.{held, Directory, labelOf, directory}
+use Rattle.directory.specs.Directory.{foldOption, Directory, labelOf, directory}
 use Rattle.surveys.specs.Survey.{survey, free}
 
 -- "One line for each live, unhidden slot": those among the first k
 unfoldable pub lines : Directory → ℕ → List ℕ
 lines v zero = []
-lines v (suc k) = lines v k ++ held [] (λ s. cond (hidden s) [] (line (suc k) s)) (v k)
+lines v (suc k) = lines v k ++ foldOption [] (λ s. cond (hidden s) [] (line (suc k) s)) (v k)
 
 -- "24 .. (in the listing program any n above 0)": of byte 255 of slot 1
 unfoldable pub moreTracks : ℕ → Bool

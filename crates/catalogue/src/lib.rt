@@ -2,7 +2,7 @@
 ghost use mathlib.Core.Path.{_≡_};
 ghost use lib.ListN.{length};
 ghost use Rattle.refusals.specs.Answers.{outcomeOf, out};
-ghost use Rattle.lines.specs.Written.{Wrote};
+ghost use Rattle.text_lines.specs.Written.{Wrote};
 ghost use Rattle.directory.specs.Places.{slots};
 ghost use Rattle.directory.specs.Directory.{labelOf, directory};
 ghost use Rattle.catalogue.specs.Text.{lines, moreTracks, text, catalogueOf};
@@ -21,7 +21,7 @@ fn put_lines(page: &mut [u8], dir: &[u8]) -> usize
     while i < end {
         let s = directory::slot_at(dir, i);
         i += 1;
-        at = lines::put_slot(page, at, i, s);
+        at = text_lines::put_slot_line(page, at, i, s);
     }
     at
 }
@@ -42,7 +42,7 @@ fn put_text(page: &mut [u8], input: &[u8]) -> usize
     ensures { λ r. ⌜ Wrote (now (page .entry)) 0 (text (now (input .entry))) (now (page .exit)) r ⌝ }
 {
     if input.len() < 40960 {
-        return lines::put_refusal(
+        return text_lines::put_refusal(
             page,
             Refused {
                 reason: Reason::NotAnImage,
@@ -51,7 +51,7 @@ fn put_text(page: &mut [u8], input: &[u8]) -> usize
         );
     }
     if has_more_tracks(input) {
-        return lines::put_refusal(
+        return text_lines::put_refusal(
             page,
             Refused {
                 reason: Reason::TracksOutOfRange,
@@ -62,11 +62,11 @@ fn put_text(page: &mut [u8], input: &[u8]) -> usize
     let seen = surveys::survey_slots(input, false);
     let verdict = seen.verdict;
     match verdict {
-        Verdict::Unsound(refused) => lines::put_refusal(page, refused),
-        Verdict::Sound => {
+        Verdict::Err(refused) => text_lines::put_refusal(page, refused),
+        Verdict::Accepted => {
             let used = seen.used;
             let at = put_lines(page, input);
-            lines::put_free(page, at, surveys::free_of(used))
+            text_lines::put_free(page, at, surveys::free_of(used))
         }
     }
 }
@@ -86,7 +86,7 @@ pub fn catalogue(input: &[u8], buf: &mut [u8]) -> Answer
     let mut page = blank();
     let n = put_text(&mut page, input);
     if buf.len() < n {
-        return refusals::no(Reason::BufferTooShort, 0);
+        return refusals::refused_answer(Reason::BufferTooShort, 0);
     }
     buffers::copy_into(buf, 0, &page[..n]);
     Answer::Done(n, 0)

@@ -14,9 +14,9 @@ use Rattle.buffers.proofs.Tests.{or-neither}
 use Rattle.geometry.specs.Disk.{bitOf}
 use Rattle.maps.specs.Bits.{has}
 use Rattle.maps.proofs.Laws.{has-past}
-use Rattle.slots.specs.Slot.{Facts, mapOf}
+use Rattle.slots.specs.Slot.{SlotFields, mapOf}
 use Rattle.chains.specs.File.{sectorAt, sectorsOf, fileOf}
-use Rattle.chains.specs.Chain.{nextOf, isLast, passing, strays, broken, linked}
+use Rattle.chains.specs.Chain.{linkedBit, isLast, withVisited, leavesMap, broken, chainBit}
 
 -- ---- the sectors of a slot's own map
 
@@ -51,8 +51,8 @@ map-small s b h = has-small (mapOf s) b (omega (arith, length-part 15 195 s)) h
 -- ---- along the links
 
 -- the link of the sector at a place, read off the image
-pub link-at : (d : List ℕ) (a t u : ℕ) → t ≡ getD d (a + 510) 0 → u ≡ getD d (a + 511) 0 → bitOf t u ≡ nextOf (part a 512 d)
-unfolding nextOf
+pub link-at : (d : List ℕ) (a t u : ℕ) → t ≡ getD d (a + 510) 0 → u ≡ getD d (a + 511) 0 → bitOf t u ≡ linkedBit (part a 512 d)
+unfolding linkedBit
 link-at d a t u e f = ap₂ bitOf (e ∙ sym (part-at a 512 d 510 (omega arith))) (f ∙ sym (part-at a 512 d 511 (omega arith)))
 
 taken : (a b x : Bool) → cond (a && not b) x true ≡ false → (a ≡ true) × (b ≡ false) × (x ≡ false)
@@ -63,51 +63,51 @@ taken false b x e = absurd (true≢false e)
 module _ (map : List ℕ) (sec : ℕ → List ℕ) where
   -- n links from bit b on: each leads to a bit of the map that was not passed before, and the last sector is a last one
   pub record Steps (n b : ℕ) (passed : ℕ → Bool) : Type 0 where
-    pub own : (i : ℕ) → i ≤ n → has map (linked sec b i) ≡ true
-    pub fresh : (i : ℕ) → i ≤ n → passed (linked sec b i) ≡ false
-    pub apart : (i k : ℕ) → i < k → k ≤ n → linked sec b i ≡ linked sec b k → ⊥
-    pub last : isLast (sec (linked sec b n)) ≡ true
+    pub own : (i : ℕ) → i ≤ n → has map (chainBit sec b i) ≡ true
+    pub fresh : (i : ℕ) → i ≤ n → passed (chainBit sec b i) ≡ false
+    pub apart : (i k : ℕ) → i < k → k ≤ n → chainBit sec b i ≡ chainBit sec b k → ⊥
+    pub last : isLast (sec (chainBit sec b n)) ≡ true
 
   -- the first link taken first
-  pub linked-front : (b i : ℕ) → linked sec b (suc i) ≡ linked sec (nextOf (sec b)) i
-  unfolding linked
+  pub linked-front : (b i : ℕ) → chainBit sec b (suc i) ≡ chainBit sec (linkedBit (sec b)) i
+  unfolding chainBit
   linked-front b zero = refl
-  linked-front b (suc i) = ap (λ (c : ℕ). nextOf (sec c)) (linked-front b i)
+  linked-front b (suc i) = ap (λ (c : ℕ). linkedBit (sec c)) (linked-front b i)
 
   no-steps : (b : ℕ) (passed : ℕ → Bool) → has map b ≡ true → passed b ≡ false → isLast (sec b) ≡ true → Steps 0 b passed
-  unfolding linked
+  unfolding chainBit
   no-steps b passed h f e = record { own = own; fresh = fresh; apart = λ i k l m q. absurd (omega arith); last = e }
     where
-      own : (i : ℕ) → i ≤ 0 → has map (linked sec b i) ≡ true
+      own : (i : ℕ) → i ≤ 0 → has map (chainBit sec b i) ≡ true
       own zero l = h
       own (suc i) l = absurd (omega arith)
 
-      fresh : (i : ℕ) → i ≤ 0 → passed (linked sec b i) ≡ false
+      fresh : (i : ℕ) → i ≤ 0 → passed (chainBit sec b i) ≡ false
       fresh zero l = f
       fresh (suc i) l = absurd (omega arith)
 
-  more-steps : (n b : ℕ) (passed : ℕ → Bool) → has map b ≡ true → passed b ≡ false → Steps n (nextOf (sec b)) (passing passed b) → Steps (suc n) b passed
-  unfolding linked
+  more-steps : (n b : ℕ) (passed : ℕ → Bool) → has map b ≡ true → passed b ≡ false → Steps n (linkedBit (sec b)) (withVisited passed b) → Steps (suc n) b passed
+  unfolding chainBit
   more-steps n b passed h f w = record { own = own; fresh = fresh; apart = apart; last = rw (linked-front b n) (w .last) }
     where
-      rest : (i : ℕ) → i ≤ n → (eqb (linked sec b (suc i)) b ≡ false) × (passed (linked sec b (suc i)) ≡ false)
-      rest i l = rw (linked-front b i) (or-neither (eqb (linked sec (nextOf (sec b)) i) b) (passed (linked sec (nextOf (sec b)) i)) (w .fresh i l))
+      rest : (i : ℕ) → i ≤ n → (eqb (chainBit sec b (suc i)) b ≡ false) × (passed (chainBit sec b (suc i)) ≡ false)
+      rest i l = rw (linked-front b i) (or-neither (eqb (chainBit sec (linkedBit (sec b)) i) b) (passed (chainBit sec (linkedBit (sec b)) i)) (w .fresh i l))
 
-      own : (i : ℕ) → i ≤ suc n → has map (linked sec b i) ≡ true
+      own : (i : ℕ) → i ≤ suc n → has map (chainBit sec b i) ≡ true
       own zero l = h
       own (suc i) l = rw (linked-front b i) (w .own i (omega arith))
 
-      fresh : (i : ℕ) → i ≤ suc n → passed (linked sec b i) ≡ false
+      fresh : (i : ℕ) → i ≤ suc n → passed (chainBit sec b i) ≡ false
       fresh zero l = f
       fresh (suc i) l = rest i (omega arith) .1
 
-      apart : (i k : ℕ) → i < k → k ≤ suc n → linked sec b i ≡ linked sec b k → ⊥
+      apart : (i k : ℕ) → i < k → k ≤ suc n → chainBit sec b i ≡ chainBit sec b k → ⊥
       apart i zero l m q = absurd (omega arith)
-      apart zero (suc k) l m q = eqb-false (linked sec b (suc k)) b (rest k (omega arith) .0) (sym q)
+      apart zero (suc k) l m q = eqb-false (chainBit sec b (suc k)) b (rest k (omega arith) .0) (sym q)
       apart (suc i) (suc k) l m q = w .apart i k (omega arith) (omega arith) (sym (linked-front b i) ∙ q ∙ linked-front b k)
 
-  fewer-steps : (n b : ℕ) (passed : ℕ → Bool) → Steps (suc n) b passed → Steps n (nextOf (sec b)) (passing passed b)
-  unfolding linked
+  fewer-steps : (n b : ℕ) (passed : ℕ → Bool) → Steps (suc n) b passed → Steps n (linkedBit (sec b)) (withVisited passed b)
+  unfolding chainBit
   fewer-steps n b passed w =
       record {
         own = λ i l. rw (← linked-front b i) (w .own (suc i) (omega arith));
@@ -116,37 +116,37 @@ module _ (map : List ℕ) (sec : ℕ → List ℕ) where
         last = rw (← linked-front b n) (w .last);
       }
     where
-      fresh : (i : ℕ) → i ≤ n → passing passed b (linked sec b (suc i)) ≡ false
-      fresh i l = rw (ne-eqb (linked sec b (suc i)) b (λ q. w .apart 0 (suc i) (omega arith) (omega arith) (sym q))) (w .fresh (suc i) (omega arith))
+      fresh : (i : ℕ) → i ≤ n → withVisited passed b (chainBit sec b (suc i)) ≡ false
+      fresh i l = rw (ne-eqb (chainBit sec b (suc i)) b (λ q. w .apart 0 (suc i) (omega arith) (omega arith) (sym q))) (w .fresh (suc i) (omega arith))
 
-  -- the walk strays nowhere exactly where it takes such steps
-  pub strays-steps : (n b : ℕ) (passed : ℕ → Bool) → has map b ≡ true → passed b ≡ false → strays map sec n b passed ≡ false → Steps n b passed
-  unfolding strays
-  strays-steps zero b passed h f e = no-steps b passed h f (not-false (isLast (sec b)) e)
-  strays-steps (suc n) b passed h f e =
-      let t = taken (has map (nextOf (sec b))) (passing passed b (nextOf (sec b))) (strays map sec n (nextOf (sec b)) (passing passed b)) e in
-      more-steps n b passed h f (strays-steps n (nextOf (sec b)) (passing passed b) (t .0) (t .1) (t .2))
+  -- the walk leaves the map nowhere exactly where it takes such steps
+  pub leaves-steps : (n b : ℕ) (passed : ℕ → Bool) → has map b ≡ true → passed b ≡ false → leavesMap map sec n b passed ≡ false → Steps n b passed
+  unfolding leavesMap
+  leaves-steps zero b passed h f e = no-steps b passed h f (not-false (isLast (sec b)) e)
+  leaves-steps (suc n) b passed h f e =
+      let t = taken (has map (linkedBit (sec b))) (withVisited passed b (linkedBit (sec b))) (leavesMap map sec n (linkedBit (sec b)) (withVisited passed b)) e in
+      more-steps n b passed h f (leaves-steps n (linkedBit (sec b)) (withVisited passed b) (t .0) (t .1) (t .2))
 
-  pub steps-strays : (n b : ℕ) (passed : ℕ → Bool) → Steps n b passed → strays map sec n b passed ≡ false
-  unfolding strays linked
-  steps-strays zero b passed w = rw (w .last)
-  steps-strays (suc n) b passed w =
+  pub steps-leaves : (n b : ℕ) (passed : ℕ → Bool) → Steps n b passed → leavesMap map sec n b passed ≡ false
+  unfolding leavesMap chainBit
+  steps-leaves zero b passed w = rw (w .last)
+  steps-leaves (suc n) b passed w =
       let v = fewer-steps n b passed w in
-      rw (v .own 0 (omega arith), v .fresh 0 (omega arith)) (steps-strays n (nextOf (sec b)) (passing passed b) v)
+      rw (v .own 0 (omega arith), v .fresh 0 (omega arith)) (steps-leaves n (linkedBit (sec b)) (withVisited passed b) v)
 
 -- a chain that is not broken takes them from the first sector on
-pub chain-steps : (x : Facts) (sec : ℕ → List ℕ) → broken x sec ≡ false → Steps (x .map) sec (x .count - 1) (x .first) (λ c. false)
+pub chain-steps : (x : SlotFields) (sec : ℕ → List ℕ) → broken x sec ≡ false → Steps (x .map) sec (x .count - 1) (x .first) (λ c. false)
 unfolding broken
 chain-steps x sec e = by (has (x .map) (x .first)) refl e
   where
-    by : (t : Bool) → has (x .map) (x .first) ≡ t → cond t (strays (x .map) sec (x .count - 1) (x .first) (λ c. false)) true ≡ false
+    by : (t : Bool) → has (x .map) (x .first) ≡ t → cond t (leavesMap (x .map) sec (x .count - 1) (x .first) (λ c. false)) true ≡ false
         → Steps (x .map) sec (x .count - 1) (x .first) (λ c. false)
-    by true h w = strays-steps (x .map) sec (x .count - 1) (x .first) (λ c. false) h refl w
+    by true h w = leaves-steps (x .map) sec (x .count - 1) (x .first) (λ c. false) h refl w
     by false h w = absurd (true≢false w)
 
-pub steps-chain : (x : Facts) (sec : ℕ → List ℕ) → Steps (x .map) sec (x .count - 1) (x .first) (λ c. false) → broken x sec ≡ false
-unfolding broken linked
-steps-chain x sec w = rw (w .own 0 (omega arith)) (steps-strays (x .map) sec (x .count - 1) (x .first) (λ c. false) w)
+pub steps-chain : (x : SlotFields) (sec : ℕ → List ℕ) → Steps (x .map) sec (x .count - 1) (x .first) (λ c. false) → broken x sec ≡ false
+unfolding broken chainBit
+steps-chain x sec w = rw (w .own 0 (omega arith)) (steps-leaves (x .map) sec (x .count - 1) (x .first) (λ c. false) w)
 
-pub linked-own : (x : Facts) (sec : ℕ → List ℕ) → broken x sec ≡ false → (i : ℕ) → i < x .count → has (x .map) (linked sec (x .first) i) ≡ true
+pub linked-own : (x : SlotFields) (sec : ℕ → List ℕ) → broken x sec ≡ false → (i : ℕ) → i < x .count → has (x .map) (chainBit sec (x .first) i) ≡ true
 linked-own x sec e i h = chain-steps x sec e .own i (omega arith)

@@ -6,7 +6,7 @@ use mathlib.Core.Path.{_≡_}
 use lib.ListN.{length, getD}
 use Rattle.geometry.specs.Disk.{trackOf, sectorOf}
 use Rattle.maps.specs.Bits.{has}
-use Rattle.slots.specs.Slot.{Facts}
+use Rattle.slots.specs.Slot.{SlotFields}
 
 -- a sector's last two bytes are the track and the sector of map bit b
 pub record LinksTo (h : List ℕ) (b : ℕ) : Type 0 where
@@ -14,16 +14,16 @@ pub record LinksTo (h : List ℕ) (b : ℕ) : Type 0 where
   pub sector : getD h 511 0 ≡ sectorOf b
 
 -- they are 0, 0
-pub record Last (h : List ℕ) : Type 0 where
+pub record LastLink (h : List ℕ) : Type 0 where
   pub track : getD h 510 0 ≡ 0
   pub sector : getD h 511 0 ≡ 0
 
 -- count distinct bits of the slot's own map, the first address first, each sector linked to the next, the last to 0, 0
-pub record Whole (x : Facts) (sec : ℕ → List ℕ) : Type 0 where
+pub record WholeChain (x : SlotFields) (sec : ℕ → List ℕ) : Type 0 where
   pub chain : List ℕ
   pub long : length chain ≡ x .count
   pub own : (k : ℕ) → k < length chain → has (x .map) (getD chain k 0) ≡ true
   pub distinct : (j k : ℕ) → j < k → k < length chain → getD chain j 0 ≡ getD chain k 0 → ⊥
   pub starts : getD chain 0 0 ≡ x .first
   pub links : (k : ℕ) → suc k < length chain → LinksTo (sec (getD chain k 0)) (getD chain (suc k) 0)
-  pub last : (k : ℕ) → suc k ≡ length chain → Last (sec (getD chain k 0))
+  pub last : (k : ℕ) → suc k ≡ length chain → LastLink (sec (getD chain k 0))

@@ -2,7 +2,7 @@
 ghost use mathlib.Core.Path.{_≡_};
 ghost use Prim.Native.Nat.{_<_};
 ghost use Rattle.geometry.specs.Disk.{bitOf, placeOrEnd};
-ghost use Rattle.slots.specs.Slot.{firstOf, facts};
+ghost use Rattle.slots.specs.Slot.{firstOf, slotFields};
 ghost use Rattle.chains.specs.File.{sectorsOf};
 ghost use Rattle.chains.specs.Chain.{isLast, broken};
 
@@ -41,7 +41,7 @@ fn place_after(bit: usize, at: usize, next: usize, track: usize, number: usize) 
 // Row 10: whether the chain is broken. The sectors passed are marked in a map, and a link to a marked one is refused there.
 // No link waits for a mark: the place of the next sector does not hang on the map.
 pub fn chain_broken(image: &[u8], s: &[u8]) -> bool
-    ensures { λ r. ⌜ r ≡ broken (facts (now (s .entry))) (sectorsOf (now (image .entry)) (now (s .entry))) ⌝ }
+    ensures { λ r. ⌜ r ≡ broken (slotFields (now (s .entry))) (sectorsOf (now (image .entry)) (now (s .entry))) ⌝ }
 {
     let map = slots::map_of(s);
     let mut bit = slots::first_of(s);
@@ -51,7 +51,7 @@ pub fn chain_broken(image: &[u8], s: &[u8]) -> bool
     let mut left = slots::count_of(s);
     let mut at = first_place(s);
     let mut passed = [0u8; 195];
-    maps::mark(&mut passed, bit);
+    maps::set_bit(&mut passed, bit);
     while 1 < left {
         let track = buffers::num_at(image, at + 510);
         let number = buffers::num_at(image, at + 511);
@@ -62,7 +62,7 @@ pub fn chain_broken(image: &[u8], s: &[u8]) -> bool
         if maps::has_bit(&passed, next) {
             return true;
         }
-        maps::mark(&mut passed, next);
+        maps::set_bit(&mut passed, next);
         at = place_after(bit, at, next, track, number);
         bit = next;
         left -= 1;

@@ -15,13 +15,13 @@ use Rattle.directory.specs.Places.{slotCount, slots, pastGap, slotAt, sl
 use Rattle.directory.specs.Directory.{labelOf, tracksOf, slotsIn}
 use Rattle.directory.proofs.Places.{slots-count, slot-few}
 
-pub tracks-few : (d : List ℕ) → tracksOf d ≤ 35
+pub disk-tracks-few : (d : List ℕ) → tracksOf d ≤ 35
 unfolding tracksOf
-tracks-few d = tracks.tracks-few (labelOf d 255)
+disk-tracks-few d = tracks.tracks-few (labelOf d 255)
 
 -- a slot of the directory is below the most there can be
 pub slots-few : (d : List ℕ) → slotsIn d ≤ slots
-slots-few d = ⊎-elim (λ (h : slots < slotsIn d). absurd (omega (arith, slot-few (tracksOf d) slots (tracks-few d) h .0))) (λ h. h) (below-or-not slots (slotsIn d))
+slots-few d = ⊎-elim (λ (h : slots < slotsIn d). absurd (omega (arith, slot-few (tracksOf d) slots (disk-tracks-few d) h .0))) (λ h. h) (below-or-not slots (slotsIn d))
 
 -- ---- by slot 1 alone
 
@@ -47,9 +47,9 @@ pub tracks-none : (d : List ℕ) {n : ℕ} → n ≡ getD d 255 0 → 35 < n →
 unfolding tracksOf tracksBy
 tracks-none d {n} e h = sym (ap tracksBy (label-byte d ∙ sym e) ∙ rw (lt-leb n 35 h))
 
-pub good-byte : (d : List ℕ) {n : ℕ} → n ≡ getD d 255 0 → n ≤ 35 → false ≡ badTracks (labelOf d 255)
+pub accepted-byte : (d : List ℕ) {n : ℕ} → n ≡ getD d 255 0 → n ≤ 35 → false ≡ badTracks (labelOf d 255)
 unfolding badTracks
-good-byte d {n} e h = sym (ap badTracks (label-byte d ∙ sym e) ∙ rw (le-ltb 35 n h))
+accepted-byte d {n} e h = sym (ap badTracks (label-byte d ∙ sym e) ∙ rw (le-ltb 35 n h))
 
 pub bad-byte : (d : List ℕ) {n : ℕ} → n ≡ getD d 255 0 → 35 < n → not (eqb n 255) ≡ badTracks (labelOf d 255)
 unfolding badTracks

@@ -13,7 +13,7 @@ use Rattle.buffers.proofs.Lists.{below-or-not, part-part}
 use Rattle.buffers.proofs.Counts.{count-more, count-le, count-add, none-count}
 use Rattle.slots.specs.Slot.{isLive}
 use Rattle.directory.specs.Places.{slotCount, slots, slotAt, slotPlace, slotBytes}
-use Rattle.directory.specs.Directory.{held, Directory, labelOf, tracksOf, slotsRead, seen, directory, slotOr, liveAmong}
+use Rattle.directory.specs.Directory.{foldOption, Directory, labelOf, tracksOf, slotsRead, isRead, directory, slotOr, liveAmong}
 use Rattle.directory.proofs.Places.{slot-base, slot-front, slot-placed}
 use Rattle.directory.proofs.Label.{label-agree, tracks-agree}
 use Rattle.directory.proofs.Ends.{slot-read, read-most, seen-read, unread, seen-small, unseen-past, seen-agree, nameless-agree}
@@ -29,18 +29,18 @@ slot-past d i h = rw (le-ltb i slots h)
 
 -- ---- live, erased, unread, or none at all
 
-pub directory-live : (d : List ℕ) (i : ℕ) → seen d i ≡ true → isLive (slotBytes d i) ≡ true → directory d i ≡ some (slotBytes d i)
+pub directory-live : (d : List ℕ) (i : ℕ) → isRead d i ≡ true → isLive (slotBytes d i) ≡ true → directory d i ≡ some (slotBytes d i)
 unfolding directory
 directory-live d i h e = rw (h, e)
 
-pub directory-unseen : (d : List ℕ) (i : ℕ) → seen d i ≡ false → directory d i ≡ none
+pub directory-unseen : (d : List ℕ) (i : ℕ) → isRead d i ≡ false → directory d i ≡ none
 unfolding directory
 directory-unseen d i h = rw h
 
 -- read or not
 pub directory-dead : (d : List ℕ) (i : ℕ) → isLive (slotBytes d i) ≡ false → directory d i ≡ none
 unfolding directory
-directory-dead d i e = by (seen d i)
+directory-dead d i e = by (isRead d i)
   where
     by : (t : Bool) → cond (t && isLive (slotBytes d i)) (some (slotBytes d i)) none ≡ none
     by true = rw e
@@ -57,12 +57,12 @@ pub directory-read : (d : List ℕ) (i : ℕ) → i < slotsRead d → directory 
 unfolding directory
 directory-read d i h = rw (seen-read d i h, slot-read d i (omega (arith, read-most d)))
 
-pub directory-some : (d : List ℕ) (i : ℕ) (s : List ℕ) → directory d i ≡ some s → (i < slots) × (s ≡ slotBytes d i) × (isLive s ≡ true) × (seen d i ≡ true)
+pub directory-some : (d : List ℕ) (i : ℕ) (s : List ℕ) → directory d i ≡ some s → (i < slots) × (s ≡ slotBytes d i) × (isLive s ≡ true) × (isRead d i ≡ true)
 unfolding directory
-directory-some d i s e = by (seen d i) (isLive (slotBytes d i)) refl refl e
+directory-some d i s e = by (isRead d i) (isLive (slotBytes d i)) refl refl e
   where
-    by : (t l : Bool) → seen d i ≡ t → isLive (slotBytes d i) ≡ l → cond (t && l) (some (slotBytes d i)) none ≡ some s
-        → (i < slots) × (s ≡ slotBytes d i) × (isLive s ≡ true) × (seen d i ≡ true)
+    by : (t l : Bool) → isRead d i ≡ t → isLive (slotBytes d i) ≡ l → cond (t && l) (some (slotBytes d i)) none ≡ some s
+        → (i < slots) × (s ≡ slotBytes d i) × (isLive s ≡ true) × (isRead d i ≡ true)
     by true true p q w =
         let z : s ≡ slotBytes d i = cc in
         (seen-small d i p, z, ap isLive z ∙ q, p)
@@ -99,7 +99,7 @@ unfolding directory
 at-front d z i =
     ⊎-elim
     (λ (h : i < 80).
-    let n : seen (part 0 40960 d) i ≡ seen d i =
+    let n : isRead (part 0 40960 d) i ≡ isRead d i =
     seen-agree d (part 0 40960 d) i (tracks-front d) (λ j k. nameless-agree d (part 0 40960 d) j (slot-in-front d j (omega arith))) in
     rw (n, slot-in-front d i h))
     (λ (h : 80 ≤ i). directory-base d z i h ∙ sym (directory-base (part 0 40960 d) (tracks-front d ∙ z) i h)) (below-or-not i 80)
@@ -112,15 +112,15 @@ directory-front d z = fun-ext (at-front d z)
 module _ (v : Directory) (i : ℕ) where
   pub among-dead : v i ≡ none → liveAmong v (i + 1) ≡ liveAmong v i
   unfolding liveAmong
-  among-dead e = count-more i (λ i. held false (λ s. true) (v i)) ∙ rw e (omega arith)
+  among-dead e = count-more i (λ i. foldOption false (λ s. true) (v i)) ∙ rw e (omega arith)
 
   pub among-live : (s : List ℕ) → v i ≡ some s → liveAmong v (i + 1) ≡ liveAmong v i + 1
   unfolding liveAmong
-  among-live s e = count-more i (λ i. held false (λ s. true) (v i)) ∙ rw e
+  among-live s e = count-more i (λ i. foldOption false (λ s. true) (v i)) ∙ rw e
 
 pub among-few : (v : Directory) (i : ℕ) → liveAmong v i ≤ i
 unfolding liveAmong
-among-few v i = count-le i (λ i. held false (λ s. true) (v i))
+among-few v i = count-le i (λ i. foldOption false (λ s. true) (v i))
 
 -- the same of a number that is it
 pub among-seen : (v : Directory) (i n : ℕ) → n ≡ liveAmong v i → n ≤ i
@@ -134,13 +134,13 @@ among-none v = refl
 pub among-rest : (v : Directory) (i n : ℕ) → i ≤ n → liveAmong v n ≤ liveAmong v i → (j : ℕ) → i ≤ j → j < n → v j ≡ none
 unfolding liveAmong
 among-rest v i n h e j k l =
-    let live : ℕ → Bool = λ i. held false (λ s. true) (v i) in
+    let live : ℕ → Bool = λ i. foldOption false (λ s. true) (v i) in
     let m : i + (n - i) ≡ n = omega arith in
     let z : count (n - i) (λ j. live (i + j)) ≡ 0 = omega (arith, ap (λ (x : ℕ). count x live) m, count-add i (n - i) live) in
     let w : i + (j - i) ≡ j = omega arith in
     by (v j) (sym (ap live w) ∙ none-count (n - i) (λ j. live (i + j)) z (j - i) (omega arith))
   where
-    by : (o : Option (List ℕ)) → held false (λ s. true) o ≡ false → o ≡ none
+    by : (o : Option (List ℕ)) → foldOption false (λ s. true) o ≡ false → o ≡ none
     by none q = refl
     by (some s) q = absurd (true≢false q)
 

@@ -6,16 +6,16 @@ use mathlib.Core.Option.{Option, none, some}
 use lib.Dec.{ltb}
 use lib.ListN.{getD}
 use Rattle.buffers.specs.Bytes.{count}
-use Rattle.refusals.specs.Order.{sweep}
+use Rattle.refusals.specs.Order.{scan}
 use Rattle.slots.specs.Slot.{isLive, isNameless}
 use Rattle.slots.specs.Tracks.{isLabel, tracksBy}
 use Rattle.directory.specs.Places.{slotCount, slots, slotBytes}
 
 -- by what a slot holds: nothing, or this
 module _ {A B : Type 0} where
-  abbrev pub held : B → (A → B) → Option A → B
-  held b k none = b
-  held b k (some a) = k a
+  abbrev pub foldOption : B → (A → B) → Option A → B
+  foldOption b k none = b
+  foldOption b k (some a) = k a
 
 abbrev pub Directory : Type 0
 Directory = ℕ → Option (List ℕ)
@@ -36,27 +36,27 @@ unfoldable pub isSlot : List ℕ → ℕ → Bool
 isSlot d i = ltb i (slotsIn d)
 
 -- "a slot whose first name byte is 0 was never used"
-unfoldable pub nameless : List ℕ → ℕ → Bool
-nameless d i = isNameless (slotBytes d i)
+unfoldable pub isNamelessAt : List ℕ → ℕ → Bool
+isNamelessAt d i = isNameless (slotBytes d i)
 
 abbrev pub endAt : List ℕ → ℕ → Option ℕ
-endAt d i = cond (nameless d i) (some i) none
+endAt d i = cond (isNamelessAt d i) (some i) none
 
 -- the end of the directory: the lowest such slot, where there is one
 unfoldable pub endOf : List ℕ → Option ℕ
-endOf d = sweep (slotsIn d) (endAt d)
+endOf d = scan (slotsIn d) (endAt d)
 
 -- "and directory reading stops there": how many slots are read, all of them where there is no end
 unfoldable pub slotsRead : List ℕ → ℕ
-slotsRead d = held (slotsIn d) (λ i. i) (endOf d)
+slotsRead d = foldOption (slotsIn d) (λ i. i) (endOf d)
 
 -- "Now that slot, whatever its byte 0, and all later ones are unread": slot i is read
-unfoldable pub seen : List ℕ → ℕ → Bool
-seen d i = ltb i (slotsRead d)
+unfoldable pub isRead : List ℕ → ℕ → Bool
+isRead d i = ltb i (slotsRead d)
 
 -- "Byte 0 zero means erased or free." "Erased slots are not examined." Unread ones "count as free: none of them is a live slot"
 unfoldable pub directory : List ℕ → Directory
-directory d i = cond (seen d i && isLive (slotBytes d i)) (some (slotBytes d i)) none
+directory d i = cond (isRead d i && isLive (slotBytes d i)) (some (slotBytes d i)) none
 
 -- the bytes of a slot, read or not, and none past the last slot
 unfoldable pub slotOr : List ℕ → ℕ → List ℕ
@@ -64,4 +64,4 @@ slotOr d i = cond (ltb i slots) (slotBytes d i) []
 
 -- how many of the first k slots are live
 unfoldable pub liveAmong : Directory → ℕ → ℕ
-liveAmong v k = count k (λ i. held false (λ s. true) (v i))
+liveAmong v k = count k (λ i. foldOption false (λ s. true) (v i))

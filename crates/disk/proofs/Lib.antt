@@ -1,7 +1,7 @@
 pub mod Order
 pub mod Rows
-pub mod Sound
-pub mod Look
+pub mod Accepted
+pub mod View
 pub mod Examined
 pub mod Behind
 pub mod Release

@@ -10,16 +10,16 @@ use lib.Dec.{eqb, leb, ltb}
 use lib.ListN.{getD}
 use Rattle.buffers.proofs.Tests.{and-both, both-and, or-either, either-or, or-neither}
 use Rattle.maps.specs.Bits.{has, bitsOf}
-use Rattle.refusals.specs.Order.{Row, Clear}
-use Rattle.slots.specs.Slot.{facts, known, carried, spectrum, kindOf, countOf, mapOf, firstOf, pagesOf, remainderOf, lengthOf, directoryKind}
+use Rattle.refusals.specs.Order.{Row, RowsClear}
+use Rattle.slots.specs.Slot.{slotFields, known, carried, spectrum, kindOf, countOf, mapOf, firstOf, pagesOf, remainderOf, lengthOf, directoryKind}
 use Rattle.slots.specs.Rows.{own, directoryRows, fileRows}
 use Rattle.chains.specs.Chain.{broken}
-use Rattle.headers.specs.Header.{headerDiffers, headerLength, later, chainRows}
+use Rattle.headers.specs.Header.{headerDiffers, headerLength, chainPassRows, chainRows}
 use Rattle.slots.specs.Tracks.{dataCount, dataBit, inDirectory}
 use Rattle.slots.proofs.KindLaws.{directory-is, is-directory, directory-not, not-directory}
 use Rattle.slots.proofs.Tracks.{outside-data, data-outside, empty-outside}
 use Rattle.chains.proofs.Laws.{map-small}
-use Rattle.disk.specs.Sound.{Known, Carried, Spectrum, Agrees}
+use Rattle.disk.specs.Accepted.{Known, Carried, Spectrum, Agrees}
 
 -- ---- Booleans
 
@@ -69,16 +69,16 @@ is-spectrum k h = in-range 1 k 4 h
 -- ---- rows 2 to 7
 
 -- no row of one slot's own holds: the tests as facts; a directory has no sectors, and any other file has its first
-pub record Own (n : ℕ) (s : List ℕ) : Type 0 where
+pub record OwnRowsClear (n : ℕ) (s : List ℕ) : Type 0 where
   pub kind : Known (kindOf s)
   pub sectors : ((kindOf s ≡ 21) × (countOf s ≡ 0)) ⊎ ((kindOf s ≡ 21 → ⊥) × (1 ≤ countOf s) × (has (mapOf s) (firstOf s) ≡ true))
   pub few-sectors : countOf s ≤ dataCount n
   pub bits : bitsOf (mapOf s) ≡ countOf s
   pub data-bits : (b : ℕ) → has (mapOf s) b ≡ true → dataBit n b ≡ true
-  pub fits : Carried (kindOf s) → 9 + lengthOf (facts s) ≤ 510 * countOf s
+  pub fits : Carried (kindOf s) → 9 + lengthOf (slotFields s) ≤ 510 * countOf s
 
-own-directory : (n : ℕ) (s : List ℕ) → kindOf s ≡ 21 → Clear (directoryRows (facts s)) → Own n s
-unfolding facts
+own-directory : (n : ℕ) (s : List ℕ) → kindOf s ≡ 21 → RowsClear (directoryRows (slotFields s)) → OwnRowsClear n s
+unfolding slotFields
 own-directory n s k c =
     let z : countOf s ≡ 0 = eqb-true (countOf s) 0 (not-false (eqb (countOf s) 0) (c .0)) in
     let m : bitsOf (mapOf s) ≡ 0 = eqb-true (bitsOf (mapOf s)) 0 (not-false (eqb (bitsOf (mapOf s)) 0) (c .1 .0)) in
@@ -91,8 +91,8 @@ own-directory n s k c =
       fits = λ h. absurd (omega (arith, h .1));
     }
 
-own-file : (n : ℕ) (s : List ℕ) → (kindOf s ≡ 21 → ⊥) → Clear (fileRows (dataCount n) (inDirectory n (mapOf s)) (facts s)) → Own n s
-unfolding facts
+own-file : (n : ℕ) (s : List ℕ) → (kindOf s ≡ 21 → ⊥) → RowsClear (fileRows (dataCount n) (inDirectory n (mapOf s)) (slotFields s)) → OwnRowsClear n s
+unfolding slotFields
 own-file n s k c =
     let q = range 1 (countOf s) (dataCount n) (not-false (leb 1 (countOf s) && leb (countOf s) (dataCount n)) (c .1 .0)) in
     let either = or-neither (not (has (mapOf s) (firstOf s))) (inDirectory n (mapOf s)) (c .1 .1 .1 .0) in
@@ -103,24 +103,24 @@ own-file n s k c =
       bits = eqb-true (bitsOf (mapOf s)) (countOf s) (not-false (eqb (bitsOf (mapOf s)) (countOf s)) (c .1 .1 .0));
       data-bits = λ b m. outside-data n (mapOf s) (either .1) b (map-small s b m) m;
       fits = λ h.
-          ltb-false (510 * countOf s) (9 + lengthOf (facts s))
-          (guard (carried (kindOf s)) (ltb (510 * countOf s) (9 + lengthOf (facts s))) (c .1 .1 .1 .1 .0) (is-carried (kindOf s) h));
+          ltb-false (510 * countOf s) (9 + lengthOf (slotFields s))
+          (guard (carried (kindOf s)) (ltb (510 * countOf s) (9 + lengthOf (slotFields s))) (c .1 .1 .1 .1 .0) (is-carried (kindOf s) h));
     }
 
-pub own-clear : (n : ℕ) (s : List ℕ) → Clear (own n (facts s)) → Own n s
-unfolding facts
+pub own-clear : (n : ℕ) (s : List ℕ) → RowsClear (own n (slotFields s)) → OwnRowsClear n s
+unfolding slotFields
 own-clear n s c = by (directoryKind (kindOf s)) refl c
   where
-    by : (t : Bool) → directoryKind (kindOf s) ≡ t → Clear (cond t (directoryRows (facts s)) (fileRows (dataCount n) (inDirectory n (mapOf s)) (facts s))) → Own n s
+    by : (t : Bool) → directoryKind (kindOf s) ≡ t → RowsClear (cond t (directoryRows (slotFields s)) (fileRows (dataCount n) (inDirectory n (mapOf s)) (slotFields s))) → OwnRowsClear n s
     by true e q = own-directory n s (directory-is (kindOf s) e) q
     by false e q = own-file n s (directory-not (kindOf s) e) q
 
-directory-clear : (n : ℕ) (s : List ℕ) → Own n s → countOf s ≡ 0 → Clear (directoryRows (facts s))
-unfolding facts
+directory-clear : (n : ℕ) (s : List ℕ) → OwnRowsClear n s → countOf s ≡ 0 → RowsClear (directoryRows (slotFields s))
+unfolding slotFields
 directory-clear n s w z = (ap not (eq-eqb (countOf s) 0 z), (ap not (eq-eqb (bitsOf (mapOf s)) 0 (w .bits ∙ z)), tt))
 
-file-clear : (n : ℕ) (s : List ℕ) → Own n s → 1 ≤ countOf s → has (mapOf s) (firstOf s) ≡ true → Clear (fileRows (dataCount n) (inDirectory n (mapOf s)) (facts s))
-unfolding facts
+file-clear : (n : ℕ) (s : List ℕ) → OwnRowsClear n s → 1 ≤ countOf s → has (mapOf s) (firstOf s) ≡ true → RowsClear (fileRows (dataCount n) (inDirectory n (mapOf s)) (slotFields s))
+unfolding slotFields
 file-clear n s w some first = (
   ap not (is-known (kindOf s) (w .kind)),
   (
@@ -130,8 +130,8 @@ file-clear n s w some first = (
       (
         rw (first, data-outside n (mapOf s) (λ b l. w .data-bits b)),
         (
-          guarded (carried (kindOf s)) (ltb (510 * countOf s) (9 + lengthOf (facts s)))
-              (λ e. le-ltb (510 * countOf s) (9 + lengthOf (facts s)) (w .fits (carried-is (kindOf s) e))),
+          guarded (carried (kindOf s)) (ltb (510 * countOf s) (9 + lengthOf (slotFields s)))
+              (λ e. le-ltb (510 * countOf s) (9 + lengthOf (slotFields s)) (w .fits (carried-is (kindOf s) e))),
           tt,
         ),
       ),
@@ -139,16 +139,16 @@ file-clear n s w some first = (
   ),
 )
 
-pub clear-own : (n : ℕ) (s : List ℕ) → Own n s → Clear (own n (facts s))
-unfolding facts
+pub clear-own : (n : ℕ) (s : List ℕ) → OwnRowsClear n s → RowsClear (own n (slotFields s))
+unfolding slotFields
 clear-own n s w =
     ⊎-elim (λ a. rw (is-directory (kindOf s) (a .0)) (directory-clear n s w (a .1)))
     (λ a. rw (not-directory (kindOf s) (a .0)) (file-clear n s w (a .1) (a .2))) (w .sectors)
 
 -- ---- row 11
 
-pub agrees : (s h : List ℕ) → headerDiffers (facts s) h ≡ false → Agrees s h
-unfolding headerDiffers facts
+pub agrees : (s h : List ℕ) → headerDiffers (slotFields s) h ≡ false → Agrees s h
+unfolding headerDiffers slotFields
 agrees s h e =
     let a = and-both (eqb (getD h 0 0) (kindOf s)) (eqb ((getD h 1 0 + 256 * getD h 2 0) % 16384) (remainderOf s) && eqb (getD h 7 0) (pagesOf s)) (not-false _ e) in
     let b = and-both (eqb ((getD h 1 0 + 256 * getD h 2 0) % 16384) (remainderOf s)) (eqb (getD h 7 0) (pagesOf s)) (a .1) in
@@ -158,8 +158,8 @@ agrees s h e =
       pages = eqb-true (getD h 7 0) (pagesOf s) (b .1);
     }
 
-pub agree-same : (s h : List ℕ) → Agrees s h → headerDiffers (facts s) h ≡ false
-unfolding headerDiffers facts
+pub agree-same : (s h : List ℕ) → Agrees s h → headerDiffers (slotFields s) h ≡ false
+unfolding headerDiffers slotFields
 agree-same s h w =
     ap not
     (both-and (eqb (getD h 0 0) (kindOf s)) (eqb ((getD h 1 0 + 256 * getD h 2 0) % 16384) (remainderOf s) && eqb (getD h 7 0) (pagesOf s))
@@ -169,41 +169,41 @@ agree-same s h w =
 
 -- rows 10, 11 and 25 of a file: where it has sectors its chain is not broken, a carried header agrees, and a Spectrum's body has
 -- its sectors
-pub record Later (s : List ℕ) (sec : ℕ → List ℕ) : Type 0 where
-  pub whole : (kindOf s ≡ 21 → ⊥) → broken (facts s) sec ≡ false
-  pub header : Carried (kindOf s) → Agrees s (sec (facts s .first))
-  pub long : Spectrum (kindOf s) → 9 + headerLength (sec (facts s .first)) ≤ 510 * countOf s
+pub record ChainRowsClear (s : List ℕ) (sec : ℕ → List ℕ) : Type 0 where
+  pub whole : (kindOf s ≡ 21 → ⊥) → broken (slotFields s) sec ≡ false
+  pub header : Carried (kindOf s) → Agrees s (sec (slotFields s .first))
+  pub long : Spectrum (kindOf s) → 9 + headerLength (sec (slotFields s .first)) ≤ 510 * countOf s
 
-pub later-clear : (s : List ℕ) (sec : ℕ → List ℕ) → Clear (later (facts s) sec) → Later s sec
-unfolding facts
+pub later-clear : (s : List ℕ) (sec : ℕ → List ℕ) → RowsClear (chainPassRows (slotFields s) sec) → ChainRowsClear s sec
+unfolding slotFields
 later-clear s sec c = by (directoryKind (kindOf s)) refl c
   where
-    by : (t : Bool) → directoryKind (kindOf s) ≡ t → Clear (cond t [] (chainRows (facts s) sec)) → Later s sec
+    by : (t : Bool) → directoryKind (kindOf s) ≡ t → RowsClear (cond t [] (chainRows (slotFields s) sec)) → ChainRowsClear s sec
     by true e q =
         let k : kindOf s ≡ 21 = directory-is (kindOf s) e in
         record { whole = λ h. absurd (h k); header = λ h. absurd (omega (arith, h .1)); long = λ h. absurd (omega (arith, h .1)) }
     by false e q = record {
       whole = λ h. q .0;
-      header = λ h. agrees s (sec (facts s .first))
-          (guard (carried (kindOf s)) (headerDiffers (facts s) (sec (facts s .first))) (q .1 .0) (is-carried (kindOf s) h));
-      long = λ h. ltb-false (510 * countOf s) (9 + headerLength (sec (facts s .first)))
-          (guard (spectrum (kindOf s)) (ltb (510 * countOf s) (9 + headerLength (sec (facts s .first)))) (q .1 .1 .0) (is-spectrum (kindOf s) h));
+      header = λ h. agrees s (sec (slotFields s .first))
+          (guard (carried (kindOf s)) (headerDiffers (slotFields s) (sec (slotFields s .first))) (q .1 .0) (is-carried (kindOf s) h));
+      long = λ h. ltb-false (510 * countOf s) (9 + headerLength (sec (slotFields s .first)))
+          (guard (spectrum (kindOf s)) (ltb (510 * countOf s) (9 + headerLength (sec (slotFields s .first)))) (q .1 .1 .0) (is-spectrum (kindOf s) h));
     }
 
-pub clear-later : (s : List ℕ) (sec : ℕ → List ℕ) → Later s sec → Clear (later (facts s) sec)
-unfolding facts
+pub clear-later : (s : List ℕ) (sec : ℕ → List ℕ) → ChainRowsClear s sec → RowsClear (chainPassRows (slotFields s) sec)
+unfolding slotFields
 clear-later s sec w = by (directoryKind (kindOf s)) refl
   where
-    by : (t : Bool) → directoryKind (kindOf s) ≡ t → Clear (cond t [] (chainRows (facts s) sec))
+    by : (t : Bool) → directoryKind (kindOf s) ≡ t → RowsClear (cond t [] (chainRows (slotFields s) sec))
     by true e = tt
     by false e = (
       w .whole (directory-not (kindOf s) e),
       (
-        guarded (carried (kindOf s)) (headerDiffers (facts s) (sec (facts s .first)))
-            (λ e. agree-same s (sec (facts s .first)) (w .header (carried-is (kindOf s) e))),
+        guarded (carried (kindOf s)) (headerDiffers (slotFields s) (sec (slotFields s .first)))
+            (λ e. agree-same s (sec (slotFields s .first)) (w .header (carried-is (kindOf s) e))),
         (
-          guarded (spectrum (kindOf s)) (ltb (510 * countOf s) (9 + headerLength (sec (facts s .first))))
-              (λ e. le-ltb (510 * countOf s) (9 + headerLength (sec (facts s .first))) (w .long (spectrum-is (kindOf s) e))),
+          guarded (spectrum (kindOf s)) (ltb (510 * countOf s) (9 + headerLength (sec (slotFields s .first))))
+              (λ e. le-ltb (510 * countOf s) (9 + headerLength (sec (slotFields s .first))) (w .long (spectrum-is (kindOf s) e))),
           tt,
         ),
       ),
@@ -211,12 +211,12 @@ clear-later s sec w = by (directoryKind (kindOf s)) refl
 
 -- ---- two lists of rows, one after the other
 
-pub clear-parts : (a b : List Row) → Clear (a ++ b) → Clear a × Clear b
+pub clear-parts : (a b : List Row) → RowsClear (a ++ b) → RowsClear a × RowsClear b
 unfolding _++_
 clear-parts [] b c = (tt, c)
 clear-parts (r ∷ a) b c = let d = clear-parts a b (c .1) in ((c .0, d .0), d .1)
 
-pub parts-clear : (a b : List Row) → Clear a → Clear b → Clear (a ++ b)
+pub parts-clear : (a b : List Row) → RowsClear a → RowsClear b → RowsClear (a ++ b)
 unfolding _++_
 parts-clear [] b p q = q
 parts-clear (r ∷ a) b p q = (p .0, parts-clear a b (p .1) q)

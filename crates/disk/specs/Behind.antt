@@ -6,7 +6,7 @@ use mathlib.Core.Logic.{_⊎_}
 use mathlib.Core.Path.{_≡_}
 use lib.ListN.{length, getD}
 use Rattle.directory.specs.Places.{slotAt}
-use Rattle.directory.specs.Directory.{labelOf, slotsIn, nameless}
+use Rattle.directory.specs.Directory.{labelOf, slotsIn, isNamelessAt}
 
 -- place k lies in no slot of the disk from slot i on
 abbrev pub Elsewhere : List ℕ → ℕ → ℕ → Type 0
@@ -16,6 +16,6 @@ Elsewhere d i k = (j : ℕ) → i ≤ j → j < slotsIn d → (k < slotAt j) ⊎
 pub record AlikeTo (i : ℕ) (d e : List ℕ) : Type 0 where
   pub long : length d ≡ length e
   pub label : labelOf d ≡ labelOf e
-  pub here : nameless d i ≡ true
-  pub there : nameless e i ≡ true
+  pub here : isNamelessAt d i ≡ true
+  pub there : isNamelessAt e i ≡ true
   pub same : (k : ℕ) → Elsewhere d i k → getD d k 0 ≡ getD e k 0

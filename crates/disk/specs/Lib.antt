@@ -1,6 +1,6 @@
-pub mod Look
+pub mod View
 pub mod Check
-pub mod Sound
+pub mod Accepted
 pub mod Given
 pub mod Behind
 pub mod Release

@@ -10,13 +10,13 @@ use borrow.Author.Tests.{eqb-true, eqb-false, leb-true, eq-eqb, ne-eqb}
 use lib.Dec.{leb, eqb}
 use lib.ListN.{length, take, drop, getD, length-take, length-drop}
 use lib.Seq.{getD-take, getD-drop}
-use Rattle.geometry.specs.Disk.{imageSize, isSector, placeOf}
-use Rattle.geometry.proofs.Tests.{told}
+use Rattle.geometry.specs.Disk.{imageSize, isSector, sectorPlace}
+use Rattle.geometry.proofs.Tests.{true-or-false}
 use Rattle.geometry.proofs.Laws.{sector-inside}
 use Rattle.drives.specs.Raw.{isImage, isDrive, chosen, rawRefusal, rawSector}
 
 -- What number 0 says of the arguments.
-pub record Accepted (one two : List ℕ) (d t s : ℕ) : Type 0 where
+pub record RawAccepted (one two : List ℕ) (d t s : ℕ) : Type 0 where
   pub first : length one ≡ imageSize
   pub second : length two ≡ imageSize
   pub low : 1 ≤ d
@@ -29,7 +29,7 @@ none true false e = absurd (omega arith)
 none false q e = absurd (omega arith)
 
 module _ (one two : List ℕ) (d t s : ℕ) where
-  pub accepted : rawRefusal one two d t s ≡ 0 → Accepted one two d t s
+  pub accepted : rawRefusal one two d t s ≡ 0 → RawAccepted one two d t s
   unfolding rawRefusal
   accepted e =
       record {
@@ -53,7 +53,7 @@ module _ (one two : List ℕ) (d t s : ℕ) where
       drive = and-eq-true-iff _ _ .0 (asked .0)
 
   -- The part where there is no refusal, and where there is one.
-  pub part : rawRefusal one two d t s ≡ 0 → rawSector one two d t s ≡ take 512 (drop (placeOf t s) (chosen one two d))
+  pub part : rawRefusal one two d t s ≡ 0 → rawSector one two d t s ≡ take 512 (drop (sectorPlace t s) (chosen one two d))
   unfolding rawSector
   part e = rw (eq-eqb _ _ e)
 
@@ -62,7 +62,7 @@ module _ (one two : List ℕ) (d t s : ℕ) where
   part-empty n = rw (ne-eqb _ _ n)
 
   -- The chosen image is of the full size.
-  chosen-length : Accepted one two d t s → length (chosen one two d) ≡ imageSize
+  chosen-length : RawAccepted one two d t s → length (chosen one two d) ≡ imageSize
   chosen-length a = go (eqb d 1)
     where
       go : (x : Bool) → length (cond x one two) ≡ imageSize
@@ -77,11 +77,11 @@ module _ (one two : List ℕ) (d t s : ℕ) where
       rw (part e) (simp (length-take, length-drop) (omega (arith, sector-inside t s (a .sector))))
 
   pub part-accepted : length (rawSector one two d t s) ≡ 512 → rawRefusal one two d t s ≡ 0
-  part-accepted l = ⊎-elim (λ e. eqb-true _ _ e) no (told (eqb (rawRefusal one two d t s) 0))
+  part-accepted l = ⊎-elim (λ e. eqb-true _ _ e) no (true-or-false (eqb (rawRefusal one two d t s) 0))
     where
       no : eqb (rawRefusal one two d t s) 0 ≡ false → rawRefusal one two d t s ≡ 0
       no e = let empty = part-empty (eqb-false _ _ e) in absurd (omega (arith, rw empty at l))
 
   -- Byte k of the part is byte k of the sector in the chosen image.
-  pub part-byte : (k : ℕ) → rawRefusal one two d t s ≡ 0 → k < 512 → getD (rawSector one two d t s) k 0 ≡ getD (chosen one two d) (placeOf t s + k) 0
+  pub part-byte : (k : ℕ) → rawRefusal one two d t s ≡ 0 → k < 512 → getD (rawSector one two d t s) k 0 ≡ getD (chosen one two d) (sectorPlace t s + k) 0
   part-byte k e h = rw (part e, getD-take, getD-drop)

@@ -6,7 +6,7 @@ use mathlib.Core.Bool.{Bool, cond, not, _&&_}
 use mathlib.Core.List.{List, []}
 use lib.Dec.{leb, eqb}
 use lib.ListN.{length, take, drop}
-use Rattle.geometry.specs.Disk.{imageSize, isSector, placeOf}
+use Rattle.geometry.specs.Disk.{imageSize, isSector, sectorPlace}
 
 -- "819,200 bytes."
 abbrev pub isImage : List ℕ → Bool
@@ -26,4 +26,4 @@ rawRefusal one two d t s = cond (not (isImage one && isImage two)) 1 (cond (not 
 
 -- "and hands back those 512 bytes of the chosen drive's image uncopied; a refusal hands back an empty part"
 unfoldable pub rawSector : List ℕ → List ℕ → ℕ → ℕ → ℕ → List ℕ
-rawSector one two d t s = cond (eqb (rawRefusal one two d t s) 0) (take 512 (drop (placeOf t s) (chosen one two d))) []
+rawSector one two d t s = cond (eqb (rawRefusal one two d t s) 0) (take 512 (drop (sectorPlace t s) (chosen one two d))) []

@@ -8,21 +8,21 @@ pub fn raw_refusal(one: &[u8], two: &[u8], drive: usize, track: usize, sector: u
     ensures { λ r. ⌜ r ≡ rawRefusal (now (one .entry)) (now (two .entry)) drive track sector ⌝ }
 {
     if one.len() != geometry::IMAGE_SIZE {
-        return refusals::number_of(Reason::NotAnImage);
+        return refusals::refusal_number(Reason::NotAnImage);
     }
     if two.len() != geometry::IMAGE_SIZE {
-        return refusals::number_of(Reason::NotAnImage);
+        return refusals::refusal_number(Reason::NotAnImage);
     }
     if drive < 1 {
-        return refusals::number_of(Reason::NoSuchSector);
+        return refusals::refusal_number(Reason::NoSuchSector);
     }
     if drive > 2 {
-        return refusals::number_of(Reason::NoSuchSector);
+        return refusals::refusal_number(Reason::NoSuchSector);
     }
     if geometry::is_sector(track, sector) {
         return 0;
     }
-    refusals::number_of(Reason::NoSuchSector)
+    refusals::refusal_number(Reason::NoSuchSector)
 }
 
 // The 512 bytes of a sector of the chosen drive, uncopied; an empty part on a refusal.

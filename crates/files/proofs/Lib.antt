@@ -2,7 +2,7 @@ pub mod Listed
 pub mod Named
 pub mod Starting
 pub mod Reading
-pub mod Looks
+pub mod Views
 pub mod Body
-pub mod Asked
+pub mod Refused
 pub mod Spelling

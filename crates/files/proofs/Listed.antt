@@ -13,7 +13,7 @@ use Rattle.buffers.specs.Bytes.{put, count}
 use Rattle.buffers.proofs.Lists.{length-put, put-none, put-append, part-long}
 use Rattle.geometry.specs.Disk.{imageSize}
 use Rattle.directory.specs.Places.{slots, slotAt}
-use Rattle.directory.specs.Directory.{held, Directory, tracksOf, slotsRead, directory, liveAmong}
+use Rattle.directory.specs.Directory.{foldOption, Directory, tracksOf, slotsRead, directory, liveAmong}
 use Rattle.directory.proofs.Live.{directory-some, among-rest, among-read}
 use Rattle.directory.proofs.Places.{slot-within}
 use Rattle.surveys.specs.Survey.{free, freeOf, usedMap, usedOr, filesOr}
@@ -22,12 +22,12 @@ use Rattle.surveys.specs.declared.Survey.{Survey}
 use Rattle.refusals.specs.Order.{Refusal, refuse, Reply, _else_, row}
 use Rattle.refusals.specs.Answers.{Outcome, out, filled, done, refused, refusalOf, replyOf}
 use Rattle.refusals.specs.declared.Refused.{Refused}
-use Rattle.refusals.specs.declared.Verdict.the-variants.{Sound, Unsound}
+use Rattle.refusals.specs.declared.Verdict.the-variants.{Accepted, Err}
 use Rattle.disk.specs.Check.{checkDisk, Examined}
-use Rattle.disk.proofs.Look.{look-slots, look-extra}
+use Rattle.disk.proofs.View.{view-slots, view-extra}
 use Rattle.disk.proofs.Examined.{accepted-size}
-use Rattle.files.specs.Calls.{entry, entries, listLook, listing}
-use Rattle.files.specs.Steps.{Accepted}
+use Rattle.files.specs.Calls.{listingEntry, entries, listView, listing}
+use Rattle.files.specs.Steps.{CheckedDisk}
 use native.Mathlib.Nat.{add-zero, add-suc}
 
 module _ (v : Directory) (i : ℕ) where
@@ -35,7 +35,7 @@ module _ (v : Directory) (i : ℕ) where
   unfolding entries
   entries-dead e = rw (add-one i, e) (append-nil (entries v i))
 
-  pub entries-live : (s : List ℕ) → v i ≡ some s → entries v (i + 1) ≡ entries v i ++ entry (i + 1) s
+  pub entries-live : (s : List ℕ) → v i ≡ some s → entries v (i + 1) ≡ entries v i ++ listingEntry (i + 1) s
   unfolding entries
   entries-live s e = rw (add-one i, e)
 
@@ -60,11 +60,11 @@ pub entries-long : (d : List ℕ) → imageSize ≤ length d → (k : ℕ) → k
 unfolding entries liveAmong count
 entries-long d h zero l = refl
 entries-long d h (suc k) l =
-    length-append (entries (directory d) k) (held [] (entry (suc k)) (directory d k))
+    length-append (entries (directory d) k) (foldOption [] (listingEntry (suc k)) (directory d k))
     ∙ by (directory d k) refl (entries-long d h k (omega arith))
   where
     by : (o : Option (List ℕ)) → directory d k ≡ o → length (entries (directory d) k) ≡ 258 * liveAmong (directory d) k
-        → length (entries (directory d) k) + length (held [] (entry (suc k)) o) ≡ 258 * (liveAmong (directory d) k + cond (held false (λ s. true) o) 1 0)
+        → length (entries (directory d) k) + length (foldOption [] (listingEntry (suc k)) o) ≡ 258 * (liveAmong (directory d) k + cond (foldOption false (λ s. true) o) 1 0)
     by none q e = omega arith
     by (some s) q e =
         omega (arith, slot-long d k s q h)
@@ -74,25 +74,25 @@ pub put-number : (d e f : List ℕ) (a x y : ℕ) (s : List ℕ) → e ≡ put d
 put-number d e f a x y s p q = q ∙ ap (λ (l : List ℕ). put l (a + 2) s) p ∙ put-append d a (x ∷ y ∷ []) s
 
 -- after i slots: the place of the next entry, and the buffer with those before it
-pub record Listed (d buf : List ℕ) (i at : ℕ) (now : List ℕ) : Type 0 where
+pub record ListLoop (d buf : List ℕ) (i at : ℕ) (now : List ℕ) : Type 0 where
   pub place : at ≡ length (entries (directory d) i)
   pub bytes : now ≡ put buf 0 (entries (directory d) i)
 
 module _ (d buf : List ℕ) where
-  pub listed-none : Listed d buf 0 0 buf
+  pub listed-none : ListLoop d buf 0 0 buf
   unfolding entries
   listed-none = record { place = refl; bytes = put-none buf 0 [] }
 
-  module _ (i at : ℕ) (now : List ℕ) (w : Listed d buf i at now) where
-    pub listed-more : (s : List ℕ) → directory d i ≡ some s → i < slots → imageSize ≤ length d → (next : List ℕ) → next ≡ put now at (entry (i + 1) s) → Listed d buf (i + 1) (at + 258) next
+  module _ (i at : ℕ) (now : List ℕ) (w : ListLoop d buf i at now) where
+    pub listed-more : (s : List ℕ) → directory d i ≡ some s → i < slots → imageSize ≤ length d → (next : List ℕ) → next ≡ put now at (listingEntry (i + 1) s) → ListLoop d buf (i + 1) (at + 258) next
     listed-more s e h l next p =
         let z : at ≡ 0 + length (entries (directory d) i) = omega (arith, w .place) in
         record {
-          place = omega (arith, w .place, ap length (entries-live (directory d) i s e), length-append (entries (directory d) i) (entry (i + 1) s), slot-long d i s e l);
-          bytes = p ∙ rw (w .bytes, z, entries-live (directory d) i s e) (put-append buf 0 (entries (directory d) i) (entry (i + 1) s));
+          place = omega (arith, w .place, ap length (entries-live (directory d) i s e), length-append (entries (directory d) i) (listingEntry (i + 1) s), slot-long d i s e l);
+          bytes = p ∙ rw (w .bytes, z, entries-live (directory d) i s e) (put-append buf 0 (entries (directory d) i) (listingEntry (i + 1) s));
         }
 
-    pub listed-same : directory d i ≡ none → Listed d buf (i + 1) at now
+    pub listed-same : directory d i ≡ none → ListLoop d buf (i + 1) at now
     listed-same e = record {
       place = w .place ∙ ap length (sym (entries-dead (directory d) i e));
       bytes = w .bytes ∙ ap (put buf 0) (sym (entries-dead (directory d) i e));
@@ -119,13 +119,13 @@ pub listing-is : (d buf : List ℕ)
     → listing d buf
     ≡ filled (checkDisk d else row 20 0 (ltb (length buf) (length (entries (directory d) slots)))) (done (liveAmong (directory d) slots) (free (tracksOf d) (directory d)))
     (entries (directory d) slots) buf
-unfolding listLook checkDisk
-listing-is d buf = rw (look-slots d, look-extra d)
+unfolding listView checkDisk
+listing-is d buf = rw (view-slots d, view-extra d)
 
-listing-barred : (d buf : List ℕ) (r : Refusal) → checkDisk d ≡ some r → out (refused r) buf ≡ listing d buf
-listing-barred d buf r e = sym (listing-is d buf ∙ rw e)
+listing-refused : (d buf : List ℕ) (r : Refusal) → checkDisk d ≡ some r → out (refused r) buf ≡ listing d buf
+listing-refused d buf r e = sym (listing-is d buf ∙ rw e)
 
-module _ (d buf : List ℕ) (u : UsedMap) (w : Accepted d u) where
+module _ (d buf : List ℕ) (u : UsedMap) (w : CheckedDisk d u) where
   whole : imageSize ≤ length d
   whole = omega (arith, accepted-size d (w .accepted))
 
@@ -146,15 +146,15 @@ module _ (d buf : List ℕ) (u : UsedMap) (w : Accepted d u) where
       rw (e, g, q) (sym (listing-is d buf ∙ rw (w .accepted, le-ltb (length buf) (length (entries (directory d) slots)) l)))
 
 -- what a refused check says of the listing, and an accepted one
-pub listing-unsound : (d buf : List ℕ) (s : Survey) (r : Refused) → Examined d s → s .verdict ≡ Unsound r → out (refused (refusalOf r)) buf ≡ listing d buf
-listing-unsound d buf s r w e = listing-barred d buf (refusalOf r) (sym (w .reply) ∙ ap replyOf e)
+pub listing-err : (d buf : List ℕ) (s : Survey) (r : Refused) → Examined d s → s .verdict ≡ Err r → out (refused (refusalOf r)) buf ≡ listing d buf
+listing-err d buf s r w e = listing-refused d buf (refusalOf r) (sym (w .reply) ∙ ap replyOf e)
 
-pub sound-files : (d : List ℕ) (s : Survey) → Examined d s → s .verdict ≡ Sound → s .files ≡ liveAmong (directory d) slots
-sound-files d s w e =
+pub accepted-files : (d : List ℕ) (s : Survey) → Examined d s → s .verdict ≡ Accepted → s .files ≡ liveAmong (directory d) slots
+accepted-files d s w e =
     let a : checkDisk d ≡ none = sym (w .reply) ∙ ap replyOf e in
     w .files ∙ ap (λ (q : Reply). filesOr q (directory d)) a
 
-pub sound-accepted : (d : List ℕ) (s : Survey) → Examined d s → s .verdict ≡ Sound → Accepted d (s .used)
-sound-accepted d s w e =
+pub checked-disk : (d : List ℕ) (s : Survey) → Examined d s → s .verdict ≡ Accepted → CheckedDisk d (s .used)
+checked-disk d s w e =
     let a : checkDisk d ≡ none = sym (w .reply) ∙ ap replyOf e in
     record { accepted = a; used = w .used ∙ ap (λ (q : Reply). usedOr q (tracksOf d) (directory d)) a }

@@ -6,21 +6,21 @@ use Rattle.names.specs.Name.{Same, askable}
 use Rattle.names.proofs.Names.{same-padded, same-askable}
 use Rattle.directory.specs.Find.{find}
 use Rattle.directory.proofs.Search.{find-same}
-use Rattle.disk.specs.Look.{look, slotsOf}
-use Rattle.files.specs.Calls.{fileNamed, readReply, readLook, reading, startReply, startLook, starting}
+use Rattle.disk.specs.View.{view, viewSlots}
+use Rattle.files.specs.Calls.{fileNamed, readReply, readView, reading, startReply, startView, startAddress}
 
 -- on every disk, accepted or not, for every two spellings, usable or not
 module _ (d m n : List ℕ) (e : Same m n) where
-  pub spelt-found : find (slotsOf (look d)) m ≡ find (slotsOf (look d)) n
-  spelt-found = find-same (slotsOf (look d)) m n (same-padded m n e)
+  pub spelt-found : find (viewSlots (view d)) m ≡ find (viewSlots (view d)) n
+  spelt-found = find-same (viewSlots (view d)) m n (same-padded m n e)
 
   pub spelt-asked : askable m ≡ askable n
   spelt-asked = same-askable m n e
 
   pub spelt-reading : (buf : List ℕ) → reading d m buf ≡ reading d n buf
-  unfolding readLook readReply fileNamed
+  unfolding readView readReply fileNamed
   spelt-reading buf = rw (spelt-asked, spelt-found)
 
-  pub spelt-starting : starting d m ≡ starting d n
-  unfolding startLook startReply fileNamed
+  pub spelt-starting : startAddress d m ≡ startAddress d n
+  unfolding startView startReply fileNamed
   spelt-starting = rw (spelt-asked, spelt-found)

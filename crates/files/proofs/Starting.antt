@@ -12,36 +12,36 @@ use Rattle.slots.proofs.KindLaws.{carried-read, spectrum-read, uncarried-read, 
 use Rattle.headers.specs.Header.{headerStart, firstSector}
 use Rattle.chains.specs.File.{File, fileOf}
 use Rattle.directory.specs.Directory.{slotOr}
-use Rattle.disk.specs.Look.{look}
-use Rattle.files.specs.Calls.{Sought, at, barred, lookup, fileAt, fileNamed, notReadable, outOfRange, startReply, address, startOf, startAt, startLook, starting}
-use Rattle.files.proofs.Named.{lookup-named, named-by, bySought, named-slot}
+use Rattle.disk.specs.View.{view}
+use Rattle.files.specs.Calls.{SlotLookup, foundSlot, refusedLookup, lookup, fileAt, fileNamed, notReadable, startOutOfRange, startReply, address, fileStart, startAt, startView, startAddress}
+use Rattle.files.proofs.Named.{lookup-named, named-by, byLookup, named-slot}
 
 module _ (d n : List ℕ) where
-  pub start-barred : (r : Refusal) → barred r ≡ lookup (look d) n → refused r ≡ starting d n
-  unfolding startLook startReply
-  start-barred r e =
-      sym (ap (λ (q : Reply). unless q (done (startOf (fileNamed (look d) n)) 0))
-      (named-by (look d) n (λ slot f. notReadable slot f else outOfRange slot f)
-      ∙ ap (λ (x : Sought). bySought x (λ i. notReadable (suc i) (fileAt (look d) i) else outOfRange (suc i) (fileAt (look d) i))) (sym e)))
+  pub start-refused : (r : Refusal) → refusedLookup r ≡ lookup (view d) n → refused r ≡ startAddress d n
+  unfolding startView startReply
+  start-refused r e =
+      sym (ap (λ (q : Reply). unless q (done (fileStart (fileNamed (view d) n)) 0))
+      (named-by (view d) n (λ slot f. notReadable slot f else startOutOfRange slot f)
+      ∙ ap (λ (x : SlotLookup). byLookup x (λ i. notReadable (suc i) (fileAt (view d) i) else startOutOfRange (suc i) (fileAt (view d) i))) (sym e)))
 
-  pub start-found : (i : ℕ) → at i ≡ lookup (look d) n → startAt (i + 1) (fileOf d (slotOr d i)) ≡ starting d n
-  unfolding startLook startReply startAt
+  pub start-found : (i : ℕ) → foundSlot i ≡ lookup (view d) n → startAt (i + 1) (fileOf d (slotOr d i)) ≡ startAddress d n
+  unfolding startView startReply startAt
   start-found i e =
       let w = named-slot d n i (lookup-named d n i e) in
-      sym (ap₂ (λ (q : Reply) (f : File). unless q (done (startOf f) 0))
-      (named-by (look d) n (λ slot f. notReadable slot f else outOfRange slot f)
-      ∙ ap (λ (x : Sought). bySought x (λ i. notReadable (suc i) (fileAt (look d) i) else outOfRange (suc i) (fileAt (look d) i))) (sym e)
-      ∙ ap₂ (λ (k : ℕ) (f : File). notReadable k f else outOfRange k f) (sym (add-one i)) (w .same))
+      sym (ap₂ (λ (q : Reply) (f : File). unless q (done (fileStart f) 0))
+      (named-by (view d) n (λ slot f. notReadable slot f else startOutOfRange slot f)
+      ∙ ap (λ (x : SlotLookup). byLookup x (λ i. notReadable (suc i) (fileAt (view d) i) else startOutOfRange (suc i) (fileAt (view d) i))) (sym e)
+      ∙ ap₂ (λ (k : ℕ) (f : File). notReadable k f else startOutOfRange k f) (sym (add-one i)) (w .same))
       (w .file))
 
 -- with the slot's bytes as the code has them
-pub start-met : (d n : List ℕ) (i : ℕ) (s : List ℕ) → s ≡ slotOr d i → at i ≡ lookup (look d) n → (x : Outcome) → x ≡ startAt (i + 1) (fileOf d s) → x ≡ starting d n
+pub start-met : (d n : List ℕ) (i : ℕ) (s : List ℕ) → s ≡ slotOr d i → foundSlot i ≡ lookup (view d) n → (x : Outcome) → x ≡ startAt (i + 1) (fileOf d s) → x ≡ startAddress d n
 start-met d n i s e w x p = p ∙ ap (λ (s : List ℕ). startAt (i + 1) (fileOf d s)) e ∙ start-found d n i w
 
 -- at a slot, by the tests that lead to it
 module _ (slot : ℕ) (d s : List ℕ) where
   pub at-header : spectrum (kindOf s) ≡ true → (h : List ℕ) → h ≡ firstSector (fileOf d s) → (n : ℕ) → n ≡ headerStart h → done n 0 ≡ startAt slot (fileOf d s)
-  unfolding startAt startOf fileOf
+  unfolding startAt fileStart fileOf
   at-header a h e n p = rw (spectrum-read (kindOf s) a, a) (ap (λ (x : ℕ). done x 0) (p ∙ ap headerStart e))
 
   pub at-not-carried : spectrum (kindOf s) ≡ false → carried (kindOf s) ≡ false → refused (refuse 13 slot) ≡ startAt slot (fileOf d s)
@@ -53,5 +53,5 @@ module _ (slot : ℕ) (d s : List ℕ) where
   at-out a b = rw (carried-read (kindOf s) a, carried-not (kindOf s) a, b)
 
   pub at-address : carried (kindOf s) ≡ true → (leb 32768 (offsetOf s) && leb (offsetOf s) 49151) ≡ true → done (address (pageOf s) (offsetOf s)) 0 ≡ startAt slot (fileOf d s)
-  unfolding startAt startOf fileOf
+  unfolding startAt fileStart fileOf
   at-address a b = rw (carried-read (kindOf s) a, carried-not (kindOf s) a, b)

@@ -1,4 +1,4 @@
--- Listing, reading and start addresses, as functions of the look. The words of documents 01 and 02 stand above what they define.
+-- Listing, reading and start addresses, as functions of the view. The words of documents 01 and 02 stand above what they define.
 use Prim.Native.Nat.{ℕ, zero, suc, _+_, _-_, _*_, _/_, _%_}
 use mathlib.Core.Bool.{cond, not, _&&_}
 use mathlib.Core.List.{List, [], _∷_, _++_}
@@ -12,30 +12,30 @@ use Rattle.names.specs.Name.{askable}
 use Rattle.chains.specs.File.{File}
 use Rattle.headers.specs.Header.{headerStart, firstSector, fileLength, body}
 use Rattle.directory.specs.Places.{slots}
-use Rattle.directory.specs.Directory.{held, Directory, liveAmong}
+use Rattle.directory.specs.Directory.{foldOption, Directory, liveAmong}
 use Rattle.surveys.specs.Survey.{free}
 use Rattle.directory.specs.Find.{find}
-use Rattle.disk.specs.Look.{Look, look, slotsOf, extra}
-use Rattle.disk.specs.Check.{checkLook}
+use Rattle.disk.specs.View.{View, view, viewSlots, viewTracks}
+use Rattle.disk.specs.Check.{checkView}
 use Rattle.files.specs.declared.Lookup.{Lookup}
-use Rattle.files.specs.declared.Lookup.the-variants.{At, Barred}
+use Rattle.files.specs.declared.Lookup.the-variants.{At, Err}
 
 -- ---- listing
 
 -- "258 bytes for each live slot, hidden ones too, rising: its number, low byte first, then its 256 bytes."
-abbrev pub entry : ℕ → List ℕ → List ℕ
-entry number s = number % 256 ∷ number / 256 ∷ s
+abbrev pub listingEntry : ℕ → List ℕ → List ℕ
+listingEntry number s = number % 256 ∷ number / 256 ∷ s
 
 -- the entries of the live slots among the first k
 unfoldable pub entries : Directory → ℕ → List ℕ
 entries v zero = []
-entries v (suc k) = entries v k ++ held [] (entry (suc k)) (v k)
+entries v (suc k) = entries v k ++ foldOption [] (listingEntry (suc k)) (v k)
 
-unfoldable pub listLook : Look → List ℕ → Out
-listLook l buf =
-    filled (checkLook l else row 20 0 (ltb (length buf) (length (entries (slotsOf l) slots))))
+unfoldable pub listView : View → List ℕ → Out
+listView l buf =
+    filled (checkView l else row 20 0 (ltb (length buf) (length (entries (viewSlots l) slots))))
     -- "It answers how many and the free sectors;"
-    (done (liveAmong (slotsOf l) slots) (free (extra l) (slotsOf l))) (entries (slotsOf l) slots) buf
+    (done (liveAmong (viewSlots l) slots) (free (viewTracks l) (viewSlots l))) (entries (viewSlots l) slots) buf
 
 -- ---- a file by its name
 
@@ -43,35 +43,35 @@ listLook l buf =
 abbrev pub noFile : File
 noFile = record { bytes = []; sectors = λ b. [] }
 
-abbrev pub fileAt : Look → ℕ → File
-fileAt l i = held noFile (λ f. f) (l .files i)
+abbrev pub fileAt : View → ℕ → File
+fileAt l i = foldOption noFile (λ f. f) (l .files i)
 
 -- the file that has the name
-unfoldable pub fileNamed : Look → List ℕ → File
-fileNamed l n = held noFile (fileAt l) (find (slotsOf l) n)
+unfoldable pub fileNamed : View → List ℕ → File
+fileNamed l n = foldOption noFile (fileAt l) (find (viewSlots l) n)
 
 -- "then the lowest that applies of 12 to 20": 12, 15 where no live slot has the name, else what is refused of the file found
-abbrev pub named : Look → List ℕ → (ℕ → File → Reply) → Reply
-named l n rest =
-    checkLook l else row 12 0 (not (askable n)) else held (some (refuse 15 0)) (λ i. rest (suc i) (fileAt l i)) (find (slotsOf l) n)
+abbrev pub namedReply : View → List ℕ → (ℕ → File → Reply) → Reply
+namedReply l n rest =
+    checkView l else row 12 0 (not (askable n)) else foldOption (some (refuse 15 0)) (λ i. rest (suc i) (fileAt l i)) (find (viewSlots l) n)
 
 -- a slot by its name, or the first refusal that stands before it
-pub data Sought : Type 0 where
-  at : ℕ → Sought
-  barred : Refusal → Sought
+pub data SlotLookup : Type 0 where
+  foundSlot : ℕ → SlotLookup
+  refusedLookup : Refusal → SlotLookup
 
-abbrev pub soughtBy : Reply → Option ℕ → Sought
-soughtBy (some r) o = barred r
-soughtBy none (some i) = at i
-soughtBy none none = barred (refuse 15 0)
+abbrev pub lookupBy : Reply → Option ℕ → SlotLookup
+lookupBy (some r) o = refusedLookup r
+lookupBy none (some i) = foundSlot i
+lookupBy none none = refusedLookup (refuse 15 0)
 
-unfoldable pub lookup : Look → List ℕ → Sought
-lookup l n = soughtBy (checkLook l else row 12 0 (not (askable n))) (find (slotsOf l) n)
+unfoldable pub lookup : View → List ℕ → SlotLookup
+lookup l n = lookupBy (checkView l else row 12 0 (not (askable n))) (find (viewSlots l) n)
 
 -- the code's answer
-abbrev pub soughtOf : Lookup → Sought
-soughtOf (At i) = at i
-soughtOf (Barred r) = barred (refusalOf r)
+abbrev pub lookupOf : Lookup → SlotLookup
+lookupOf (At i) = foundSlot i
+lookupOf (Err r) = refusedLookup (refusalOf r)
 
 -- the kind found cannot be read: it is not carried, nor one of kinds 1 to 4
 abbrev pub notReadable : ℕ → File → Reply
@@ -79,8 +79,8 @@ notReadable slot f = row 13 slot (not (readable (kindOf (f .bytes))))
 
 -- ---- reading
 
-unfoldable pub readReply : Look → List ℕ → ℕ → Reply
-readReply l n room = named l n (λ slot f. notReadable slot f else row 20 0 (ltb room (fileLength f)))
+unfoldable pub readReply : View → List ℕ → ℕ → Reply
+readReply l n room = namedReply l n (λ slot f. notReadable slot f else row 20 0 (ltb room (fileLength f)))
 
 -- what a read answers at the slot that holds a file
 unfoldable pub readAt : ℕ → File → List ℕ → Out
@@ -88,41 +88,41 @@ readAt slot f buf =
     filled (notReadable slot f else row 20 0 (ltb (length buf) (fileLength f))) (done (fileLength f) 0) (body f) buf
 
 -- "Reading copies the body to the front of a lent buffer and answers its length; the rest stays."
-unfoldable pub readLook : Look → List ℕ → List ℕ → Out
-readLook l n buf =
+unfoldable pub readView : View → List ℕ → List ℕ → Out
+readView l n buf =
     filled (readReply l n (length buf)) (done (fileLength (fileNamed l n)) 0) (body (fileNamed l n)) buf
 
 -- ---- the start address
 
 -- offset outside 32,768 to 49,151 (a start page of five bits is not above 31), but "not given for kinds 1 to 4"
-abbrev pub outOfRange : ℕ → File → Reply
-outOfRange slot f = row 14 slot (not (spectrum (kindOf (f .bytes))) && not (leb 32768 (offsetOf (f .bytes)) && leb (offsetOf (f .bytes)) 49151))
+abbrev pub startOutOfRange : ℕ → File → Reply
+startOutOfRange slot f = row 14 slot (not (spectrum (kindOf (f .bytes))) && not (leb 32768 (offsetOf (f .bytes)) && leb (offsetOf (f .bytes)) 49151))
 
-unfoldable pub startReply : Look → List ℕ → Reply
-startReply l n = named l n (λ slot f. notReadable slot f else outOfRange slot f)
+unfoldable pub startReply : View → List ℕ → Reply
+startReply l n = namedReply l n (λ slot f. notReadable slot f else startOutOfRange slot f)
 
 -- "The start address is page × 16,384 + offset − 16,384, for offsets 32,768 to 49,151, both taken from the slot;"
 unfoldable pub address : ℕ → ℕ → ℕ
 address page offset = page * 16384 + offset - 16384
 
 -- of kinds 1 to 4 the header's: "give that start as it stands"
-unfoldable pub startOf : File → ℕ
-startOf f = cond (spectrum (kindOf (f .bytes))) (headerStart (firstSector f)) (address (pageOf (f .bytes)) (offsetOf (f .bytes)))
+unfoldable pub fileStart : File → ℕ
+fileStart f = cond (spectrum (kindOf (f .bytes))) (headerStart (firstSector f)) (address (pageOf (f .bytes)) (offsetOf (f .bytes)))
 
 -- what a start address answers at the slot that holds a file
 unfoldable pub startAt : ℕ → File → Outcome
-startAt slot f = unless (notReadable slot f else outOfRange slot f) (done (startOf f) 0)
+startAt slot f = unless (notReadable slot f else startOutOfRange slot f) (done (fileStart f) 0)
 
-unfoldable pub startLook : Look → List ℕ → Outcome
-startLook l n = unless (startReply l n) (done (startOf (fileNamed l n)) 0)
+unfoldable pub startView : View → List ℕ → Outcome
+startView l n = unless (startReply l n) (done (fileStart (fileNamed l n)) 0)
 
 -- ---- the calls on a disk
 
 abbrev pub listing : List ℕ → List ℕ → Out
-listing d buf = listLook (look d) buf
+listing d buf = listView (view d) buf
 
 abbrev pub reading : List ℕ → List ℕ → List ℕ → Out
-reading d n buf = readLook (look d) n buf
+reading d n buf = readView (view d) n buf
 
-abbrev pub starting : List ℕ → List ℕ → Outcome
-starting d n = startLook (look d) n
+abbrev pub startAddress : List ℕ → List ℕ → Outcome
+startAddress d n = startView (view d) n

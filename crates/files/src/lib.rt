@@ -5,16 +5,16 @@ ghost use Prim.Native.Nat.{_*_, _≤_, _<_};
 ghost use lib.ListN.{length};
 ghost use Rattle.buffers.specs.Bytes.{put};
 ghost use Rattle.refusals.specs.Order.{refuse};
-ghost use Rattle.refusals.specs.Answers.{numberOf, outcomeOf, out, refused};
+ghost use Rattle.refusals.specs.Answers.{refusalNumber, outcomeOf, out, refused};
 ghost use Rattle.geometry.specs.Disk.{imageSize};
 ghost use Rattle.slots.specs.Slot.{kindOf, readable};
 ghost use Rattle.chains.specs.File.{fileOf};
 ghost use Rattle.headers.specs.Header.{body};
 ghost use Rattle.directory.specs.Places.{slots};
 ghost use Rattle.directory.specs.Directory.{directory, liveAmong};
-ghost use Rattle.disk.specs.Look.{look};
-ghost use Rattle.files.specs.Calls.{entry, entries, listing, barred, lookup, soughtOf, startAt, starting, readAt, reading};
-ghost use Rattle.files.specs.Steps.{Accepted, Readable};
+ghost use Rattle.disk.specs.View.{view};
+ghost use Rattle.files.specs.Calls.{listingEntry, entries, listing, refusedLookup, lookup, lookupOf, startAt, startAddress, readAt, reading};
+ghost use Rattle.files.specs.Steps.{CheckedDisk, ReadableSlot};
 use directory::Found;
 use refusals::Answer;
 use refusals::Reason;
@@ -28,7 +28,7 @@ pub const ENTRY_BYTES: usize = 258;
 // Puts a slot's number, low byte first, and its bytes at a place of a buffer.
 fn put_entry(buf: &mut [u8], at: usize, number: usize, s: &[u8])
     requires { ⌜ (at ≤ 200724) × (number ≤ 778) ⌝ }
-    ensures { λ _. ⌜ now (buf .exit) ≡ put (now (buf .entry)) at (entry number (now (s .entry))) ⌝ }
+    ensures { λ _. ⌜ now (buf .exit) ≡ put (now (buf .entry)) at (listingEntry number (now (s .entry))) ⌝ }
 {
     let head = [(number % 256) as u8, (number / 256) as u8];
     buffers::copy_into(buf, at, &head);
@@ -54,12 +54,12 @@ fn list_into(dir: &[u8], end: usize, buf: &mut [u8])
 
 // Lists the files of an accepted disk, as many as `files`, whose used map is `used`.
 fn list_accepted(image: &[u8], used: UsedMap, files: usize, buf: &mut [u8]) -> Answer
-    requires { ⌜ Accepted (now image) used × (files ≡ liveAmong (directory (now image)) slots) ⌝ }
+    requires { ⌜ CheckedDisk (now image) used × (files ≡ liveAmong (directory (now image)) slots) ⌝ }
     ensures { λ r. ⌜ out (outcomeOf r) (now (buf .exit)) ≡ listing (now (image .entry)) (now (buf .entry)) ⌝ }
 {
     let end = ENTRY_BYTES * files;
     if buf.len() < end {
-        return refusals::no(Reason::BufferTooShort, 0);
+        return refusals::refused_answer(Reason::BufferTooShort, 0);
     }
     list_into(image, end, buf);
     Answer::Done(files, surveys::free_of(used))
@@ -72,8 +72,8 @@ pub fn list(image: &[u8], buf: &mut [u8]) -> Answer
     let found = disk::examine(image);
     let verdict = found.verdict;
     match verdict {
-        Verdict::Unsound(r) => Answer::No(r),
-        Verdict::Sound => {
+        Verdict::Err(r) => Answer::Err(r),
+        Verdict::Accepted => {
             let used = found.used;
             list_accepted(image, used, found.files, buf)
         }
@@ -83,28 +83,28 @@ pub fn list(image: &[u8], buf: &mut [u8]) -> Answer
 // A live slot, counted from 0, by its name; or what is refused before it is found: the disk check's numbers, 12, 15.
 pub enum Lookup {
     At(usize),
-    Barred(Refused),
+    Err(Refused),
 }
 
 // A lookup that refuses.
-pub fn barred(reason: Reason, slot: usize) -> Lookup
-    ensures { λ r. ⌜ soughtOf r ≡ barred (refuse (numberOf reason) slot) ⌝ }
+pub fn refused_lookup(reason: Reason, slot: usize) -> Lookup
+    ensures { λ r. ⌜ lookupOf r ≡ refusedLookup (refuse (refusalNumber reason) slot) ⌝ }
 {
-    Lookup::Barred(Refused { reason, slot })
+    Lookup::Err(Refused { reason, slot })
 }
 
 pub fn look_up(image: &[u8], name: &[u8]) -> Lookup
-    ensures { λ r. ⌜ soughtOf r ≡ lookup (look (now (image .entry))) (now (name .entry)) ⌝ }
+    ensures { λ r. ⌜ lookupOf r ≡ lookup (view (now (image .entry))) (now (name .entry)) ⌝ }
 {
     match disk::check(image) {
-        Verdict::Unsound(r) => Lookup::Barred(r),
-        Verdict::Sound => {
+        Verdict::Err(r) => Lookup::Err(r),
+        Verdict::Accepted => {
             if !names::is_askable(name) {
-                return barred(Reason::NameNotUsable, 0);
+                return refused_lookup(Reason::NameNotUsable, 0);
             }
             match directory::find(image, name) {
                 Found::At(i) => Lookup::At(i),
-                Found::Nothing => barred(Reason::NameNotFound, 0),
+                Found::Nothing => refused_lookup(Reason::NameNotFound, 0),
             }
         }
     }
@@ -119,24 +119,24 @@ fn start_at(image: &[u8], s: &[u8], slot: usize) -> Answer
         return Answer::Done(headers::header_start(headers::first_sector(image, s)), 0);
     }
     if !slots::is_carried(kind) {
-        return refusals::no(Reason::WrongKind, slot);
+        return refusals::refused_answer(Reason::WrongKind, slot);
     }
     let offset = slots::offset_of(s);
     if offset < 32768 {
-        return refusals::no(Reason::StartOutOfRange, slot);
+        return refusals::refused_answer(Reason::StartOutOfRange, slot);
     }
     if 49151 < offset {
-        return refusals::no(Reason::StartOutOfRange, slot);
+        return refusals::refused_answer(Reason::StartOutOfRange, slot);
     }
     Answer::Done(slots::page_of(s) * 16384 + offset - 16384, 0)
 }
 
 // The start address of a file.
 pub fn start(image: &[u8], name: &[u8]) -> Answer
-    ensures { λ r. ⌜ outcomeOf r ≡ starting (now (image .entry)) (now (name .entry)) ⌝ }
+    ensures { λ r. ⌜ outcomeOf r ≡ startAddress (now (image .entry)) (now (name .entry)) ⌝ }
 {
     match look_up(image, name) {
-        Lookup::Barred(r) => Answer::No(r),
+        Lookup::Err(r) => Answer::Err(r),
         Lookup::At(i) => start_at(image, directory::slot_at(image, i), i + 1),
     }
 }
@@ -144,7 +144,7 @@ pub fn start(image: &[u8], name: &[u8]) -> Answer
 // Copies the body of slot `s` along its links to the front of `buf`: a run of at most 510 bytes from each sector, and
 // from the first only those past the header's nine. The next sector's place comes from the link itself, not from its bit.
 fn copy_body(image: &[u8], s: &[u8], buf: &mut [u8])
-    requires { ⌜ Readable (now image) (now s) ⌝ }
+    requires { ⌜ ReadableSlot (now image) (now s) ⌝ }
     ensures { λ _. ⌜ now (buf .exit) ≡ put (now (buf .entry)) 0 (body (fileOf (now (image .entry)) (now (s .entry)))) ⌝ }
 {
     let len = headers::file_length(image, s);
@@ -164,15 +164,15 @@ fn copy_body(image: &[u8], s: &[u8], buf: &mut [u8])
 
 // Reads the file of an accepted disk in a slot, whose number is `slot`.
 fn read_at(image: &[u8], s: &[u8], slot: usize, buf: &mut [u8]) -> Answer
-    requires { ⌜ (readable (kindOf (now s)) ≡ true → Readable (now image) (now s)) ⌝ }
+    requires { ⌜ (readable (kindOf (now s)) ≡ true → ReadableSlot (now image) (now s)) ⌝ }
     ensures { λ r. ⌜ out (outcomeOf r) (now (buf .exit)) ≡ readAt slot (fileOf (now (image .entry)) (now (s .entry))) (now (buf .entry)) ⌝ }
 {
     if !slots::is_readable(slots::kind_of(s)) {
-        return refusals::no(Reason::WrongKind, slot);
+        return refusals::refused_answer(Reason::WrongKind, slot);
     }
     let len = headers::file_length(image, s);
     if buf.len() < len {
-        return refusals::no(Reason::BufferTooShort, 0);
+        return refusals::refused_answer(Reason::BufferTooShort, 0);
     }
     copy_body(image, s, buf);
     Answer::Done(len, 0)
@@ -183,7 +183,7 @@ pub fn read(image: &[u8], name: &[u8], buf: &mut [u8]) -> Answer
     ensures { λ r. ⌜ out (outcomeOf r) (now (buf .exit)) ≡ reading (now (image .entry)) (now (name .entry)) (now (buf .entry)) ⌝ }
 {
     match look_up(image, name) {
-        Lookup::Barred(r) => Answer::No(r),
+        Lookup::Err(r) => Answer::Err(r),
         Lookup::At(i) => read_at(image, directory::slot_at(image, i), i + 1, buf),
     }
 }

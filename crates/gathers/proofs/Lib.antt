@@ -1,4 +1,4 @@
-pub mod Walk
+pub mod ChainOrder
 pub mod Moving
 pub mod Listed
 pub mod Bridge

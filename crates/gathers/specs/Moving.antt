@@ -7,12 +7,12 @@ use mathlib.Core.Path.{_≡_}
 use lib.ListN.{length}
 use Rattle.geometry.specs.Disk.{imageSize}
 use Rattle.maps.specs.Bits.{has}
-use Rattle.slots.specs.Slot.{countOf, mapOf, facts}
+use Rattle.slots.specs.Slot.{countOf, mapOf, slotFields}
 use Rattle.chains.specs.File.{File, fileOf, sectorsOf}
 use Rattle.chains.specs.Chain.{broken}
 use Rattle.directory.specs.Places.{slots}
 use Rattle.directory.specs.Directory.{slotOr}
-use Rattle.disk.specs.Look.{Look}
+use Rattle.disk.specs.View.{View}
 use Rattle.steps.specs.Steps.{Step}
 use Rattle.plans.specs.Saving.{nextTrack, nextSector}
 use Rattle.plans.specs.Gathering.{upFrom, payloadOf}
@@ -27,28 +27,28 @@ abbrev pub countIn : List ℕ → ℕ → ℕ
 countIn d i = countOf (slotOr d i)
 
 -- the link to the first of the n bits from b on; 0, 0 where there is none
-unfoldable pub linkOf : ℕ → ℕ → Link
-linkOf n b = record { track = nextTrack (upFrom n b); sector = nextSector (upFrom n b) }
+unfoldable pub linkToRun : ℕ → ℕ → Link
+linkToRun n b = record { track = nextTrack (upFrom n b); sector = nextSector (upFrom n b) }
 
 -- its data sectors on the bits from b on
-abbrev pub dataOf : List ℕ → ℕ → ℕ → List (Step Look)
-dataOf d i b = dataSteps (payloadOf (fileIn d i)) 0 (upFrom (countIn d i) b)
+abbrev pub movedSteps : List ℕ → ℕ → ℕ → List (Step View)
+movedSteps d i b = dataSteps (payloadOf (fileIn d i)) 0 (upFrom (countIn d i) b)
 
 -- a slot with sectors, whose chain leads through them
-pub record Chained (d s : List ℕ) : Type 0 where
+pub record ChainedSlot (d s : List ℕ) : Type 0 where
   pub some : 1 ≤ countOf s
-  pub whole : broken (facts s) (sectorsOf d s) ≡ false
+  pub whole : broken (slotFields s) (sectorsOf d s) ≡ false
 
 -- slot i has such a chain, and the bits from b on, as many as its sectors, are none of its own
 pub record Movable (d : List ℕ) (i b : ℕ) : Type 0 where
   pub slot : i < slots
   pub long : length d ≡ imageSize
-  pub chain : Chained d (slotOr d i)
+  pub chain : ChainedSlot d (slotOr d i)
   pub small : b + countIn d i ≤ 1560
   pub apart : (c : ℕ) → has (mapOf (slotOr d i)) c ≡ true → (c < b) ⊎ (b + countIn d i ≤ c)
 
 -- the 510 bytes from two places on lie in an image of so many bytes, and share none
-pub record Apart (long from to : ℕ) : Type 0 where
+pub record DisjointRanges (long from to : ℕ) : Type 0 where
   pub source : from + 510 ≤ long
   pub target : to + 510 ≤ long
   pub apart : (from + 510 ≤ to) ⊎ (to + 510 ≤ from)

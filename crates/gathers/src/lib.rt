@@ -6,16 +6,16 @@ ghost use lib.ListN.{length};
 ghost use Rattle.buffers.specs.Bytes.{part, put};
 ghost use Rattle.geometry.specs.Disk.{placeOrEnd};
 ghost use Rattle.chains.specs.File.{fileOf};
-ghost use Rattle.disk.specs.Look.{look};
-ghost use Rattle.steps.specs.Steps.{enact};
+ghost use Rattle.disk.specs.View.{view};
+ghost use Rattle.steps.specs.Steps.{apply};
 ghost use Rattle.plans.specs.Change.{gather};
-ghost use Rattle.plans.specs.Saving.{block, mapWith};
+ghost use Rattle.plans.specs.Saving.{sectorBytes, mapWith};
 ghost use Rattle.plans.specs.Gathering.{scattered, upFrom};
 ghost use Rattle.plans.specs.Gathered.{runSectors};
 ghost use Rattle.plans.specs.Plan.{gatherSteps};
-ghost use Rattle.changes.specs.Settled.{Returns};
-ghost use Rattle.gathers.specs.Moving.{Chained, Movable, Apart, TwoBits, fileIn, countIn, dataOf, linkOf};
-ghost use Rattle.gathers.specs.Call.{Held, Placed, sectorsOf, ends, settling, gathering, Fit, barring};
+ghost use Rattle.changes.specs.ChangeCalls.{ReturnsChange};
+ghost use Rattle.gathers.specs.Moving.{ChainedSlot, Movable, DisjointRanges, TwoBits, fileIn, countIn, movedSteps, linkToRun};
+ghost use Rattle.gathers.specs.Call.{LiveSlotOf, MoveInRange, movedSectors, gatherChanged, gatherAtSlot, gatherCall, GatherFits, refusedGather};
 use directory::Found;
 use geometry::Address;
 use refusals::Answer;
@@ -39,14 +39,14 @@ pub struct Move {
 
 // What a gather comes to: the file stays where it is, it was moved, or the call is refused.
 pub enum Gathered {
-    Stays,
-    Went(Move),
-    Barred(Refused),
+    InPlace,
+    Relocated(Move),
+    Err(Refused),
 }
 
 // Whether the chain of a slot is not on consecutive rising bits.
 fn is_scattered(image: &[u8], s: &[u8]) -> bool
-    requires { ⌜ Chained (now image) (now s) ⌝ }
+    requires { ⌜ ChainedSlot (now image) (now s) ⌝ }
     ensures { λ r. ⌜ r ≡ scattered (fileOf (now (image .entry)) (now (s .entry))) ⌝ }
 {
     let count = slots::count_of(s);
@@ -69,7 +69,7 @@ fn is_scattered(image: &[u8], s: &[u8]) -> bool
 // Copies 510 bytes of an image to a place apart from them. Neither is lent beside the other, so they go one by one, and the
 // compiler makes runs of them.
 fn copy_payload(image: &mut [u8], from: usize, to: usize)
-    requires { ⌜ Apart (length (now image)) from to ⌝ }
+    requires { ⌜ DisjointRanges (length (now image)) from to ⌝ }
     ensures { λ _. ⌜ now (image .exit) ≡ put (now (image .entry)) to (part from 510 (now (image .entry))) ⌝ }
 {
     let mut j: usize = 0;
@@ -82,7 +82,7 @@ fn copy_payload(image: &mut [u8], from: usize, to: usize)
 // Copies the payload of the sector at bit `from` to bit `to`, with another link.
 fn move_sector(image: &mut [u8], from: usize, to: usize, link: Link)
     requires { ⌜ TwoBits (length (now image)) from to ⌝ }
-    ensures { λ _. ⌜ now (image .exit) ≡ put (now (image .entry)) (placeOrEnd to) (block (part (placeOrEnd from) 512 (now (image .entry))) 0 (link .track) (link .sector)) ⌝ }
+    ensures { λ _. ⌜ now (image .exit) ≡ put (now (image .entry)) (placeOrEnd to) (sectorBytes (part (placeOrEnd from) 512 (now (image .entry))) 0 (link .track) (link .sector)) ⌝ }
 {
     let at = geometry::bit_place(to);
     copy_payload(image, geometry::bit_place(from), at);
@@ -93,7 +93,7 @@ fn move_sector(image: &mut [u8], from: usize, to: usize, link: Link)
 // The link to the first of the `n` bits from `b` on; 0, 0 where there is none.
 fn link_to(n: usize, b: usize) -> Link
     requires { ⌜ b + n ≤ 1560 ⌝ }
-    ensures { λ r. ⌜ r ≡ linkOf n b ⌝ }
+    ensures { λ r. ⌜ r ≡ linkToRun n b ⌝ }
 {
     if n == 0 {
         return Link {
@@ -116,7 +116,7 @@ fn link_to(n: usize, b: usize) -> Link
 // Copies the sectors of the file in slot `i` along its links to the bits from `b` on, chained rising.
 fn move_chain(image: &mut [u8], i: usize, b: usize)
     requires { ⌜ Movable (now image) i b ⌝ }
-    ensures { λ _. ⌜ now (image .exit) ≡ enact (now (image .entry)) (dataOf (now (image .entry)) i b) ⌝ }
+    ensures { λ _. ⌜ now (image .exit) ≡ apply (now (image .entry)) (movedSteps (now (image .entry)) i b) ⌝ }
 {
     let count = slots::count_of(directory::slot_at(image, i));
     let mut bit = slots::first_of(directory::slot_at(image, i));
@@ -142,7 +142,7 @@ fn map_run(n: usize, b: usize) -> [u8; 195]
     let mut j = n;
     while 0 < j {
         j -= 1;
-        maps::mark(&mut map, b + j);
+        maps::set_bit(&mut map, b + j);
     }
     map
 }
@@ -150,7 +150,7 @@ fn map_run(n: usize, b: usize) -> [u8; 195]
 // Moves the file in slot `i` to the bits from `b` on: its sectors, and then bytes 13 to 209 of the slot.
 fn write_moved(image: &mut [u8], i: usize, b: usize)
     requires { ⌜ Movable (now image) i b ⌝ }
-    ensures { λ _. ⌜ now (image .exit) ≡ enact (now (image .entry)) (gatherSteps (look (now (image .entry))) i (fileIn (now (image .entry)) i) (upFrom (countIn (now (image .entry)) i) b)) ⌝ }
+    ensures { λ _. ⌜ now (image .exit) ≡ apply (now (image .entry)) (gatherSteps (view (now (image .entry))) i (fileIn (now (image .entry)) i) (upFrom (countIn (now (image .entry)) i) b)) ⌝ }
 {
     let count = slots::count_of(directory::slot_at(image, i));
     move_chain(image, i, b);
@@ -163,36 +163,36 @@ fn write_moved(image: &mut [u8], i: usize, b: usize)
 }
 
 // A gather that refuses.
-fn barred(reason: Reason, slot: usize) -> Gathered
-    ensures { λ r. ⌜ r ≡ barring reason slot ⌝ }
+fn refused_gather(reason: Reason, slot: usize) -> Gathered
+    ensures { λ r. ⌜ r ≡ refusedGather reason slot ⌝ }
 {
-    Gathered::Barred(Refused { reason, slot })
+    Gathered::Err(Refused { reason, slot })
 }
 
 // Gathers the file in slot `i` of an accepted disk whose used map is `used`, where there is a run and a list of `room` numbers
 // suffices.
 fn gather_at(image: &mut [u8], used: UsedMap, i: usize, room: usize) -> Gathered
-    requires { ⌜ Held (now image) used i ⌝ }
-    ensures { λ r. ⌜ (ends r (now (image .exit)) ≡ settling (now (image .entry)) i room) × Fit r room ⌝ }
+    requires { ⌜ LiveSlotOf (now image) used i ⌝ }
+    ensures { λ r. ⌜ (gatherChanged r (now (image .exit)) ≡ gatherAtSlot (now (image .entry)) i room) × GatherFits r room ⌝ }
 {
     let s = directory::slot_at(image, i);
     if slots::is_directory(s) {
-        return barred(Reason::WrongKind, i + 1);
+        return refused_gather(Reason::WrongKind, i + 1);
     }
     if !is_scattered(image, s) {
-        return Gathered::Stays;
+        return Gathered::InPlace;
     }
     let count = slots::count_of(s);
-    let map = taking::shut_bits(used);
-    match runs::find_run(&map, count) {
-        Found::Nothing => barred(Reason::NoFreeRun, 0),
+    let map = allocation::unavailable_bits(used);
+    match free_runs::find_run(&map, count) {
+        Found::Nothing => refused_gather(Reason::NoFreeRun, 0),
         Found::At(bit) => {
             if room <= count {
-                return barred(Reason::BufferTooShort, 0);
+                return refused_gather(Reason::BufferTooShort, 0);
             }
             write_moved(image, i, bit);
             let slot = i;
-            Gathered::Went(Move { slot, count, bit })
+            Gathered::Relocated(Move { slot, count, bit })
         }
     }
 }
@@ -200,19 +200,19 @@ fn gather_at(image: &mut [u8], used: UsedMap, i: usize, room: usize) -> Gathered
 // Gathers a file where a list has room for `room` numbers: the image changes, and the answer says where the file went, from
 // which the sectors are told. So a caller puts their numbers to a list of its own, and none is needed beside it.
 pub fn gather_in(image: &mut [u8], name: &[u8], room: usize) -> Gathered
-    ensures { λ r. ⌜ (ends r (now (image .exit)) ≡ gathering (now (name .entry)) (now (image .entry)) room) × Fit r room ⌝ }
+    ensures { λ r. ⌜ (gatherChanged r (now (image .exit)) ≡ gatherCall (now (name .entry)) (now (image .entry)) room) × GatherFits r room ⌝ }
 {
     let found = disk::examine(image);
     let verdict = found.verdict;
     match verdict {
-        Verdict::Unsound(r) => Gathered::Barred(r),
-        Verdict::Sound => {
+        Verdict::Err(r) => Gathered::Err(r),
+        Verdict::Accepted => {
             let used = found.used;
             if !names::is_askable(name) {
-                return barred(Reason::NameNotUsable, 0);
+                return refused_gather(Reason::NameNotUsable, 0);
             }
             match directory::find(image, name) {
-                Found::Nothing => barred(Reason::NameNotFound, 0),
+                Found::Nothing => refused_gather(Reason::NameNotFound, 0),
                 Found::At(i) => gather_at(image, used, i, room),
             }
         }
@@ -233,8 +233,8 @@ fn put_run(list: &mut [u16], n: usize, b: usize)
 
 // The same of a file that was moved, with its directory sector last.
 fn put_moved(list: &mut [u16], to: Move)
-    requires { ⌜ Placed to (length (now list)) ⌝ }
-    ensures { λ _. ⌜ now (list .exit) ≡ put (now (list .entry)) 0 (sectorsOf to) ⌝ }
+    requires { ⌜ MoveInRange to (length (now list)) ⌝ }
+    ensures { λ _. ⌜ now (list .exit) ≡ put (now (list .entry)) 0 (movedSectors to) ⌝ }
 {
     let count = to.count;
     put_run(list, count, to.bit);
@@ -244,13 +244,13 @@ fn put_moved(list: &mut [u16], to: Move)
 // Gathers a file: the image changes, the front of `list` gets the numbers of the sectors in the order of writing, and the answer
 // says how many: 0 where the file lies on consecutive bits already. A refused gather changes nothing.
 pub fn gather(image: &mut [u8], name: &[u8], list: &mut [u16]) -> Answer
-    ensures { λ r. ⌜ Returns (gather (now (name .entry))) (now (image .entry)) (now (list .entry)) r (now (image .exit)) (now (list .exit)) ⌝ }
+    ensures { λ r. ⌜ ReturnsChange (gather (now (name .entry))) (now (image .entry)) (now (list .entry)) r (now (image .exit)) (now (list .exit)) ⌝ }
 {
     let room = list.len();
     match gather_in(image, name, room) {
-        Gathered::Barred(r) => Answer::No(r),
-        Gathered::Stays => Answer::Done(0, 0),
-        Gathered::Went(to) => {
+        Gathered::Err(r) => Answer::Err(r),
+        Gathered::InPlace => Answer::Done(0, 0),
+        Gathered::Relocated(to) => {
             put_moved(list, to);
             Answer::Done(to.count + 1, 0)
         }

@@ -10,8 +10,8 @@ use lib.Dec.{ltb}
 use Rattle.geometry.specs.declared.Spot.the-variants.{At, NoSector}
 use Rattle.geometry.specs.declared.MapBit.the-variants.{Bit, NotData}
 use Rattle.geometry.specs.declared.Address.the-variants.{Sector, NoBit}
-use Rattle.geometry.specs.Disk.{imageSize, isSector, isData, numberOf, placeOf, trackOf, sectorOf, bitOf, bitNumber, bitPlace, placeOrEnd, spotOf, spotOfBit, mapBitOf, addressOf}
-use Rattle.geometry.proofs.Tests.{told, split, picked, DataBounds, sector-bounds, data-bounds, bounds-data, data-sector}
+use Rattle.geometry.specs.Disk.{imageSize, isSector, isData, sectorNumber, sectorPlace, trackOf, sectorOf, bitOf, bitNumber, bitPlace, placeOrEnd, spotOf, spotOfBit, mapBitOf, addressOf}
+use Rattle.geometry.proofs.Tests.{true-or-false, split, picked, DataBounds, sector-bounds, data-bounds, bounds-data, data-sector}
 
 -- A map bit's track, on each side.
 pub track-first : (b : ℕ) → b < 760 → trackOf b ≡ 4 + b / 10
@@ -65,13 +65,13 @@ data-bit t s e = ⊎-elim first second (b .side)
         (record { small = omega arith; track = omega (arith, track-second (760 + (t - 128) * 10 + s - 1) (omega arith)); sector = omega arith })
 
 pub bit-small : (t s : ℕ) → bitOf t s ≤ 1560
-bit-small t s = ⊎-elim (λ (e : isData t s ≡ true). omega (arith, data-bit t s e)) (λ (e : isData t s ≡ false). omega (arith, bit-none t s e)) (told (isData t s))
+bit-small t s = ⊎-elim (λ (e : isData t s ≡ true). omega (arith, data-bit t s e)) (λ (e : isData t s ≡ false). omega (arith, bit-none t s e)) (true-or-false (isData t s))
 
 pub bit-data : (t s : ℕ) → bitOf t s < 1560 → isData t s ≡ true
-bit-data t s h = ⊎-elim (λ e. e) (λ (e : isData t s ≡ false). absurd (omega (arith, bit-none t s e))) (told (isData t s))
+bit-data t s h = ⊎-elim (λ e. e) (λ (e : isData t s ≡ false). absurd (omega (arith, bit-none t s e))) (true-or-false (isData t s))
 
 pub bit-not-data : (t s : ℕ) → 1560 ≤ bitOf t s → isData t s ≡ false
-bit-not-data t s h = ⊎-elim (λ (e : isData t s ≡ true). absurd (omega (arith, data-bit t s e))) (λ e. e) (told (isData t s))
+bit-not-data t s h = ⊎-elim (λ (e : isData t s ≡ true). absurd (omega (arith, data-bit t s e))) (λ e. e) (true-or-false (isData t s))
 
 -- A map bit is a data sector, and the sector says the bit.
 pub address-data : (b : ℕ) → b < 1560 → isData (trackOf b) (sectorOf b) ≡ true
@@ -104,10 +104,10 @@ address-bit b h = ⊎-elim first second (split b 760)
         omega (arith, bit-second (trackOf b) (sectorOf b) held (omega arith))
 
 -- A sector's number and its place.
-pub sector-number : (t s : ℕ) → isSector t s ≡ true → numberOf t s < 1600
+pub sector-number : (t s : ℕ) → isSector t s ≡ true → sectorNumber t s < 1600
 sector-number t s e = let b = sector-bounds t s e in ⊎-elim (λ l. omega arith) (λ l. omega arith) (b .side)
 
-pub sector-inside : (t s : ℕ) → isSector t s ≡ true → placeOf t s + 512 ≤ imageSize
+pub sector-inside : (t s : ℕ) → isSector t s ≡ true → sectorPlace t s + 512 ≤ imageSize
 sector-inside t s e = omega (arith, sector-number t s e)
 
 -- A map bit's sector number, on each side.
@@ -151,11 +151,11 @@ pub number-from : (k b : ℕ) → 4 ≤ k → b < 760 → 10 * (k - 4) ≤ b →
 number-from k b h l m = omega (arith, number-first b l)
 
 -- A data sector's number and place, by its map bit.
-pub data-number : (t s : ℕ) → isData t s ≡ true → bitNumber (bitOf t s) ≡ numberOf t s
+pub data-number : (t s : ℕ) → isData t s ≡ true → bitNumber (bitOf t s) ≡ sectorNumber t s
 unfolding bitNumber
 data-number t s e = let h = data-bit t s e in rw (h .track, h .sector)
 
-pub data-place : (t s : ℕ) → isData t s ≡ true → bitPlace (bitOf t s) ≡ placeOf t s
+pub data-place : (t s : ℕ) → isData t s ≡ true → bitPlace (bitOf t s) ≡ sectorPlace t s
 data-place t s e = rw (data-number t s e)
 
 -- A map bit's place: inside the image, a multiple of 512, and 512 bytes from any other's.
@@ -189,7 +189,7 @@ place-next b h m =
     (λ (l : 760 ≤ suc b). omega (arith, number-second b (omega arith) (omega arith), number-second (suc b) l h)) (split (suc b) 760)
 
 -- The same from the track and the sector.
-pub data-or-end : (t s : ℕ) → isData t s ≡ true → placeOrEnd (bitOf t s) ≡ placeOf t s
+pub data-or-end : (t s : ℕ) → isData t s ≡ true → placeOrEnd (bitOf t s) ≡ sectorPlace t s
 data-or-end t s e = place-or-end (bitOf t s) (data-bit t s e .small) ∙ data-place t s e
 
 pub none-or-end : (t s : ℕ) → isData t s ≡ false → placeOrEnd (bitOf t s) ≡ imageSize
@@ -198,16 +198,16 @@ none-or-end t s e = place-end (bitOf t s) (omega (arith, bit-none t s e))
 -- What an answer says.
 pub record SectorAt (t s p : ℕ) : Type 0 where
   pub sector : isSector t s ≡ true
-  pub place : p ≡ placeOf t s
+  pub place : p ≡ sectorPlace t s
   pub inside : p + 512 ≤ imageSize
 
 pub spot-at : (t s p : ℕ) → spotOf t s ≡ At p → SectorAt t s p
 unfolding spotOf
 spot-at t s p e = ⊎-elim yes no (picked (isSector t s) e)
   where
-    yes : (isSector t s ≡ true) × (At (placeOf t s) ≡ At p) → SectorAt t s p
+    yes : (isSector t s ≡ true) × (At (sectorPlace t s) ≡ At p) → SectorAt t s p
     yes h =
-        let q : p ≡ placeOf t s = cc in
+        let q : p ≡ sectorPlace t s = cc in
         record { sector = h .0; place = q; inside = omega (arith, sector-inside t s (h .0)) }
 
     no : (isSector t s ≡ false) × (NoSector ≡ At p) → SectorAt t s p
@@ -217,7 +217,7 @@ pub spot-none : (t s : ℕ) → spotOf t s ≡ NoSector → isSector t s ≡ fal
 unfolding spotOf
 spot-none t s e = ⊎-elim yes (λ h. h .0) (picked (isSector t s) e)
   where
-    yes : (isSector t s ≡ true) × (At (placeOf t s) ≡ NoSector) → isSector t s ≡ false
+    yes : (isSector t s ≡ true) × (At (sectorPlace t s) ≡ NoSector) → isSector t s ≡ false
     yes h = let z : _≡_ {A = ℕ} 0 1 = cc in absurd (omega arith)
 
 pub record BitAt (b p : ℕ) : Type 0 where

@@ -15,16 +15,16 @@ unfoldable pub placesFrom : ℕ → List ℕ → Bool
 placesFrom b [] = true
 placesFrom b (x ∷ xs) = eqb x (bitPlace b) && placesFrom (suc b) xs
 
-pub both : (p q : Bool) → T (p && q) → T p × T q
-both true q t = (tt, t)
-both false q t = absurd t
+pub both-hold : (p q : Bool) → T (p && q) → T p × T q
+both-hold true q t = (tt, t)
+both-hold false q t = absurd t
 
 entry-from : (b : ℕ) (xs : List ℕ) → T (placesFrom b xs) → (k : ℕ) → k < length xs → getD xs k 0 ≡ bitPlace (b + k)
 unfolding placesFrom
 entry-from b [] t k h = absurd (omega arith)
-entry-from b (x ∷ xs) t zero h = rw add-zero (eqb→eq x (bitPlace b) (both (eqb x (bitPlace b)) (placesFrom (suc b) xs) t .0))
+entry-from b (x ∷ xs) t zero h = rw add-zero (eqb→eq x (bitPlace b) (both-hold (eqb x (bitPlace b)) (placesFrom (suc b) xs) t .0))
 entry-from b (x ∷ xs) t (suc k) h =
-    rw (add-suc, ← suc-add) (entry-from (suc b) xs (both (eqb x (bitPlace b)) (placesFrom (suc b) xs) t .1) k (omega arith))
+    rw (add-suc, ← suc-add) (entry-from (suc b) xs (both-hold (eqb x (bitPlace b)) (placesFrom (suc b) xs) t .1) k (omega arith))
 
 pub entry : (xs : List ℕ) → T (placesFrom 0 xs) → (k : ℕ) → k < length xs → getD xs k 0 ≡ bitPlace k
 entry xs t k h = rw zero-add at (entry-from 0 xs t k h)

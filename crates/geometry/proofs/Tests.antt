@@ -10,13 +10,13 @@ use lib.Dec.{ltb, leb}
 use Rattle.geometry.specs.Disk.{isSector, isData}
 
 -- a test holds or it does not
-pub told : (b : Bool) → (b ≡ true) ⊎ (b ≡ false)
-told true = inl refl
-told false = inr refl
+pub true-or-false : (b : Bool) → (b ≡ true) ⊎ (b ≡ false)
+true-or-false true = inl refl
+true-or-false false = inr refl
 
 -- a number is below another or it is not
 pub split : (a n : ℕ) → (a < n) ⊎ (n ≤ a)
-split a n = ⊎-elim (λ e. inl (ltb-true a n e)) (λ e. inr (ltb-false a n e)) (told (ltb a n))
+split a n = ⊎-elim (λ e. inl (ltb-true a n e)) (λ e. inr (ltb-false a n e)) (true-or-false (ltb a n))
 
 -- an answer picked by a test says how the test went
 pub picked : {A : Type 0} {a b r : A} (x : Bool) → cond x a b ≡ r → ((x ≡ true) × (a ≡ r)) ⊎ ((x ≡ false) × (b ≡ r))

@@ -25,12 +25,12 @@ unfoldable pub isData : ℕ → ℕ → Bool
 isData t s = leb 4 t && isSector t s
 
 -- "The sector number is that divided by 512, 0 to 1,599.": the place that stands below, divided by 512.
-abbrev pub numberOf : ℕ → ℕ → ℕ
-numberOf t s = (2 * (t % 128) + t / 128) * 10 + s - 1
+abbrev pub sectorNumber : ℕ → ℕ → ℕ
+sectorNumber t s = (2 * (t % 128) + t / 128) * 10 + s - 1
 
 -- "The image alternates sides: track t, sector s begins at ((2 × (t mod 128) + t div 128) × 10 + s − 1) × 512."
-abbrev pub placeOf : ℕ → ℕ → ℕ
-placeOf t s = numberOf t s * 512
+abbrev pub sectorPlace : ℕ → ℕ → ℕ
+sectorPlace t s = sectorNumber t s * 512
 
 -- "Map bit b is track 4 + b div 10 for b below 760, else 128 + (b−760) div 10;"
 unfoldable pub trackOf : ℕ → ℕ
@@ -46,7 +46,7 @@ bitOf t s = cond (isData t s) (cond (ltb t 128) ((t - 4) * 10 + s - 1) (760 + (t
 
 -- The sector number of a map bit.
 unfoldable pub bitNumber : ℕ → ℕ
-bitNumber b = numberOf (trackOf b) (sectorOf b)
+bitNumber b = sectorNumber (trackOf b) (sectorOf b)
 
 -- "a constant table of 1,560 image places, one for each map bit"
 abbrev pub bitPlace : ℕ → ℕ
@@ -58,7 +58,7 @@ placeOrEnd b = cond (ltb b 1560) (bitPlace b) imageSize
 
 -- What `place`, `place_of_bit`, `bit_of` and `address_of` answer.
 unfoldable pub spotOf : ℕ → ℕ → Spot
-spotOf t s = cond (isSector t s) (At (placeOf t s)) NoSector
+spotOf t s = cond (isSector t s) (At (sectorPlace t s)) NoSector
 
 unfoldable pub spotOfBit : ℕ → Spot
 spotOfBit b = cond (ltb b 1560) (At (bitPlace b)) NoSector

@@ -1,7 +1,7 @@
 -- The length of a file's body.
 use mathlib.Core.Path.{_≡_}
 use mathlib.Core.Bool.{true, false}
-use Rattle.slots.specs.Slot.{facts, kindOf, spectrum, lengthOf}
+use Rattle.slots.specs.Slot.{slotFields, kindOf, spectrum, lengthOf}
 use Rattle.chains.specs.File.{File}
 use Rattle.headers.specs.Header.{headerLength, firstSector, fileLength}
 
@@ -9,6 +9,6 @@ pub length-header : (f : File) → spectrum (kindOf (f .bytes)) ≡ true → fil
 unfolding fileLength
 length-header f e = rw e
 
-pub length-slot : (f : File) → spectrum (kindOf (f .bytes)) ≡ false → fileLength f ≡ lengthOf (facts (f .bytes))
+pub length-slot : (f : File) → spectrum (kindOf (f .bytes)) ≡ false → fileLength f ≡ lengthOf (slotFields (f .bytes))
 unfolding fileLength
 length-slot f e = rw e

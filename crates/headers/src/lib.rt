@@ -4,9 +4,9 @@ ghost use mathlib.Core.Bool.{true};
 ghost use Prim.Native.Nat.{_≤_, _<_};
 ghost use Rattle.refusals.specs.Answers.{replyOf};
 ghost use Rattle.maps.specs.Bits.{has};
-ghost use Rattle.slots.specs.Slot.{firstOf, mapOf, facts};
+ghost use Rattle.slots.specs.Slot.{firstOf, mapOf, slotFields};
 ghost use Rattle.chains.specs.File.{fileOf};
-ghost use Rattle.headers.specs.Header.{firstSector, headerDiffers, headerLength, headerStart, chainReply, laterReply, fileLength};
+ghost use Rattle.headers.specs.Header.{firstSector, headerDiffers, headerLength, headerStart, chainReply, chainPassReply, fileLength};
 use refusals::Reason;
 use refusals::Verdict;
 
@@ -30,7 +30,7 @@ pub fn first_sector<'a>(image: &'a [u8], s: &[u8]) -> &'a [u8]
 
 // Row 11's test of the nine header bytes that a file's first sector begins with.
 fn header_differs(sector: &[u8], s: &[u8]) -> bool
-    ensures { λ r. ⌜ r ≡ headerDiffers (facts (now (s .entry))) (now (sector .entry)) ⌝ }
+    ensures { λ r. ⌜ r ≡ headerDiffers (slotFields (now (s .entry))) (now (sector .entry)) ⌝ }
 {
     if buffers::num_at(sector, 0) != slots::kind_of(s) {
         return true;
@@ -71,29 +71,29 @@ fn chain_rows(image: &[u8], s: &[u8], slot: usize) -> Verdict
     ensures { λ r. ⌜ replyOf r ≡ chainReply slot (fileOf (now (image .entry)) (now (s .entry))) ⌝ }
 {
     if chains::chain_broken(image, s) {
-        return refusals::unsound(Reason::ChainBroken, slot);
+        return refusals::refused_verdict(Reason::ChainBroken, slot);
     }
     let kind = slots::kind_of(s);
     if slots::is_carried(kind) {
         if header_differs(own_first(image, s), s) {
-            return refusals::unsound(Reason::HeaderDiffers, slot);
+            return refusals::refused_verdict(Reason::HeaderDiffers, slot);
         }
-        return Verdict::Sound;
+        return Verdict::Accepted;
     }
     if slots::is_spectrum(kind) {
         if 510 * slots::count_of(s) < 9 + header_length(own_first(image, s)) {
-            return refusals::unsound(Reason::BodyTooLong, slot);
+            return refusals::refused_verdict(Reason::BodyTooLong, slot);
         }
     }
-    Verdict::Sound
+    Verdict::Accepted
 }
 
 // Rows 10, 11 and 25 at one slot.
-pub fn later_rows(image: &[u8], s: &[u8], slot: usize) -> Verdict
-    ensures { λ r. ⌜ replyOf r ≡ laterReply slot (fileOf (now (image .entry)) (now (s .entry))) ⌝ }
+pub fn chain_pass_rows(image: &[u8], s: &[u8], slot: usize) -> Verdict
+    ensures { λ r. ⌜ replyOf r ≡ chainPassReply slot (fileOf (now (image .entry)) (now (s .entry))) ⌝ }
 {
     if slots::is_directory(s) {
-        return Verdict::Sound;
+        return Verdict::Accepted;
     }
     chain_rows(image, s, slot)
 }

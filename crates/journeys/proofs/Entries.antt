@@ -7,20 +7,20 @@ use native.Mathlib.Omega.{arith}
 use lib.ListN.{length, getD}
 use Rattle.buffers.specs.Bytes.{tab, part}
 use Rattle.buffers.proofs.Lists.{length-tab, getD-tab, tab-of, part-long, part-at}
-use Rattle.slots.specs.Slot.{kindOf, spectrum, readable, facts, lengthOf, countOf, firstOf, pageOf, offsetOf}
+use Rattle.slots.specs.Slot.{kindOf, spectrum, readable, slotFields, lengthOf, countOf, firstOf, pageOf, offsetOf}
 use Rattle.chains.specs.File.{File}
-use Rattle.chains.specs.Chain.{linked}
+use Rattle.chains.specs.Chain.{chainBit}
 use Rattle.headers.specs.Header.{firstSector, fileLength, bodyByte, body}
-use Rattle.disk.specs.Sound.{GoodFile}
+use Rattle.disk.specs.Accepted.{AcceptedFile}
 use Rattle.disk.proofs.Rows.{spectrum-is}
-use Rattle.disk.proofs.Sound.{body-fits}
-use Rattle.files.specs.Calls.{address, startOf}
+use Rattle.disk.proofs.Accepted.{body-fits}
+use Rattle.files.specs.Calls.{address, fileStart}
 use Rattle.plans.specs.Gathering.{payloadOf}
 use Rattle.plans.proofs.Moved.{payload-byte}
 use Rattle.journeys.specs.Ledger.{longOf, bodyOf}
-use Rattle.journeys.specs.Journey.{entryOf}
+use Rattle.journeys.specs.Journey.{entryOfFile}
 
-module _ (n : ℕ) (f : File) (g : GoodFile n f) where
+module _ (n : ℕ) (f : File) (g : AcceptedFile n f) where
   -- kinds 1 to 4 have a first sector
   some-sectors : spectrum (kindOf (f .bytes)) ≡ true → 1 ≤ countOf (f .bytes)
   some-sectors e =
@@ -29,7 +29,7 @@ module _ (n : ℕ) (f : File) (g : GoodFile n f) where
 
   -- "the payload's front"
   head : spectrum (kindOf (f .bytes)) ≡ true → (k : ℕ) → k < 510 → getD (payloadOf f) k 0 ≡ getD (firstSector f) k 0
-  unfolding facts linked
+  unfolding slotFields chainBit
   head e k h = ap (λ (j : ℕ). getD (payloadOf f) j 0) (omega arith) ∙ payload-byte f 0 k (some-sectors e) h
 
   -- a word of the header, or what another kind has for it
@@ -43,17 +43,17 @@ module _ (n : ℕ) (f : File) (g : GoodFile n f) where
       by true e = sym (ap₂ (λ (a b : ℕ). a + 256 * b) (head e j p) (head e k q))
       by false e = refl
 
-  pub long-is : fileLength f ≡ longOf (entryOf f)
+  pub long-is : fileLength f ≡ longOf (entryOfFile f)
   unfolding fileLength longOf
-  long-is = word-is 1 2 (lengthOf (facts (f .bytes))) (omega arith) (omega arith)
+  long-is = word-is 1 2 (lengthOf (slotFields (f .bytes))) (omega arith) (omega arith)
 
-  pub start-is : startOf f ≡ Rattle.journeys.specs.Ledger.startOf (entryOf f)
-  unfolding startOf Rattle.journeys.specs.Ledger.startOf
+  pub start-is : fileStart f ≡ Rattle.journeys.specs.Ledger.entryStart (entryOfFile f)
+  unfolding fileStart Rattle.journeys.specs.Ledger.entryStart
   start-is = word-is 3 4 (address (pageOf (f .bytes)) (offsetOf (f .bytes))) (omega arith) (omega arith)
 
   -- of a kind that can be read the sectors hold the nine bytes and the body
-  pub body-is : readable (kindOf (f .bytes)) ≡ true → body f ≡ bodyOf (entryOf f)
-  unfolding body bodyByte bodyOf payloadOf facts
+  pub body-is : readable (kindOf (f .bytes)) ≡ true → body f ≡ bodyOf (entryOfFile f)
+  unfolding body bodyByte bodyOf payloadOf slotFields
   body-is e =
       let h = body-fits n f g e in
       let c : length (tab (510 * countOf (f .bytes)) pay) ≡ 510 * countOf (f .bytes) = length-tab (510 * countOf (f .bytes)) pay in
@@ -63,4 +63,4 @@ module _ (n : ℕ) (f : File) (g : GoodFile n f) where
       ∙ ap (λ (m : ℕ). part 9 m (payloadOf f)) long-is
     where
       pay : ℕ → ℕ
-      pay k = getD (f .sectors (linked (f .sectors) (firstOf (f .bytes)) (k / 510))) (k % 510) 0
+      pay k = getD (f .sectors (chainBit (f .sectors) (firstOf (f .bytes)) (k / 510))) (k % 510) 0

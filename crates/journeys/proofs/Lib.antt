@@ -6,6 +6,6 @@ pub mod Releasing
 pub mod Refusing
 pub mod Entering
 pub mod Closed
-pub mod Handfuls
-pub mod Ticking
+pub mod EraseMany
+pub mod LedgerErases
 pub mod Journey

@@ -25,6 +25,6 @@ fn main() {
         Answer::Done(n, _) => {
             io::write_all(1, &page[..n]);
         }
-        Answer::No(_) => {}
+        Answer::Err(_) => {}
     }
 }

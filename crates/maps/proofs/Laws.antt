@@ -17,7 +17,7 @@ use lib.Seq.{getD-set-same, getD-set-other, getD-take}
 use Rattle.buffers.specs.Bytes.{count, any, word}
 use Rattle.buffers.proofs.Lists.{below-or-not, past-end, length-tab, getD-tab, tab-of}
 use Rattle.buffers.proofs.Counts.{count-cong, count-le, count-add, count-none, any-cong, any-none, none-any}
-use Rattle.maps.specs.Bits.{has, bitsOf, share, clear, join, marked}
+use Rattle.maps.specs.Bits.{has, bitsOf, share, clearMap, join, withBit}
 
 -- ---- a byte
 
@@ -169,7 +169,7 @@ zeros-at zero k = refl
 zeros-at (suc n) zero = refl
 zeros-at (suc n) (suc k) = zeros-at n k
 
-pub has-clear : (b : ℕ) → has clear b ≡ false
+pub has-clear : (b : ℕ) → has clearMap b ≡ false
 unfolding has
 has-clear b = ap (λ (x : ℕ). bit x (b % 8)) (zeros-at 195 (b / 8)) ∙ bit-zero (b % 8)
 
@@ -179,9 +179,9 @@ pub bits-le : (m : List ℕ) → bitsOf m ≤ 1560
 unfolding bitsOf
 bits-le m = count-le 1560 (has m)
 
-pub bits-clear : bitsOf clear ≡ 0
+pub bits-clear : bitsOf clearMap ≡ 0
 unfolding bitsOf
-bits-clear = count-none 1560 (has clear) (λ b h. has-clear b)
+bits-clear = count-none 1560 (has clearMap) (λ b h. has-clear b)
 
 -- one byte more
 pub bits-more : (m : List ℕ) (i : ℕ) → getD m i 0 < 256 → count (8 * (i + 1)) (has m) ≡ count (8 * i) (has m) + ones (getD m i 0)
@@ -235,16 +235,16 @@ bits-all m n e = ⊎-elim short full (below-or-not n 195)
 
 -- ---- shared bits
 
-abbrev pub both : List ℕ → List ℕ → ℕ → Bool
-both m d b = has m b && has d b
+abbrev pub inBoth : List ℕ → List ℕ → ℕ → Bool
+inBoth m d b = has m b && has d b
 
 pub share-none : (m d : List ℕ) → share m d ≡ false → (b : ℕ) → b < 1560 → has m b ≡ true → has d b ≡ true → ⊥
 unfolding share
-share-none m d e b h p q = true≢false (sym (rw (p, q)) ∙ any-none 1560 (both m d) e b h)
+share-none m d e b h p q = true≢false (sym (rw (p, q)) ∙ any-none 1560 (inBoth m d) e b h)
 
 pub none-share : (m d : List ℕ) → ((b : ℕ) → b < 1560 → has m b ≡ true → has d b ≡ true → ⊥) → share m d ≡ false
 unfolding share
-none-share m d h = none-any 1560 (both m d) (λ b l. not-both (has m b) (has d b) (h b l))
+none-share m d h = none-any 1560 (inBoth m d) (λ b l. not-both (has m b) (has d b) (h b l))
   where
     not-both : (s t : Bool) → (s ≡ true → t ≡ true → ⊥) → (s && t) ≡ false
     not-both true true k = absurd (k refl refl)
@@ -253,31 +253,31 @@ none-share m d h = none-any 1560 (both m d) (λ b l. not-both (has m b) (has d b
 
 pub share-comm : (m d : List ℕ) → share m d ≡ share d m
 unfolding share
-share-comm m d = any-cong 1560 (both m d) (both d m) (λ b h. and-comm (has m b) (has d b))
+share-comm m d = any-cong 1560 (inBoth m d) (inBoth d m) (λ b h. and-comm (has m b) (has d b))
 
 -- one byte more: its shared bits are or-ed to the others
-pub share-more : (m d : List ℕ) (i a x z : ℕ) → x ≡ bitAnd (getD m i 0) (getD d i 0) → z ≡ bitOr a x → any 8 (bit a) ≡ any (8 * i) (both m d)
-    → any 8 (bit z) ≡ any (8 * (i + 1)) (both m d)
+pub share-more : (m d : List ℕ) (i a x z : ℕ) → x ≡ bitAnd (getD m i 0) (getD d i 0) → z ≡ bitOr a x → any 8 (bit a) ≡ any (8 * i) (inBoth m d)
+    → any 8 (bit z) ≡ any (8 * (i + 1)) (inBoth m d)
 share-more m d i a x z e f h =
     ap (λ (v : ℕ). any 8 (bit v)) f ∙ any-cong 8 (bit (bitOr a x)) (λ j. bit a j || bit x j) (λ j l. bit-or a x j) ∙ any-or 8 (bit a) (bit x)
     ∙ ap (λ (t : Bool). t || any 8 (bit x)) h
-    ∙ sym (any-eight i (both m d) (bit x) (λ j l. ap₂ _&&_ (has-byte m i j l) (has-byte d i j l) ∙ sym (bit-and (getD m i 0) (getD d i 0) j) ∙ ap (λ (v : ℕ). bit v j) (sym e)))
+    ∙ sym (any-eight i (inBoth m d) (bit x) (λ j l. ap₂ _&&_ (has-byte m i j l) (has-byte d i j l) ∙ sym (bit-and (getD m i 0) (getD d i 0) j) ∙ ap (λ (v : ℕ). bit v j) (sym e)))
 
 -- the bytes that both maps have, of 195, hold all the bits that they can share
-pub share-all : (m d : List ℕ) (n : ℕ) → n ≡ min 195 (min (length m) (length d)) → any (8 * n) (both m d) ≡ share m d
+pub share-all : (m d : List ℕ) (n : ℕ) → n ≡ min 195 (min (length m) (length d)) → any (8 * n) (inBoth m d) ≡ share m d
 unfolding share
 share-all m d n e = ⊎-elim short full (below-or-not n 195)
   where
-    past : n < 195 → (b : ℕ) → 8 * n ≤ b → both m d b ≡ false
+    past : n < 195 → (b : ℕ) → 8 * n ≤ b → inBoth m d b ≡ false
     past h b l =
         ⊎-elim (λ (k : length m < length d). rw (has-past m b (omega arith)))
         (λ (k : length d ≤ length m). rw (has-past d b (omega arith)) (and-false (has m b)))
         (below-or-not (length m) (length d))
 
-    short : n < 195 → any (8 * n) (both m d) ≡ any 1560 (both m d)
-    short h = any-stop (8 * n) 1560 (both m d) (omega arith) (past h)
+    short : n < 195 → any (8 * n) (inBoth m d) ≡ any 1560 (inBoth m d)
+    short h = any-stop (8 * n) 1560 (inBoth m d) (omega arith) (past h)
 
-    full : 195 ≤ n → any (8 * n) (both m d) ≡ any 1560 (both m d)
+    full : 195 ≤ n → any (8 * n) (inBoth m d) ≡ any 1560 (inBoth m d)
     full h = let k : 8 * n ≡ 1560 = omega arith in rw k
 
 -- ---- a join
@@ -303,14 +303,14 @@ pub bits-join : (m d : List ℕ) → length m ≡ 195 → share m d ≡ false �
 unfolding bitsOf share
 bits-join m d e h =
     count-cong 1560 (has (join m d)) (λ b. has m b || has d b) (λ b l. has-join m d b (omega arith))
-    ∙ count-or 1560 (has m) (has d) (any-none 1560 (both m d) h)
+    ∙ count-or 1560 (has m) (has d) (any-none 1560 (inBoth m d) h)
 
 pub share-join : (m d e : List ℕ) → length m ≡ 195 → share (join m d) e ≡ (share m e || share d e)
 unfolding share
 share-join m d e h =
-    any-cong 1560 (both (join m d) e) (λ b. both m e b || both d e b)
+    any-cong 1560 (inBoth (join m d) e) (λ b. inBoth m e b || inBoth d e b)
     (λ b l. ap (λ (t : Bool). t && has e b) (has-join m d b (omega arith)) ∙ and-or-distrib-right (has m b) (has d b) (has e b))
-    ∙ any-or 1560 (both m e) (both d e)
+    ∙ any-or 1560 (inBoth m e) (inBoth d e)
 
 -- with none of d, with one byte more of it, and with all that m has room for
 pub join-none : (m d : List ℕ) → m ≡ join m (take 0 d)
@@ -351,24 +351,24 @@ join-all m d n e = join-is m d (join m (take n d)) (length-join m (take n d)) (�
 
 -- ---- a marked map
 
-pub length-marked : (m : List ℕ) (b : ℕ) → length (marked m b) ≡ length m
-unfolding marked
+pub length-marked : (m : List ℕ) (b : ℕ) → length (withBit m b) ≡ length m
+unfolding withBit
 length-marked m b = length-set m (b / 8) (bitOr (getD m (b / 8) 0) (2 ^ (b % 8)))
 
-marked-same : (m : List ℕ) (b c : ℕ) → b < 8 * length m → c / 8 ≡ b / 8 → has (marked m b) c ≡ (has m c || eqb (c % 8) (b % 8))
-unfolding has marked
+marked-same : (m : List ℕ) (b c : ℕ) → b < 8 * length m → c / 8 ≡ b / 8 → has (withBit m b) c ≡ (has m c || eqb (c % 8) (b % 8))
+unfolding has withBit
 marked-same m b c h e =
     rw (e, getD-set-same m (b / 8) (bitOr (getD m (b / 8) 0) (2 ^ (b % 8))) 0 (omega arith))
     (bit-or (getD m (b / 8) 0) (2 ^ (b % 8)) (c % 8) ∙ ap (λ (t : Bool). bit (getD m (b / 8) 0) (c % 8) || t) (bit-pow (b % 8) (c % 8)))
 
-marked-other : (m : List ℕ) (b c : ℕ) → (c / 8 ≡ b / 8 → ⊥) → has (marked m b) c ≡ has m c
-unfolding has marked
+marked-other : (m : List ℕ) (b c : ℕ) → (c / 8 ≡ b / 8 → ⊥) → has (withBit m b) c ≡ has m c
+unfolding has withBit
 marked-other m b c e = ap (λ (x : ℕ). bit x (c % 8)) (getD-set-other m (b / 8) (c / 8) (bitOr (getD m (b / 8) 0) (2 ^ (b % 8))) 0 e)
 
-pub has-marked : (m : List ℕ) (b c : ℕ) → b < 8 * length m → has (marked m b) c ≡ (eqb c b || has m c)
+pub has-marked : (m : List ℕ) (b c : ℕ) → b < 8 * length m → has (withBit m b) c ≡ (eqb c b || has m c)
 has-marked m b c h = go (ℕ-discrete c b) (ℕ-discrete (c / 8) (b / 8))
   where
-    go : Dec (c ≡ b) → Dec (c / 8 ≡ b / 8) → has (marked m b) c ≡ (eqb c b || has m c)
+    go : Dec (c ≡ b) → Dec (c / 8 ≡ b / 8) → has (withBit m b) c ≡ (eqb c b || has m c)
     go (yes e) y =
         marked-same m b c h (ap (λ (x : ℕ). x / 8) e)
         ∙ rw (eq-eqb c b e, eq-eqb (c % 8) (b % 8) (ap (λ (x : ℕ). x % 8) e)) (or-true (has m c))

@@ -20,13 +20,13 @@ unfoldable pub share : List ℕ → List ℕ → Bool
 share m d = any 1560 (λ b. has m b && has d b)
 
 -- "a map with all 195 bytes clear"
-abbrev pub clear : List ℕ
-clear = replicate 195 0
+abbrev pub clearMap : List ℕ
+clearMap = replicate 195 0
 
 -- the bitwise or of two maps, as long as the first
 unfoldable pub join : List ℕ → List ℕ → List ℕ
 join m d = tab (length m) (λ k. bitOr (getD m k 0) (getD d k 0))
 
 -- a map with bit b set as well
-unfoldable pub marked : List ℕ → ℕ → List ℕ
-marked m b = set m (b / 8) (bitOr (getD m (b / 8) 0) (2 ^ (b % 8)))
+unfoldable pub withBit : List ℕ → ℕ → List ℕ
+withBit m b = set m (b / 8) (bitOr (getD m (b / 8) 0) (2 ^ (b % 8)))

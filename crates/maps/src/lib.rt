@@ -6,7 +6,7 @@ ghost use lib.Bits.{bitOr, bitAnd};
 ghost use lib.Count.{ones};
 ghost use lib.ListN.{length};
 ghost use Rattle.buffers.specs.Bytes.{count, any};
-ghost use Rattle.maps.specs.Bits.{has, bitsOf, share, join, marked};
+ghost use Rattle.maps.specs.Bits.{has, bitsOf, share, join, withBit};
 
 // The bytes of a map.
 pub const MAP_BYTES: usize = 195;
@@ -121,8 +121,8 @@ pub fn join_into(m: &mut [u8], d: &[u8])
 }
 
 // Sets bit `b` of `m`; past the end there is none to set.
-pub fn mark(m: &mut [u8], b: usize)
-    ensures { λ _. ⌜ now (m .exit) ≡ marked (now (m .entry)) b ⌝ }
+pub fn set_bit(m: &mut [u8], b: usize)
+    ensures { λ _. ⌜ now (m .exit) ≡ withBit (now (m .entry)) b ⌝ }
 {
     let k = b / 8;
     if k < m.len() {

@@ -13,7 +13,7 @@ use lib.Seq.{drop-cons, getD-append-add, ext-getD, take-all}
 use Rattle.buffers.specs.Bytes.{part, put}
 use Rattle.buffers.proofs.Lists.{length-put, length-part, part-at, put-in, put-after, below-or-not}
 use Rattle.buffers.proofs.Tests.{and-both}
-use Rattle.names.specs.Name.{lower, lowered, sameBytes, sameName, Same, OneName, askable, padded}
+use Rattle.names.specs.Name.{lower, lowered, sameBytes, sameName, Same, SameLetters, askable, padded}
 use Rattle.names.proofs.Letters.{lower-is, is-lower, lower-zero, length-lowered, lowered-at}
 
 -- ---- byte for byte: the same exactly where they are equal
@@ -76,7 +76,7 @@ pub same-long : (xs ys : List ℕ) → Same xs ys → length xs ≡ length ys
 same-long xs ys e = sym (length-lowered xs) ∙ ap length (same-is xs ys e) ∙ length-lowered ys
 
 -- "Names that differ only in a to z against A to Z are the same name", and no others
-pub same-exactly : (a b : List ℕ) → (Same a b → OneName a b) × (OneName a b → Same a b)
+pub same-exactly : (a b : List ℕ) → (Same a b → SameLetters a b) × (SameLetters a b → Same a b)
 same-exactly a b = (
   λ e. record { long = same-long a b e; letters = λ i h. lower-is (getD a i 0) (getD b i 0) (sym (lowered-at a i) ∙ ap (λ (l : List ℕ). getD l i 0) (same-is a b e) ∙ lowered-at b i) },
   λ w.

@@ -41,7 +41,7 @@ Cases x y = (65 ≤ x) × (x ≤ 90) × (y ≡ x + 32)
 abbrev pub OneLetter : ℕ → ℕ → Type 0
 OneLetter x y = (x ≡ y) ⊎ (Cases x y ⊎ Cases y x)
 
-pub record OneName (a b : List ℕ) : Type 0 where
+pub record SameLetters (a b : List ℕ) : Type 0 where
   pub long : length a ≡ length b
   pub letters : (i : ℕ) → i < length a → OneLetter (getD a i 0) (getD b i 0)
 

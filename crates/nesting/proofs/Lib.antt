@@ -1,4 +1,4 @@
 pub mod Table
 pub mod Passed
-pub mod Told
+pub mod Results
 pub mod Others

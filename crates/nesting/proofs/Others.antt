@@ -13,7 +13,7 @@ use Rattle.buffers.proofs.Lists.{below-or-not}
 use Rattle.buffers.proofs.Counts.{any-more, any-none, none-any, any-some}
 use Rattle.slots.specs.Slot.{isDirectory, codeOf, parentOf}
 use Rattle.directory.specs.Places.{slots}
-use Rattle.directory.specs.Directory.{held, Directory, directory, slotsRead}
+use Rattle.directory.specs.Directory.{foldOption, Directory, directory, slotsRead}
 use Rattle.directory.proofs.Live.{directory-unread}
 use Rattle.trees.specs.Tree.{occupied}
 use Rattle.nesting.specs.Steps.{inOther}

@@ -19,7 +19,7 @@ use Rattle.refusals.specs.Order.{rows}
 use Rattle.refusals.proofs.First.{rows-clear}
 use Rattle.slots.specs.Slot.{isDirectory, codeOf}
 use Rattle.directory.specs.Directory.{Directory}
-use Rattle.nesting.specs.Steps.{Tabled, climb, backBy, Passed, placingBy}
+use Rattle.nesting.specs.Steps.{Tabled, climb, backBy, Passed, nestingRowsBy}
 use Rattle.nesting.proofs.Table.{zeros-at}
 
 module _ (above : List ℕ) where
@@ -81,8 +81,8 @@ module _ (above : List ℕ) where
   }
 
   -- a directory of which 28 does not hold
-  pub rows-passed : (slot m : ℕ) (s : List ℕ) → rows slot (placingBy above m s) ≡ none → isDirectory s ≡ true → (c : ℕ) → c ≡ codeOf s → backBy above m c ≡ false
-  rows-passed slot m s e d c q = ap (backBy above m) q ∙ by (rows-clear slot (placingBy above m s) e .1 .0)
+  pub rows-passed : (slot m : ℕ) (s : List ℕ) → rows slot (nestingRowsBy above m s) ≡ none → isDirectory s ≡ true → (c : ℕ) → c ≡ codeOf s → backBy above m c ≡ false
+  rows-passed slot m s e d c q = ap (backBy above m) q ∙ by (rows-clear slot (nestingRowsBy above m s) e .1 .0)
     where
       by : (isDirectory s && backBy above m (codeOf s)) ≡ false → backBy above m (codeOf s) ≡ false
       by y = rw d at y

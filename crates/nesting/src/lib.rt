@@ -4,12 +4,12 @@ ghost use mathlib.Core.Path.{_≡_};
 ghost use Prim.Native.Nat.{_-_};
 ghost use lib.ListN.{getD, set, replicate};
 ghost use Rattle.buffers.specs.Bytes.{any};
-ghost use Rattle.refusals.specs.Order.{rows, sweep};
+ghost use Rattle.refusals.specs.Order.{rows, scan};
 ghost use Rattle.refusals.specs.Answers.{replyOf};
 ghost use Rattle.directory.specs.Places.{slots};
 ghost use Rattle.directory.specs.Directory.{directory};
 ghost use Rattle.trees.specs.Tree.{placeAt, occupied};
-ghost use Rattle.nesting.specs.Steps.{inOther, backBy, nowhere, placingBy, Tabled, Passed, Tables, Nests};
+ghost use Rattle.nesting.specs.Steps.{inOther, backBy, isOrphan, nestingRowsBy, Tabled, Passed, Tables, Nests};
 use refusals::Reason;
 use refusals::Refused;
 use refusals::Verdict;
@@ -69,8 +69,8 @@ fn comes_back(above: &[u16], passed: &[u8], number: usize, code: usize) -> bool
 }
 
 // Whether a slot is in a directory that there is not.
-fn lies_nowhere(above: &[u16], s: &[u8]) -> bool
-    ensures { λ r. ⌜ r ≡ nowhere (now (above .entry)) (now (s .entry)) ⌝ }
+fn is_orphan(above: &[u16], s: &[u8]) -> bool
+    ensures { λ r. ⌜ r ≡ isOrphan (now (above .entry)) (now (s .entry)) ⌝ }
 {
     let parent = slots::parent_of(s);
     if parent == 0 {
@@ -82,17 +82,17 @@ fn lies_nowhere(above: &[u16], s: &[u8]) -> bool
 // 27 and 28 at a live slot.
 fn place_rows(above: &[u16], passed: &[u8], number: usize, s: &[u8], slot: usize) -> Verdict
     requires { ⌜ Passed (now above) (now passed) number ⌝ }
-    ensures { λ r. ⌜ replyOf r ≡ rows slot (placingBy (now (above .entry)) number (now (s .entry))) ⌝ }
+    ensures { λ r. ⌜ replyOf r ≡ rows slot (nestingRowsBy (now (above .entry)) number (now (s .entry))) ⌝ }
 {
-    if lies_nowhere(above, s) {
-        return refusals::unsound(Reason::NoSuchDirectory, slot);
+    if is_orphan(above, s) {
+        return refusals::refused_verdict(Reason::NoSuchDirectory, slot);
     }
     if slots::is_directory(s) {
         if comes_back(above, passed, number, slots::code_of(s)) {
-            return refusals::unsound(Reason::InsideItself, slot);
+            return refusals::refused_verdict(Reason::InsideItself, slot);
         }
     }
-    Verdict::Sound
+    Verdict::Accepted
 }
 
 // The root's code alone is passed.
@@ -107,7 +107,7 @@ fn root_alone() -> [u8; 256]
 // 27 and 28 at all slots.
 fn all_places(dir: &[u8], above: &[u16], number: usize) -> Verdict
     requires { ⌜ Tabled (directory (now dir)) (now above) number ⌝ }
-    ensures { λ r. ⌜ replyOf r ≡ sweep slots (placeAt (directory (now (dir .entry)))) ⌝ }
+    ensures { λ r. ⌜ replyOf r ≡ scan slots (placeAt (directory (now (dir .entry)))) ⌝ }
 {
     let end = directory::slots_read(dir);
     let mut passed = root_alone();
@@ -117,10 +117,10 @@ fn all_places(dir: &[u8], above: &[u16], number: usize) -> Verdict
         i += 1;
         if slots::is_live(s) {
             match place_rows(above, &passed, number, s, i) {
-                Verdict::Unsound(r) => {
-                    return Verdict::Unsound(r);
+                Verdict::Err(r) => {
+                    return Verdict::Err(r);
                 }
-                Verdict::Sound => {
+                Verdict::Accepted => {
                     if slots::is_directory(s) {
                         passed[slots::code_of(s)] = 1;
                     }
@@ -128,7 +128,7 @@ fn all_places(dir: &[u8], above: &[u16], number: usize) -> Verdict
             }
         }
     }
-    Verdict::Sound
+    Verdict::Accepted
 }
 
 // 26 at all slots, and the table of the directories.
@@ -147,7 +147,7 @@ fn all_codes(dir: &[u8]) -> Codes
                 let code = slots::code_of(s);
                 if code == 0 {
                     return Codes {
-                        verdict: Verdict::Unsound(Refused {
+                        verdict: Verdict::Err(Refused {
                             reason: Reason::CodeNotOwn,
                             slot: i,
                         }),
@@ -157,7 +157,7 @@ fn all_codes(dir: &[u8]) -> Codes
                 }
                 if above[code] != 0 {
                     return Codes {
-                        verdict: Verdict::Unsound(Refused {
+                        verdict: Verdict::Err(Refused {
                             reason: Reason::CodeNotOwn,
                             slot: i,
                         }),
@@ -171,7 +171,7 @@ fn all_codes(dir: &[u8]) -> Codes
         }
     }
     Codes {
-        verdict: Verdict::Sound,
+        verdict: Verdict::Accepted,
         above,
         number,
     }
@@ -184,16 +184,16 @@ pub fn survey_nesting(dir: &[u8]) -> Nesting
     let codes = all_codes(dir);
     let verdict = codes.verdict;
     match verdict {
-        Verdict::Unsound(_) => Nesting { verdict, number: 0 },
-        Verdict::Sound => {
+        Verdict::Err(_) => Nesting { verdict, number: 0 },
+        Verdict::Accepted => {
             let number = codes.number;
             let placed = all_places(dir, &codes.above, number);
             match placed {
-                Verdict::Unsound(_) => Nesting {
+                Verdict::Err(_) => Nesting {
                     verdict: placed,
                     number: 0,
                 },
-                Verdict::Sound => Nesting {
+                Verdict::Accepted => Nesting {
                     verdict: placed,
                     number,
                 },

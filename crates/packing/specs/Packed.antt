@@ -22,52 +22,52 @@ unfoldable pub clippedAt : ℕ → ℕ → ℕ → ℕ
 clippedAt sector value offset = packedAt (sector % 2 ^ 16) (value % 2 ^ 24) (offset % 2 ^ 16)
 
 -- a check as an outcome
-abbrev pub checked : Reply → Outcome
-checked q = unless q (done 0 0)
+abbrev pub checkOutcome : Reply → Outcome
+checkOutcome q = unless q (done 0 0)
 
 -- ---- the four parts of an answer
 
-abbrev pub refusalIn : Outcome → ℕ
-refusalIn (done value free) = 0
-refusalIn (refused r) = r .number
+abbrev pub outcomeRefusal : Outcome → ℕ
+outcomeRefusal (done value free) = 0
+outcomeRefusal (refused r) = r .number
 
-abbrev pub slotIn : Outcome → ℕ
-slotIn (done value free) = 0
-slotIn (refused r) = r .slot
+abbrev pub outcomeSlot : Outcome → ℕ
+outcomeSlot (done value free) = 0
+outcomeSlot (refused r) = r .slot
 
-abbrev pub valueIn : Outcome → ℕ
-valueIn (done value free) = value
-valueIn (refused r) = 0
+abbrev pub outcomeValue : Outcome → ℕ
+outcomeValue (done value free) = value
+outcomeValue (refused r) = 0
 
-abbrev pub freeIn : Outcome → ℕ
-freeIn (done value free) = free
-freeIn (refused r) = 0
+abbrev pub outcomeFree : Outcome → ℕ
+outcomeFree (done value free) = free
+outcomeFree (refused r) = 0
 
 -- refusals of the table at slots of the directory, values up to v, free sectors up to f
 pub record Within (o : Outcome) (v f : ℕ) : Type 0 where
-  pub refusal : refusalIn o ≤ lastNumber
-  pub slot : slotIn o ≤ 778
-  pub value : valueIn o ≤ v
-  pub free : freeIn o ≤ f
+  pub refusal : outcomeRefusal o ≤ lastNumber
+  pub slot : outcomeSlot o ≤ 778
+  pub value : outcomeValue o ≤ v
+  pub free : outcomeFree o ≤ f
 
 -- every part has room in the answer
-abbrev pub Fits : Outcome → Type 0
-Fits o = Within o (2 ^ 24 - 1) (2 ^ 16 - 1)
+abbrev pub FitsAnswer : Outcome → Type 0
+FitsAnswer o = Within o (2 ^ 24 - 1) (2 ^ 16 - 1)
 
 -- the same of a place and a value
-pub record FitsAt (sector value offset : ℕ) : Type 0 where
+pub record PlaceFitsAnswer (sector value offset : ℕ) : Type 0 where
   pub sector-small : sector < 2 ^ 16
   pub value-small : value < 2 ^ 24
   pub offset-small : offset < 2 ^ 16
 
 -- an answer read in its parts
-pub record Told (o : Outcome) (answer : ℕ) : Type 0 where
-  pub refusal : answer % 256 ≡ refusalIn o
-  pub slot : answer / 256 % 2 ^ 16 ≡ slotIn o
-  pub value : answer / 2 ^ 24 % 2 ^ 24 ≡ valueIn o
-  pub free : answer / 2 ^ 48 ≡ freeIn o
+pub record Unpacked (o : Outcome) (answer : ℕ) : Type 0 where
+  pub refusal : answer % 256 ≡ outcomeRefusal o
+  pub slot : answer / 256 % 2 ^ 16 ≡ outcomeSlot o
+  pub value : answer / 2 ^ 24 % 2 ^ 24 ≡ outcomeValue o
+  pub free : answer / 2 ^ 48 ≡ outcomeFree o
 
-pub record ToldAt (sector value offset answer : ℕ) : Type 0 where
+pub record UnpackedAt (sector value offset answer : ℕ) : Type 0 where
   pub refusal : answer % 256 ≡ 0
   pub sector-is : answer / 256 % 2 ^ 16 ≡ sector
   pub value-is : answer / 2 ^ 24 % 2 ^ 24 ≡ value

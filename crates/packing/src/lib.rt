@@ -1,7 +1,7 @@
 // An answer as one number, for the app's C layer: refusal + 256 × slot + 2^24 × value + 2^48 × free.
 ghost use mathlib.Core.Path.{_≡_};
 ghost use Rattle.refusals.specs.Answers.{replyOf, outcomeOf};
-ghost use Rattle.packing.specs.Packed.{clipped, clippedAt, checked};
+ghost use Rattle.packing.specs.Packed.{clipped, clippedAt, checkOutcome};
 use refusals::Answer;
 use refusals::Verdict;
 
@@ -13,9 +13,9 @@ pub fn pack(a: Answer) -> u64
         Answer::Done(value, free) => {
             16777216 * (value % 16777216) as u64 + 281474976710656 * (free % 65536) as u64
         }
-        Answer::No(r) => {
+        Answer::Err(r) => {
             let reason = r.reason;
-            refusals::number_of(reason) as u64 + 256 * (r.slot % 65536) as u64
+            refusals::refusal_number(reason) as u64 + 256 * (r.slot % 65536) as u64
         }
     }
 }
@@ -30,12 +30,12 @@ pub fn pack_place(sector: usize, value: usize, offset: usize) -> u64
         + 281474976710656 * (offset % 65536) as u64
 }
 
-// The verdict of a check; 0 of a sound disk.
+// The verdict of a check; 0 of an accepted disk.
 pub fn pack_verdict(v: Verdict) -> u64
-    ensures { λ r. ⌜ r ≡ clipped (checked (replyOf v)) ⌝ }
+    ensures { λ r. ⌜ r ≡ clipped (checkOutcome (replyOf v)) ⌝ }
 {
     match v {
-        Verdict::Unsound(r) => pack(Answer::No(r)),
-        Verdict::Sound => 0,
+        Verdict::Err(r) => pack(Answer::Err(r)),
+        Verdict::Accepted => 0,
     }
 }

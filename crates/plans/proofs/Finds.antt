@@ -11,12 +11,12 @@ use Rattle.slots.specs.Slot.{nameOf}
 use Rattle.names.specs.Name.{Same, padded}
 use Rattle.names.proofs.Names.{same-both}
 use Rattle.chains.specs.File.{File}
-use Rattle.disk.specs.Look.{look}
+use Rattle.disk.specs.View.{view}
 use Rattle.disk.specs.Check.{checkDisk}
-use Rattle.plans.specs.Change.{Wish, Mark, Change, save, erase, rename, mark, gather}
+use Rattle.plans.specs.Change.{SaveRequest, Mark, Change, save, erase, rename, mark, gather}
 use Rattle.plans.specs.Plan.{finds}
-use Rattle.plans.proofs.Frame.{disk-sound, holds}
-use Rattle.plans.proofs.Kept.{sound-apart}
+use Rattle.plans.proofs.Frame.{disk-accepted, holds}
+use Rattle.plans.proofs.Kept.{accepted-apart}
 
 pub finds-erase : (n : List ℕ) (f : File) → (finds (erase n) f ≡ true) ↔ Same (nameOf (f .bytes)) (padded n)
 unfolding finds
@@ -35,19 +35,19 @@ unfolding finds
 finds-gather n f = (λ e. e, λ e. e)
 
 -- "a save finds none"
-pub finds-save : (w : Wish) (f : File) → finds (save w) f ≡ false
+pub finds-save : (w : SaveRequest) (f : File) → finds (save w) f ≡ false
 unfolding finds
 finds-save w f = refl
 
 -- two live slots of an accepted disk that a change finds are the same slot
-module _ (d : List ℕ) (ok : checkDisk d ≡ none) (i j : ℕ) (f g : File) (p : look d .files i ≡ some f) (q : look d .files j ≡ some g) where
+module _ (d : List ℕ) (ok : checkDisk d ≡ none) (i j : ℕ) (f g : File) (p : view d .files i ≡ some f) (q : view d .files j ≡ some g) where
   one-name : (n : List ℕ) → Same (nameOf (f .bytes)) (padded n) → Same (nameOf (g .bytes)) (padded n) → i ≡ j
   one-name n a b = by (eqb j i) refl
     where
       by : (t : Bool) → eqb j i ≡ t → i ≡ j
       by true e = sym (eqb-true j i e)
       by false e =
-          let s = sound-apart (look d) (disk-sound d ok) i j f g (holds d i f p .here) (holds d j g q .here) (eqb-false j i e) p q in
+          let s = accepted-apart (view d) (disk-accepted d ok) i j f g (holds d i f p .here) (holds d j g q .here) (eqb-false j i e) p q in
           absurd (s .names (same-both (nameOf (g .bytes)) (nameOf (f .bytes)) (padded n) b a))
 
   pub finds-one : (c : Change) → finds c f ≡ true → finds c g ≡ true → i ≡ j

@@ -1,4 +1,4 @@
--- What bytes put into one slot, or into one data sector, change of a look, and what they leave.
+-- What bytes put into one slot, or into one data sector, change of a view, and what they leave.
 use Prim.Native.Nat.{ℕ, suc, _+_, _*_, _%_, _≤_, _<_}
 use mathlib.Core.Path.{_≡_, refl, sym, ap, ap₂, _∙_, fun-ext}
 use mathlib.Core.Bool.{Bool, true, false, cond, _&&_, false≢true}
@@ -19,118 +19,118 @@ use Rattle.slots.specs.Tracks.{isLabel, dataBit}
 use Rattle.chains.specs.File.{File, sectorAt, sectorsOf, fileOf}
 use Rattle.chains.proofs.Laws.{map-small, sectors-own, file-agree}
 use Rattle.directory.specs.Places.{slots, slotAt, slotBytes, dirSector}
-use Rattle.directory.specs.Directory.{held, labelOf, tracksOf, slotsIn, nameless, seen, directory}
+use Rattle.directory.specs.Directory.{foldOption, labelOf, tracksOf, slotsIn, isNamelessAt, isRead, directory}
 use Rattle.directory.proofs.Places.{slot-first, slot-within, slot-sector, slots-apart, dir-not-data, slot-data-apart}
-use Rattle.directory.proofs.Label.{tracks-few, slots-few, label-agree, tracks-agree}
+use Rattle.directory.proofs.Label.{disk-tracks-few, slots-few, label-agree, tracks-agree}
 use Rattle.directory.proofs.Ends.{seen-is, seen-lower, seen-next, seen-agree, nameless-agree, unseen-later, unseen-past, unseen-nameless}
 use Rattle.directory.proofs.Live.{directory-some, directory-live, directory-dead, directory-unseen}
-use Rattle.disk.specs.Look.{Look, look, slotsOf, extra}
+use Rattle.disk.specs.View.{View, view, viewSlots, viewTracks}
 use Rattle.disk.specs.Check.{checkDisk}
-use Rattle.disk.specs.Sound.{Sound}
-use Rattle.disk.proofs.Look.{look-some, look-none, look-agree}
-use Rattle.disk.proofs.Sound.{sound}
+use Rattle.disk.specs.Accepted.{AcceptedDisk}
+use Rattle.disk.proofs.View.{view-some, view-none, view-agree}
+use Rattle.disk.proofs.Accepted.{accepted-disk}
 use Rattle.steps.specs.Sectors.{sector}
-use Rattle.steps.specs.Steps.{Inside}
+use Rattle.steps.specs.Steps.{InsideSector}
 use Rattle.steps.proofs.Steps.{put-other}
-use Rattle.plans.specs.Plan.{upd, entryOf}
+use Rattle.plans.specs.Plan.{withSlot, fileIfLive}
 
--- ---- the directory of a look, and a look with one slot changed
+-- ---- the directory of a view, and a view with one slot changed
 
-pub slots-some : (l : Look) (i : ℕ) (f : File) → l .files i ≡ some f → slotsOf l i ≡ some (f .bytes)
-unfolding slotsOf
-slots-some l i f e = ap (held none (λ f. some (f .bytes))) e
+pub slots-some : (l : View) (i : ℕ) (f : File) → l .files i ≡ some f → viewSlots l i ≡ some (f .bytes)
+unfolding viewSlots
+slots-some l i f e = ap (foldOption none (λ f. some (f .bytes))) e
 
--- the file in a live slot of a look's directory
-pub slot-file : (l : Look) (i : ℕ) (s : List ℕ) → slotsOf l i ≡ some s → (f : File) × (l .files i ≡ some f) × (f .bytes ≡ s)
-unfolding slotsOf
+-- the file in a live slot of a view's directory
+pub slot-file : (l : View) (i : ℕ) (s : List ℕ) → viewSlots l i ≡ some s → (f : File) × (l .files i ≡ some f) × (f .bytes ≡ s)
+unfolding viewSlots
 slot-file l i s e = by (l .files i) refl e
   where
-    by : (o : Option File) → l .files i ≡ o → held none (λ f. some (f .bytes)) o ≡ some s → (f : File) × (l .files i ≡ some f) × (f .bytes ≡ s)
+    by : (o : Option File) → l .files i ≡ o → foldOption none (λ f. some (f .bytes)) o ≡ some s → (f : File) × (l .files i ≡ some f) × (f .bytes ≡ s)
     by none q w = absurd (Option·some-ne-none s (sym w))
     by (some f) q w = (f, q, Option·some-injective (f .bytes) s w)
 
-pub slot-none : (l : Look) (i : ℕ) → slotsOf l i ≡ none → l .files i ≡ none
-unfolding slotsOf
+pub slot-none : (l : View) (i : ℕ) → viewSlots l i ≡ none → l .files i ≡ none
+unfolding viewSlots
 slot-none l i e = by (l .files i) refl e
   where
-    by : (o : Option File) → l .files i ≡ o → held none (λ f. some (f .bytes)) o ≡ none → l .files i ≡ none
+    by : (o : Option File) → l .files i ≡ o → foldOption none (λ f. some (f .bytes)) o ≡ none → l .files i ≡ none
     by none q w = q
     by (some f) q w = absurd (Option·some-ne-none (f .bytes) w)
 
--- an accepted disk is sound
-pub disk-sound : (d : List ℕ) → checkDisk d ≡ none → Sound (look d)
+-- an accepted disk is accepted
+pub disk-accepted : (d : List ℕ) → checkDisk d ≡ none → AcceptedDisk (view d)
 unfolding checkDisk
-disk-sound d ok = sound (look d) ok
+disk-accepted d ok = accepted-disk (view d) ok
 
-module _ (l : Look) (i : ℕ) (o : Option File) where
-  pub upd-same : upd l i o .files i ≡ o
-  unfolding upd
+module _ (l : View) (i : ℕ) (o : Option File) where
+  pub upd-same : withSlot l i o .files i ≡ o
+  unfolding withSlot
   upd-same = rw (eq-eqb i i refl)
 
-  pub upd-other : (j : ℕ) → (j ≡ i → ⊥) → upd l i o .files j ≡ l .files j
-  unfolding upd
+  pub upd-other : (j : ℕ) → (j ≡ i → ⊥) → withSlot l i o .files j ≡ l .files j
+  unfolding withSlot
   upd-other j n = rw (ne-eqb j i n)
 
-  pub upd-long : upd l i o .long ≡ l .long
-  unfolding upd
+  pub upd-long : withSlot l i o .long ≡ l .long
+  unfolding withSlot
   upd-long = refl
 
-  pub upd-label : upd l i o .label ≡ l .label
-  unfolding upd
+  pub upd-label : withSlot l i o .label ≡ l .label
+  unfolding withSlot
   upd-label = refl
 
-  pub extra-upd : extra (upd l i o) ≡ extra l
-  unfolding extra upd
+  pub extra-upd : viewTracks (withSlot l i o) ≡ viewTracks l
+  unfolding viewTracks withSlot
   extra-upd = refl
 
-  pub slots-same : slotsOf (upd l i o) i ≡ held none (λ f. some (f .bytes)) o
-  unfolding slotsOf
-  slots-same = ap (held none (λ f. some (f .bytes))) upd-same
+  pub slots-same : viewSlots (withSlot l i o) i ≡ foldOption none (λ f. some (f .bytes)) o
+  unfolding viewSlots
+  slots-same = ap (foldOption none (λ f. some (f .bytes))) upd-same
 
-  pub slots-other : (j : ℕ) → (j ≡ i → ⊥) → slotsOf (upd l i o) j ≡ slotsOf l j
-  unfolding slotsOf
-  slots-other j n = ap (held none (λ f. some (f .bytes))) (upd-other j n)
+  pub slots-other : (j : ℕ) → (j ≡ i → ⊥) → viewSlots (withSlot l i o) j ≡ viewSlots l j
+  unfolding viewSlots
+  slots-other j n = ap (foldOption none (λ f. some (f .bytes))) (upd-other j n)
 
 -- ---- what a slot with these bytes holds
 
 module _ (s : List ℕ) (sec : ℕ → List ℕ) where
-  pub entry-live : isLive s ≡ true → entryOf s sec ≡ some (record { bytes = s; sectors = sec })
-  unfolding entryOf
+  pub entry-live : isLive s ≡ true → fileIfLive s sec ≡ some (record { bytes = s; sectors = sec })
+  unfolding fileIfLive
   entry-live e = rw e
 
-  pub entry-dead : isLive s ≡ false → entryOf s sec ≡ none
-  unfolding entryOf
+  pub entry-dead : isLive s ≡ false → fileIfLive s sec ≡ none
+  unfolding fileIfLive
   entry-dead e = rw e
 
   -- where it holds a file, it is live and that is the file
-  pub entry-alive : (f : File) → entryOf s sec ≡ some f → isLive s ≡ true
-  unfolding entryOf
+  pub entry-alive : (f : File) → fileIfLive s sec ≡ some f → isLive s ≡ true
+  unfolding fileIfLive
   entry-alive f e = by (isLive s) e
     where
       by : (t : Bool) → cond t (some (record { bytes = s; sectors = sec })) none ≡ some f → t ≡ true
       by true w = refl
       by false w = absurd (Option·some-ne-none f (sym w))
 
-  pub entry-is : (f : File) → entryOf s sec ≡ some f → f ≡ record { bytes = s; sectors = sec }
+  pub entry-is : (f : File) → fileIfLive s sec ≡ some f → f ≡ record { bytes = s; sectors = sec }
   entry-is f e = sym (Option·some-injective (record { bytes = s; sectors = sec }) f (sym (entry-live (entry-alive f e)) ∙ e))
 
 -- ---- a live slot
 
 -- slot i of an image is live, and f is its file
-pub record Holds (d : List ℕ) (i : ℕ) (f : File) : Type 0 where
+pub record LiveFile (d : List ℕ) (i : ℕ) (f : File) : Type 0 where
   pub here : i < slots
-  pub read : seen d i ≡ true
+  pub read : isRead d i ≡ true
   pub live : directory d i ≡ some (f .bytes)
   pub bytes : slotBytes d i ≡ f .bytes
   pub alive : isLive (f .bytes) ≡ true
   pub sectors : sectorsOf d (f .bytes) ≡ f .sectors
 
-module _ (d : List ℕ) (i : ℕ) (f : File) (e : look d .files i ≡ some f) where
-  pub holds : Holds d i f
-  unfolding look fileOf
+module _ (d : List ℕ) (i : ℕ) (f : File) (e : view d .files i ≡ some f) where
+  pub holds : LiveFile d i f
+  unfolding view fileOf
   holds = by (directory d i) refl e
     where
-      by : (o : Option (List ℕ)) → directory d i ≡ o → held none (λ s. some (fileOf d s)) o ≡ some f → Holds d i f
+      by : (o : Option (List ℕ)) → directory d i ≡ o → foldOption none (λ s. some (fileOf d s)) o ≡ some f → LiveFile d i f
       by none q w = absurd (Option·some-ne-none f (sym w))
       by (some s) q w =
           let z : fileOf d s ≡ f = Option·some-injective (fileOf d s) f w in
@@ -153,20 +153,20 @@ module _ (d : List ℕ) (i : ℕ) (f : File) (e : look d .files i ≡ some f) wh
 
   -- it has a name
   pub holds-named : isNameless (f .bytes) ≡ false
-  unfolding nameless
+  unfolding isNamelessAt
   holds-named = ap isNameless (sym (holds .bytes)) ∙ seen-is d i (holds .read) .1 i (omega arith)
 
 -- the file of a slot that is read, live or not
-pub look-entry : (d : List ℕ) (i : ℕ) → seen d i ≡ true → look d .files i ≡ entryOf (slotBytes d i) (sectorsOf d (slotBytes d i))
+pub view-entry : (d : List ℕ) (i : ℕ) → isRead d i ≡ true → view d .files i ≡ fileIfLive (slotBytes d i) (sectorsOf d (slotBytes d i))
 unfolding fileOf
-look-entry d i h = by (isLive (slotBytes d i)) refl
+view-entry d i h = by (isLive (slotBytes d i)) refl
   where
-    by : (t : Bool) → isLive (slotBytes d i) ≡ t → look d .files i ≡ entryOf (slotBytes d i) (sectorsOf d (slotBytes d i))
-    by true q = look-some d i (slotBytes d i) (directory-live d i h q) ∙ sym (entry-live (slotBytes d i) (sectorsOf d (slotBytes d i)) q)
-    by false q = look-none d i (directory-dead d i q) ∙ sym (entry-dead (slotBytes d i) (sectorsOf d (slotBytes d i)) q)
+    by : (t : Bool) → isLive (slotBytes d i) ≡ t → view d .files i ≡ fileIfLive (slotBytes d i) (sectorsOf d (slotBytes d i))
+    by true q = view-some d i (slotBytes d i) (directory-live d i h q) ∙ sym (entry-live (slotBytes d i) (sectorsOf d (slotBytes d i)) q)
+    by false q = view-none d i (directory-dead d i q) ∙ sym (entry-dead (slotBytes d i) (sectorsOf d (slotBytes d i)) q)
 
 -- an image with the same bytes in a slot, which is read as before, says the same of it
-directory-stays : (d e : List ℕ) (j : ℕ) → seen e j ≡ seen d j → slotBytes e j ≡ slotBytes d j → directory e j ≡ directory d j
+directory-stays : (d e : List ℕ) (j : ℕ) → isRead e j ≡ isRead d j → slotBytes e j ≡ slotBytes d j → directory e j ≡ directory d j
 unfolding directory
 directory-stays d e j n q = ap₂ (λ (t : Bool) (s : List ℕ). cond (t && isLive s) (some s) none) n q
 
@@ -177,11 +177,11 @@ slot-half d i = part-part (dirSector i * 512) 512 (256 * (i % 2)) 256 d (omega a
 -- Slot i can be written: those before it are read. Where an old name stands behind it (old), it is the directory's end; where
 -- none does, it is read, or the next slot, if there is one, has no name either.
 pub record Reach (d : List ℕ) (old : Bool) (i : ℕ) : Type 0 where
-  pub before : (j : ℕ) → j < i → seen d j ≡ true
-  pub next : old ≡ false → (seen d i ≡ true) ⊎ (suc i < slotsIn d → nameless d (suc i) ≡ true)
-  pub end : old ≡ true → (nameless d i ≡ true) × (suc i < slotsIn d)
+  pub before : (j : ℕ) → j < i → isRead d j ≡ true
+  pub next : old ≡ false → (isRead d i ≡ true) ⊎ (suc i < slotsIn d → isNamelessAt d (suc i) ≡ true)
+  pub end : old ≡ true → (isNamelessAt d i ≡ true) × (suc i < slotsIn d)
 
-pub reach-read : (d : List ℕ) (i : ℕ) → seen d i ≡ true → Reach d false i
+pub reach-read : (d : List ℕ) (i : ℕ) → isRead d i ≡ true → Reach d false i
 reach-read d i e = record { before = λ j h. seen-lower d i j (omega arith) e; next = λ q. inl e; end = λ q. absurd (false≢true q) }
 
 -- slot 1 is there on every disk
@@ -199,7 +199,7 @@ reach-agree d e s old i h r = record {
     tracks-same : tracksOf e ≡ tracksOf d
     tracks-same = tracks-agree d e (label-agree d e (s 0 (first-slot d)))
 
-    same-seen : (j : ℕ) → j < slotsIn d → seen e j ≡ seen d j
+    same-seen : (j : ℕ) → j < slotsIn d → isRead e j ≡ isRead d j
     same-seen j l = seen-agree d e j tracks-same (λ k m. nameless-agree d e k (s k (omega arith)))
 
 -- no live file's map has a bit inside the directory
@@ -231,7 +231,7 @@ module _ (d : List ℕ) (z : length d ≡ imageSize) (i : ℕ) (h : i < slotsIn 
   small = omega (arith, slots-few d)
 
   -- as a step's bytes in the slot's sector
-  pub inside-slot : Inside (dirSector i) (record { place = slotAt i + o; bytes = y })
+  pub inside-slot : InsideSector (dirSector i) (record { place = slotAt i + o; bytes = y })
   inside-slot = record { low = omega (arith, slot-sector i); high = omega (arith, slot-sector i) }
 
   pub there-slot : dirSector i * 512 + 512 ≤ length d
@@ -249,23 +249,23 @@ module _ (d : List ℕ) (z : length d ≡ imageSize) (i : ℕ) (h : i < slotsIn 
   pub data-stays : (b : ℕ) → dataBit (tracksOf d) b ≡ true → sectorAt (put d (slotAt i + o) y) b ≡ sectorAt d b
   data-stays b l =
       put-other (dirSector i) (record { place = slotAt i + o; bytes = y }) d inside-slot (bitNumber b)
-      (dir-not-data (tracksOf d) b i (tracks-few d) l h)
+      (dir-not-data (tracksOf d) b i (disk-tracks-few d) l h)
 
   pub files-stay : (s : List ℕ) → ((b : ℕ) → has (mapOf s) b ≡ true → dataBit (tracksOf d) b ≡ true) → fileOf (put d (slotAt i + o) y) s ≡ fileOf d s
   files-stay s m = file-agree new d s (λ b q. data-stays b (m b q))
 
-  nameless-else : (j : ℕ) → (j ≡ i → ⊥) → nameless new j ≡ nameless d j
+  nameless-else : (j : ℕ) → (j ≡ i → ⊥) → isNamelessAt new j ≡ isNamelessAt d j
   nameless-else j n = nameless-agree d new j (slot-else j n)
 
   -- behind a slot without a name nothing is seen to change
-  pub slot-quiet : AllData d → (e : ℕ) → e < i → nameless d e ≡ true → look (put d (slotAt i + o) y) ≡ look d
+  pub slot-quiet : AllData d → (e : ℕ) → e < i → isNamelessAt d e ≡ true → view (put d (slotAt i + o) y) ≡ view d
   slot-quiet all e l n =
-      look-agree new d (length-put d (slotAt i + o) y) same-label (fun-ext same) (λ j s q b m. data-stays b (all j s (sym (same j) ∙ q) b m))
+      view-agree new d (length-put d (slotAt i + o) y) same-label (fun-ext same) (λ j s q b m. data-stays b (all j s (sym (same j) ∙ q) b m))
     where
       same-label : labelOf new ≡ labelOf d
       same-label = label-agree d new (slot-else 0 (omega arith))
 
-      rest : (x : List ℕ) → nameless x e ≡ true → (j : ℕ) → e ≤ j → directory x j ≡ none
+      rest : (x : List ℕ) → isNamelessAt x e ≡ true → (j : ℕ) → e ≤ j → directory x j ≡ none
       rest x q j k = directory-unseen x j (unseen-later x e j k (unseen-nameless x e q))
 
       same : (j : ℕ) → directory new j ≡ directory d j
@@ -299,24 +299,24 @@ module _ (d : List ℕ) (z : length d ≡ imageSize) (i : ℕ) (h : i < slotsIn 
     same-tracks : tracksOf new ≡ tracksOf d
     same-tracks = tracks-new kept
 
-    named-new : nameless new i ≡ false
-    unfolding nameless
+    named-new : isNamelessAt new i ≡ false
+    unfolding isNamelessAt
     named-new = ap isNameless slot-new ∙ n
 
-    seen-before : (j : ℕ) → j < i → seen new j ≡ seen d j
+    seen-before : (j : ℕ) → j < i → isRead new j ≡ isRead d j
     seen-before j l = seen-agree d new j same-tracks (λ k m. nameless-else k (omega arith))
 
-    pub seen-here : seen (put d (slotAt i + o) y) i ≡ true
+    pub seen-here : isRead (put d (slotAt i + o) y) i ≡ true
     seen-here = seen-next new i (rw same-tracks h) (λ j l. seen-before j l ∙ r .before j l) named-new
 
     -- behind an end with no old name
-    unseen-behind : (e : List ℕ) → (suc i < slotsIn e → nameless e (suc i) ≡ true) → (j : ℕ) → i < j → seen e j ≡ false
+    unseen-behind : (e : List ℕ) → (suc i < slotsIn e → isNamelessAt e (suc i) ≡ true) → (j : ℕ) → i < j → isRead e j ≡ false
     unseen-behind e q j l =
         ⊎-elim (λ m. unseen-later e (suc i) j l (unseen-nameless e (suc i) (q m)))
         (λ (m : slotsIn e ≤ suc i). unseen-past e j (omega arith))
         (below-or-not (suc i) (slotsIn e))
 
-    pub seen-else : (j : ℕ) → (j ≡ i → ⊥) → seen (put d (slotAt i + o) y) j ≡ seen d j
+    pub seen-else : (j : ℕ) → (j ≡ i → ⊥) → isRead (put d (slotAt i + o) y) j ≡ isRead d j
     seen-else j u =
         ⊎-elim (seen-before j)
         (λ (l : i ≤ j).
@@ -325,32 +325,32 @@ module _ (d : List ℕ) (z : length d ≡ imageSize) (i : ℕ) (h : i < slotsIn 
         (r .next refl))
         (below-or-not j i)
       where
-        by : (k : ℕ) → seen d i ≡ true → (t : Bool) → eqb k i ≡ t → nameless new k ≡ nameless d k
-        by k s true e = ap (nameless new) (eqb-true k i e) ∙ named-new ∙ sym (seen-is d i s .1 i (omega arith)) ∙ ap (nameless d) (sym (eqb-true k i e))
+        by : (k : ℕ) → isRead d i ≡ true → (t : Bool) → eqb k i ≡ t → isNamelessAt new k ≡ isNamelessAt d k
+        by k s true e = ap (isNamelessAt new) (eqb-true k i e) ∙ named-new ∙ sym (seen-is d i s .1 i (omega arith)) ∙ ap (isNamelessAt d) (sym (eqb-true k i e))
         by k s false e = nameless-else k (eqb-false k i e)
 
-    -- the look changes in that slot alone: it then holds what its new bytes say
-    pub slot-look : AllData d → (x : List ℕ) (sec : ℕ → List ℕ) → put (slotBytes d i) o y ≡ x → sectorsOf d x ≡ sec
+    -- the view changes in that slot alone: it then holds what its new bytes say
+    pub slot-view : AllData d → (x : List ℕ) (sec : ℕ → List ℕ) → put (slotBytes d i) o y ≡ x → sectorsOf d x ≡ sec
         → (isLive x ≡ true → (b : ℕ) → has (mapOf x) b ≡ true → dataBit (tracksOf d) b ≡ true)
-        → look (put d (slotAt i + o) y) ≡ upd (look d) i (entryOf x sec)
-    unfolding look upd fileOf
-    slot-look all x sec ex es dx = λ q. record { long = length-put d (slotAt i + o) y q; label = label-new kept q; files = λ j. by j (eqb j i) refl q }
+        → view (put d (slotAt i + o) y) ≡ withSlot (view d) i (fileIfLive x sec)
+    unfolding view withSlot fileOf
+    slot-view all x sec ex es dx = λ q. record { long = length-put d (slotAt i + o) y q; label = label-new kept q; files = λ j. by j (eqb j i) refl q }
       where
-        held-by : (t : Bool) → isLive x ≡ t → entryOf x (sectorsOf new x) ≡ entryOf x sec
-        held-by true e = ap (entryOf x) (ap (λ (f : File). f .sectors) (files-stay x (dx e)) ∙ es)
+        held-by : (t : Bool) → isLive x ≡ t → fileIfLive x (sectorsOf new x) ≡ fileIfLive x sec
+        held-by true e = ap (fileIfLive x) (ap (λ (f : File). f .sectors) (files-stay x (dx e)) ∙ es)
         held-by false e = entry-dead x (sectorsOf new x) e ∙ sym (entry-dead x sec e)
 
-        here : look new .files i ≡ entryOf x sec
-        here = look-entry new i seen-here ∙ ap (λ (s : List ℕ). entryOf s (sectorsOf new s)) (slot-new ∙ ex) ∙ held-by (isLive x) refl
+        here : view new .files i ≡ fileIfLive x sec
+        here = view-entry new i seen-here ∙ ap (λ (s : List ℕ). fileIfLive s (sectorsOf new s)) (slot-new ∙ ex) ∙ held-by (isLive x) refl
 
-        there : (j : ℕ) (v : Option (List ℕ)) → directory d j ≡ v → held none (λ s. some (fileOf new s)) v ≡ held none (λ s. some (fileOf d s)) v
+        there : (j : ℕ) (v : Option (List ℕ)) → directory d j ≡ v → foldOption none (λ s. some (fileOf new s)) v ≡ foldOption none (λ s. some (fileOf d s)) v
         there j none e = refl
         there j (some s) e = ap {B = Option File} some (files-stay s (all j s e))
 
-        by : (j : ℕ) (t : Bool) → eqb j i ≡ t → look new .files j ≡ cond t (entryOf x sec) (look d .files j)
-        by j true q = ap (look new .files) (eqb-true j i q) ∙ here
+        by : (j : ℕ) (t : Bool) → eqb j i ≡ t → view new .files j ≡ cond t (fileIfLive x sec) (view d .files j)
+        by j true q = ap (view new .files) (eqb-true j i q) ∙ here
         by j false q =
-            ap (held none (λ s. some (fileOf new s))) (directory-stays d new j (seen-else j (eqb-false j i q)) (slot-else j (eqb-false j i q)))
+            ap (foldOption none (λ s. some (fileOf new s))) (directory-stays d new j (seen-else j (eqb-false j i q)) (slot-else j (eqb-false j i q)))
             ∙ there j (directory d j) refl
 
 -- ---- a data sector put
@@ -360,7 +360,7 @@ module _ (d : List ℕ) (z : length d ≡ imageSize) (c : ℕ) (hc : c < 1560) (
   after = put d (bitPlace c) x
 
   -- as a step's bytes
-  pub inside-data : Inside (bitNumber c) (record { place = bitPlace c; bytes = x })
+  pub inside-data : InsideSector (bitNumber c) (record { place = bitPlace c; bytes = x })
   inside-data = record { low = omega arith; high = omega arith }
 
   pub there-data : bitNumber c * 512 + 512 ≤ length d
@@ -381,7 +381,7 @@ module _ (d : List ℕ) (z : length d ≡ imageSize) (c : ℕ) (hc : c < 1560) (
     slots-stay i h =
         ⊎-elim (λ l. part-put-before d (bitPlace c) x (slotAt i) 256 l)
         (λ (l : bitPlace c + 512 ≤ slotAt i). part-put-after d (bitPlace c) x (slotAt i) 256 (omega arith))
-        (slot-data-apart (tracksOf d) c i (tracks-few d) dc h)
+        (slot-data-apart (tracksOf d) c i (disk-tracks-few d) dc h)
 
     pub label-stays : labelOf (put d (bitPlace c) x) ≡ labelOf d
     label-stays = label-agree d after (slots-stay 0 (first-slot d))
@@ -389,14 +389,14 @@ module _ (d : List ℕ) (z : length d ≡ imageSize) (c : ℕ) (hc : c < 1560) (
     pub tracks-stay : tracksOf (put d (bitPlace c) x) ≡ tracksOf d
     tracks-stay = tracks-agree d after label-stays
 
-    -- the look stays where the sector is no live file's
-    pub data-quiet : ((j : ℕ) (g : File) → look d .files j ≡ some g → has (mapOf (g .bytes)) c ≡ true → ⊥) → look (put d (bitPlace c) x) ≡ look d
+    -- the view stays where the sector is no live file's
+    pub data-quiet : ((j : ℕ) (g : File) → view d .files j ≡ some g → has (mapOf (g .bytes)) c ≡ true → ⊥) → view (put d (bitPlace c) x) ≡ view d
     unfolding fileOf
     data-quiet free =
-        look-agree after d (length-put d (bitPlace c) x) label-stays (fun-ext same)
+        view-agree after d (length-put d (bitPlace c) x) label-stays (fun-ext same)
         (λ i s q b m.
         sector-else b (map-small s b m)
-        (λ w. free i (fileOf d s) (look-some d i s (sym (same i) ∙ q)) (ap (has (mapOf s)) (sym w) ∙ m)))
+        (λ w. free i (fileOf d s) (view-some d i s (sym (same i) ∙ q)) (ap (has (mapOf s)) (sym w) ∙ m)))
       where
         same : (i : ℕ) → directory after i ≡ directory d i
         same i =

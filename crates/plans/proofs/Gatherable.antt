@@ -10,24 +10,24 @@ use borrow.Author.Tests.{eqb-true, eq-eqb, ne-eqb, ltb-true, lt-ltb, le-ltb}
 use lib.Dec.{ltb}
 use lib.ListN.{length}
 use Rattle.buffers.proofs.Tests.{and-both}
-use Rattle.refusals.specs.Order.{Refusal, refuse, SlotRow, NoRow, FirstOf}
+use Rattle.refusals.specs.Order.{Refusal, refuse, SlotRow, NoRow, FirstSlotRow}
 use Rattle.slots.specs.Slot.{directoryKind, isDirectory, kindOf, countOf}
 use Rattle.names.specs.Name.{askable}
 use Rattle.chains.specs.File.{File}
-use Rattle.directory.specs.Directory.{held}
-use Rattle.disk.specs.Look.{Look, look, slotsOf, extra}
+use Rattle.directory.specs.Directory.{foldOption}
+use Rattle.disk.specs.View.{View, view, viewSlots, viewTracks}
 use Rattle.disk.specs.Check.{checkDisk}
 use Rattle.files.specs.Calls.{fileNamed}
-use Rattle.files.specs.Asked.{row15, row20, by-check, by-row}
+use Rattle.files.specs.Refused.{row15, row20, by-check, by-row}
 use Rattle.plans.specs.Change.{gather}
 use Rattle.plans.specs.Gathering.{scattered, upFrom, lowestRun}
-use Rattle.plans.specs.Plan.{stopped, made, run}
-use Rattle.plans.specs.Refused.{gatherRow13, row32, gatherLong, changeRows, Refuses, Accepts}
-use Rattle.plans.specs.Accepted.{Named}
-use Rattle.plans.specs.Gathered.{InOrder, FreeRun, NoRun, Moves, Gatherable}
-use Rattle.plans.proofs.Frame.{disk-sound}
+use Rattle.plans.specs.Plan.{refusedResult, newDisk, runChange}
+use Rattle.plans.specs.Refused.{gatherRow13, row32, gatherListLength, changeRows, RefusesChange, ChangeAccepted}
+use Rattle.plans.specs.Allowed.{NamedSlot}
+use Rattle.plans.specs.Gathered.{InOrder, FreeRun, NoRun, CanMove, Gatherable}
+use Rattle.plans.proofs.Frame.{disk-accepted}
 use Rattle.plans.proofs.Runs.{no-run, run-few, in-order, not-order}
-use Rattle.plans.proofs.Sure.{not-directory}
+use Rattle.plans.proofs.SafeSteps.{not-kind-21}
 use Rattle.plans.proofs.Moved.{has-sectors, gather-numbers, gather-long}
 use Rattle.plans.proofs.Effect.{Shifted, gathers}
 use Rattle.plans.proofs.Demand3.{run-room}
@@ -44,7 +44,7 @@ must-move f u = by (scattered f) refl
 
 -- how many sectors are named then
 shifted-long : (d : List ℕ) (i : ℕ) (f : File) (new ss : List ℕ) → Shifted d i f new ss → length ss ≡ countOf (f .bytes) + 1
-shifted-long d i f new ss a = ap length (a .sectors) ∙ ap length (sym (gather-numbers (look d) i f (upFrom (countOf (f .bytes)) (a .bit)))) ∙ gather-long (look d) i f (a .bit)
+shifted-long d i f new ss a = ap length (a .sectors) ∙ ap length (sym (gather-numbers (view d) i f (upFrom (countOf (f .bytes)) (a .bit)))) ∙ gather-long (view d) i f (a .bit)
 
 -- "A kind 21": the test says it
 is-directory : (s : List ℕ) → (isDirectory s ≡ true) ↔ (kindOf s ≡ 21)
@@ -55,31 +55,31 @@ no-directory : (s : List ℕ) → (kindOf s ≡ 21 → ⊥) → isDirectory s �
 unfolding isDirectory directoryKind
 no-directory s h = ne-eqb (kindOf s) 21 h
 
-module _ (d n : List ℕ) (room : ℕ) (ok : checkDisk d ≡ none) (name : askable n ≡ true) (i : ℕ) (f : File) (found : Named d n i f) where
-  abbrev l : Look
-  l = look d
+module _ (d n : List ℕ) (room : ℕ) (ok : checkDisk d ≡ none) (name : askable n ≡ true) (i : ℕ) (f : File) (found : NamedSlot d n i f) where
+  abbrev l : View
+  l = view d
 
   -- ---- 13
 
   row13-is : gatherRow13 l n .holds ≡ isDirectory (f .bytes)
   row13-is = rw (named-some d n ok i f found, named-file d n ok i f found)
 
-  first-rows : (r : Refusal) → run (gather n) d room ≡ stopped r
-      → FirstOf r (gatherRow13 l n ∷ row15 l n ∷ row32 l (fileNamed l n) ∷ row20 room (gatherLong (fileNamed l n)) ∷ [])
+  first-rows : (r : Refusal) → runChange (gather n) d room ≡ refusedResult r
+      → FirstSlotRow r (gatherRow13 l n ∷ row15 l n ∷ row32 l (fileNamed l n) ∷ row20 room (gatherListLength (fileNamed l n)) ∷ [])
   unfolding changeRows
   first-rows r e = by (refused-exactly (gather n) d room r .0 e)
     where
-      by : Refuses (gather n) d room r → FirstOf r (gatherRow13 l n ∷ row15 l n ∷ row32 l (fileNamed l n) ∷ row20 room (gatherLong (fileNamed l n)) ∷ [])
+      by : RefusesChange (gather n) d room r → FirstSlotRow r (gatherRow13 l n ∷ row15 l n ∷ row32 l (fileNamed l n) ∷ row20 room (gatherListLength (fileNamed l n)) ∷ [])
       by (by-check q) = absurd (Option·some-ne-none r (sym q ∙ ok))
       by (by-row q g) = peel (ap not name) g
 
-  rows-first : (r : Refusal) → FirstOf r (gatherRow13 l n ∷ row15 l n ∷ row32 l (fileNamed l n) ∷ row20 room (gatherLong (fileNamed l n)) ∷ [])
-      → run (gather n) d room ≡ stopped r
+  rows-first : (r : Refusal) → FirstSlotRow r (gatherRow13 l n ∷ row15 l n ∷ row32 l (fileNamed l n) ∷ row20 room (gatherListLength (fileNamed l n)) ∷ [])
+      → runChange (gather n) d room ≡ refusedResult r
   unfolding changeRows
   rows-first r g = refused-exactly (gather n) d room r .1 (by-row ok (inr (ap not name, g)))
 
   -- "A kind 21 is refused 13", at the slot found
-  pub gather-13 : (run (gather n) d room ≡ stopped (refuse 13 (suc i))) ↔ (kindOf (f .bytes) ≡ 21)
+  pub gather-13 : (runChange (gather n) d room ≡ refusedResult (refuse 13 (suc i))) ↔ (kindOf (f .bytes) ≡ 21)
   gather-13 = (
     λ e.
         ⊎-elim (λ h. is-directory (f .bytes) .0 (sym row13-is ∙ h .0))
@@ -95,7 +95,7 @@ module _ (d n : List ℕ) (room : ℕ) (ok : checkDisk d ≡ none) (name : askab
     count = countOf (f .bytes)
 
     some-sectors : 1 ≤ count
-    some-sectors = has-sectors d (disk-sound d ok) i f (found .here) kind .some-sectors
+    some-sectors = has-sectors d (disk-accepted d ok) i f (found .here) kind .some-sectors
 
     not-13 : gatherRow13 l n .holds ≡ false
     not-13 = row13-is ∙ no-directory (f .bytes) kind
@@ -104,33 +104,33 @@ module _ (d n : List ℕ) (room : ℕ) (ok : checkDisk d ≡ none) (name : askab
     not-15 = ap not (named-some d n ok i f found)
 
     abbrev last : List SlotRow
-    last = row32 l f ∷ row20 room (gatherLong f) ∷ []
+    last = row32 l f ∷ row20 room (gatherListLength f) ∷ []
 
-    late : (r : Refusal) → run (gather n) d room ≡ stopped r → FirstOf r last
+    late : (r : Refusal) → runChange (gather n) d room ≡ refusedResult r → FirstSlotRow r last
     late r e =
-        subst (λ (g : File). FirstOf r (row32 l g ∷ row20 room (gatherLong g) ∷ [])) (named-file d n ok i f found) (peel not-15 (peel not-13 (first-rows r e)))
+        subst (λ (g : File). FirstSlotRow r (row32 l g ∷ row20 room (gatherListLength g) ∷ [])) (named-file d n ok i f found) (peel not-15 (peel not-13 (first-rows r e)))
 
-    early : (r : Refusal) → FirstOf r last → run (gather n) d room ≡ stopped r
+    early : (r : Refusal) → FirstSlotRow r last → runChange (gather n) d room ≡ refusedResult r
     early r g =
         rows-first r
-        (inr (not-13, inr (not-15, subst (λ (g : File). FirstOf r (row32 l g ∷ row20 room (gatherLong g) ∷ [])) (sym (named-file d n ok i f found)) g)))
+        (inr (not-13, inr (not-15, subst (λ (g : File). FirstSlotRow r (row32 l g ∷ row20 room (gatherListLength g) ∷ [])) (sym (named-file d n ok i f found)) g)))
 
     -- ---- 32
 
-    none-found : held true (λ b. false) (lowestRun (extra l) (slotsOf l) count) ≡ true → lowestRun (extra l) (slotsOf l) count ≡ none
-    none-found e = by (lowestRun (extra l) (slotsOf l) count) refl e
+    none-found : foldOption true (λ b. false) (lowestRun (viewTracks l) (viewSlots l) count) ≡ true → lowestRun (viewTracks l) (viewSlots l) count ≡ none
+    none-found e = by (lowestRun (viewTracks l) (viewSlots l) count) refl e
       where
-        by : (o : Option ℕ) → lowestRun (extra l) (slotsOf l) count ≡ o → held true (λ b. false) o ≡ true → o ≡ none
+        by : (o : Option ℕ) → lowestRun (viewTracks l) (viewSlots l) count ≡ o → foldOption true (λ b. false) o ≡ true → o ≡ none
         by none q w = refl
         by (some b) q w = absurd (false≢true w)
 
     -- "32 (slot 0), exactly when the file must move and no such run exists"
-    pub gather-32 : (run (gather n) d room ≡ stopped (refuse 32 0)) ↔ ((InOrder f → ⊥) × NoRun d (countOf (f .bytes)))
+    pub gather-32 : (runChange (gather n) d room ≡ refusedResult (refuse 32 0)) ↔ ((InOrder f → ⊥) × NoRun d (countOf (f .bytes)))
     gather-32 = (
       λ e.
           ⊎-elim
           (λ h.
-          let b = and-both (scattered f) (held true (λ b. false) (lowestRun (extra l) (slotsOf l) count)) (h .0) in
+          let b = and-both (scattered f) (foldOption true (λ b. false) (lowestRun (viewTracks l) (viewSlots l) count)) (h .0) in
           (not-order f (b .0), no-run d count some-sectors .0 (none-found (b .1))))
           (λ h. absurd (other (omega arith) (h .1))) (late (refuse 32 0) e),
       λ u. early (refuse 32 0) (inl (rw (must-move f (u .0), no-run d count some-sectors .1 (u .1)), refl)),
@@ -141,30 +141,30 @@ module _ (d n : List ℕ) (room : ℕ) (ok : checkDisk d ≡ none) (name : askab
     -- 32 does not hold of a file in order, nor where a run is free
     not-32 : InOrder f ⊎ ((b : ℕ) × FreeRun d count b) → row32 l f .holds ≡ false
     not-32 (inl w) = rw (in-order f .1 w)
-    not-32 (inr w) = by (lowestRun (extra l) (slotsOf l) count) refl
+    not-32 (inr w) = by (lowestRun (viewTracks l) (viewSlots l) count) refl
       where
-        by : (o : Option ℕ) → lowestRun (extra l) (slotsOf l) count ≡ o → (scattered f && held true (λ b. false) o) ≡ false
+        by : (o : Option ℕ) → lowestRun (viewTracks l) (viewSlots l) count ≡ o → (scattered f && foldOption true (λ b. false) o) ≡ false
         by none q = absurd (no-run d count some-sectors .0 q (w .0) (w .1))
         by (some b) q = and-false (scattered f)
 
     -- where it must move and can, 20 exactly when the list is shorter than its sectors and the slot's
-    pub gather-20 : (InOrder f → ⊥) → (b : ℕ) → FreeRun d (countOf (f .bytes)) b → (run (gather n) d room ≡ stopped (refuse 20 0)) ↔ (room < countOf (f .bytes) + 1)
-    unfolding gatherLong
+    pub gather-20 : (InOrder f → ⊥) → (b : ℕ) → FreeRun d (countOf (f .bytes)) b → (runChange (gather n) d room ≡ refusedResult (refuse 20 0)) ↔ (room < countOf (f .bytes) + 1)
+    unfolding gatherListLength
     gather-20 u b w = (
       λ e. ⊎-elim (λ h. ltb-true room (count + 1) (sym (ap (ltb room) (long-is u)) ∙ h .0)) (λ h. absurd (h .1)) (peel (not-32 (inr (b, w))) (late (refuse 20 0) e)),
       λ h. early (refuse 20 0) (inr (not-32 (inr (b, w)), inl (ap (ltb room) (long-is u) ∙ lt-ltb room (count + 1) h, refl))),
     )
       where
-        long-is : (InOrder f → ⊥) → gatherLong f ≡ count + 1
+        long-is : (InOrder f → ⊥) → gatherListLength f ≡ count + 1
         long-is u = ap (λ (t : Bool). cond t (count + 1) 0) (must-move f u)
 
     -- the list has room
-    fits-list : InOrder f ⊎ Moves d f room → ltb room (gatherLong f) ≡ false
-    unfolding gatherLong
+    fits-list : InOrder f ⊎ CanMove d f room → ltb room (gatherListLength f) ≡ false
+    unfolding gatherListLength
     fits-list (inl w) = rw (in-order f .1 w) (le-ltb room 0 (omega arith))
     fits-list (inr m) = rw (must-move f (m .must)) (le-ltb room (count + 1) (m .list))
 
-    pub gathers-so : InOrder f ⊎ Moves d f room → Accepts (gather n) d room
+    pub gathers-so : InOrder f ⊎ CanMove d f room → ChangeAccepted (gather n) d room
     unfolding changeRows
     gathers-so p =
         accepted-exactly (gather n) d room .1
@@ -176,7 +176,7 @@ module _ (d n : List ℕ) (room : ℕ) (ok : checkDisk d ≡ none) (name : askab
               not-13,
               (
                 not-15,
-                subst (λ (g : File). NoRow (row32 l g ∷ row20 room (gatherLong g) ∷ [])) (sym (named-file d n ok i f found))
+                subst (λ (g : File). NoRow (row32 l g ∷ row20 room (gatherListLength g) ∷ [])) (sym (named-file d n ok i f found))
                     (not-32 (⊎-elim inl (λ m. inr (m .bit, m .run)) p), (fits-list p, tt)),
               ),
             ),
@@ -185,7 +185,7 @@ module _ (d n : List ℕ) (room : ℕ) (ok : checkDisk d ≡ none) (name : askab
 
 -- ---- accepted exactly when
 
-pub gather-exactly : (d n : List ℕ) (room : ℕ) → Accepts (gather n) d room ↔ Gatherable d n room
+pub gather-exactly : (d n : List ℕ) (room : ℕ) → ChangeAccepted (gather n) d room ↔ Gatherable d n room
 gather-exactly d n room = (
   λ a.
       let p = run-room (gather n) d room (a .new) (a .sectors) (a .gives) in
@@ -196,7 +196,7 @@ gather-exactly d n room = (
         slot = t .slot;
         file = t .file;
         found = t .found;
-        kind = not-directory (t .file .bytes) (t .no-directory);
+        kind = not-kind-21 (t .file .bytes) (t .no-directory);
         place = ⊎-elim (λ q. inl (in-order (t .file) .0 (q .0)))
             (λ q. inr
             (record {
@@ -211,10 +211,10 @@ gather-exactly d n room = (
 
 -- ---- how many sectors it names at most
 
-pub gather-few : (d n : List ℕ) (room : ℕ) (new ss : List ℕ) → run (gather n) d room ≡ made new ss → length ss ≤ 781
+pub gather-few : (d n : List ℕ) (room : ℕ) (new ss : List ℕ) → runChange (gather n) d room ≡ newDisk new ss → length ss ≤ 781
 gather-few d n room new ss e =
     let ok = run-room (gather n) d room new ss e .accepted in
     let t = gathers d ok room new ss n e in
     ⊎-elim (λ a. subst (λ (x : List ℕ). length x ≤ 781) (sym (a .2)) (omega arith))
-    (λ a. omega (arith, shifted-long d (t .slot) (t .file) new ss a, run-few d (disk-sound d ok) (t .slot) (t .file) (t .found .here) (a .bit) (a .lowest .here)))
+    (λ a. omega (arith, shifted-long d (t .slot) (t .file) new ss a, run-few d (disk-accepted d ok) (t .slot) (t .file) (t .found .here) (a .bit) (a .lowest .here)))
     (t .done)

@@ -10,9 +10,9 @@ use Rattle.buffers.proofs.Lists.{below-or-not}
 use Rattle.geometry.specs.Disk.{bitOf, isData}
 use Rattle.geometry.proofs.Laws.{address-bit}
 use Rattle.maps.specs.Bits.{has}
-use Rattle.slots.specs.Slot.{Facts, mapOf}
-use Rattle.chains.specs.Chain.{nextOf, linked}
-use Rattle.chains.specs.Whole.{Whole}
+use Rattle.slots.specs.Slot.{SlotFields, mapOf}
+use Rattle.chains.specs.Chain.{linkedBit, chainBit}
+use Rattle.chains.specs.Whole.{WholeChain}
 use Rattle.chains.proofs.Laws.{has-small, map-small}
 
 -- no slot's map has bit 1,560
@@ -28,22 +28,22 @@ nowhere : bitOf 0 0 ≡ 1560
 unfolding bitOf isData
 nowhere = refl
 
-module _ (x : Facts) (sec : ℕ → List ℕ) (some : 1 ≤ x .count) (tight : length (x .map) ≤ 195) (w : Whole x sec) (end : sec 1560 ≡ []) where
-  whole-at : (k : ℕ) → k < x .count → linked sec (x .first) k ≡ getD (w .chain) k 0
-  unfolding linked nextOf
+module _ (x : SlotFields) (sec : ℕ → List ℕ) (some : 1 ≤ x .count) (tight : length (x .map) ≤ 195) (w : WholeChain x sec) (end : sec 1560 ≡ []) where
+  whole-at : (k : ℕ) → k < x .count → chainBit sec (x .first) k ≡ getD (w .chain) k 0
+  unfolding chainBit linkedBit
   whole-at zero h = sym (w .starts)
   whole-at (suc k) h =
       let n = w .links k (omega (arith, w .long)) in
-      ap (λ (b : ℕ). nextOf (sec b)) (whole-at k (omega arith)) ∙ ap₂ bitOf (n .track) (n .sector)
+      ap (λ (b : ℕ). linkedBit (sec b)) (whole-at k (omega arith)) ∙ ap₂ bitOf (n .track) (n .sector)
       ∙ address-bit (getD (w .chain) (suc k) 0) (has-small (x .map) (getD (w .chain) (suc k) 0) tight (w .own (suc k) (omega (arith, w .long))))
 
-  pub whole-past : (k : ℕ) → x .count ≤ k → linked sec (x .first) k ≡ 1560
-  unfolding linked nextOf
+  pub whole-past : (k : ℕ) → x .count ≤ k → chainBit sec (x .first) k ≡ 1560
+  unfolding chainBit linkedBit
   whole-past zero h = absurd (omega arith)
   whole-past (suc k) h = ⊎-elim last (λ m. more (whole-past k m)) (below-or-not k (x .count))
     where
-      last : k < x .count → nextOf (sec (linked sec (x .first) k)) ≡ 1560
-      last m = let n = w .last k (omega (arith, w .long)) in ap (λ (b : ℕ). nextOf (sec b)) (whole-at k m) ∙ ap₂ bitOf (n .track) (n .sector) ∙ nowhere
+      last : k < x .count → linkedBit (sec (chainBit sec (x .first) k)) ≡ 1560
+      last m = let n = w .last k (omega (arith, w .long)) in ap (λ (b : ℕ). linkedBit (sec b)) (whole-at k m) ∙ ap₂ bitOf (n .track) (n .sector) ∙ nowhere
 
-      more : linked sec (x .first) k ≡ 1560 → nextOf (sec (linked sec (x .first) k)) ≡ 1560
-      more m = ap (λ (b : ℕ). nextOf (sec b)) m ∙ ap nextOf end ∙ nowhere
+      more : chainBit sec (x .first) k ≡ 1560 → linkedBit (sec (chainBit sec (x .first) k)) ≡ 1560
+      more m = ap (λ (b : ℕ). linkedBit (sec b)) m ∙ ap linkedBit end ∙ nowhere

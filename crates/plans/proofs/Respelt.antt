@@ -13,13 +13,13 @@ use Rattle.slots.specs.Slot.{nameOf}
 use Rattle.names.specs.Name.{sameBytes, Same, padded}
 use Rattle.names.proofs.Names.{are-bytes, same-eq}
 use Rattle.chains.specs.File.{File}
-use Rattle.directory.specs.Directory.{held, Directory}
+use Rattle.directory.specs.Directory.{foldOption, Directory}
 use Rattle.directory.specs.Find.{find}
-use Rattle.disk.specs.Look.{look, slotsOf}
-use Rattle.disk.specs.Sound.{Sound}
+use Rattle.disk.specs.View.{view, viewSlots}
+use Rattle.disk.specs.Accepted.{AcceptedDisk}
 use Rattle.files.specs.Calls.{fileAt}
 use Rattle.plans.specs.Plan.{takenAt, respells, takenBy, renameTaken}
-use Rattle.plans.specs.Accepted.{FreshBut}
+use Rattle.plans.specs.Allowed.{NameUnusedBut}
 use Rattle.plans.proofs.Frame.{holds}
 use Rattle.plans.proofs.Named.{found-file, find-fresh, alone}
 
@@ -38,7 +38,7 @@ module _ (v : Directory) (i : ℕ) (f : File) (new : List ℕ) where
       at k true w = absurd (Option·some-ne-none j (sym w))
       at k false w = w
 
-      by : (o : Option ℕ) → held none (λ k. cond (respells (suc i) (suc k) f new) none (some k)) o ≡ some j → o ≡ some j
+      by : (o : Option ℕ) → foldOption none (λ k. cond (respells (suc i) (suc k) f new) none (some k)) o ≡ some j → o ≡ some j
       by none w = w
       by (some k) w = at k (respells (suc i) (suc k) f new) w
 
@@ -53,23 +53,23 @@ module _ (v : Directory) (i : ℕ) (f : File) (new : List ℕ) where
       at j true false p q w = let z : suc j ≡ suc i = eqb-true (suc j) (suc i) p in (ap some (omega arith), q)
       at j false b p q w = absurd (Option·some-ne-none j w)
 
-      by : (o : Option ℕ) → held none (λ j. cond (respells (suc i) (suc j) f new) none (some j)) o ≡ none
+      by : (o : Option ℕ) → foldOption none (λ j. cond (respells (suc i) (suc j) f new) none (some j)) o ≡ none
           → (o ≡ none) ⊎ ((o ≡ some i) × (sameBytes (nameOf (f .bytes)) (padded new) ≡ false))
       by none w = inl refl
       by (some j) w = inr (at j (eqb (suc j) (suc i)) (sameBytes (nameOf (f .bytes)) (padded new)) refl refl w)
 
-module _ (d : List ℕ) (w : Sound (look d)) (i : ℕ) (f : File) (e : look d .files i ≡ some f) (new : List ℕ) (t : renameTaken (slotsOf (look d)) i f new ≡ none) where
-  own-or-none : (find (slotsOf (look d)) new ≡ none) ⊎ ((find (slotsOf (look d)) new ≡ some i) × (sameBytes (nameOf (f .bytes)) (padded new) ≡ false))
-  own-or-none = untaken (slotsOf (look d)) i f new (taken-none (takenBy (slotsOf (look d)) i f new) t)
+module _ (d : List ℕ) (w : AcceptedDisk (view d)) (i : ℕ) (f : File) (e : view d .files i ≡ some f) (new : List ℕ) (t : renameTaken (viewSlots (view d)) i f new ≡ none) where
+  own-or-none : (find (viewSlots (view d)) new ≡ none) ⊎ ((find (viewSlots (view d)) new ≡ some i) × (sameBytes (nameOf (f .bytes)) (padded new) ≡ false))
+  own-or-none = untaken (viewSlots (view d)) i f new (taken-none (takenBy (viewSlots (view d)) i f new) t)
 
-  -- where the own slot has the new name, no other has it, as the disk is sound
-  pub taken-fresh : FreshBut d i new
+  -- where the own slot has the new name, no other has it, as the disk is accepted
+  pub taken-fresh : NameUnusedBut d i new
   taken-fresh j g n q r =
       ⊎-elim (λ p. find-fresh d new p j g q r)
       (λ p.
       let s = found-file d new i (p .0) in
-      let z : fileAt (look d) i ≡ f = Option·some-injective (fileAt (look d) i) f (sym (s .here) ∙ e) in
-      alone (look d) w new i f (s .below) e (subst (λ (x : File). Same (nameOf (x .bytes)) (padded new)) z (s .name)) j g (holds d j g q .here) n q r)
+      let z : fileAt (view d) i ≡ f = Option·some-injective (fileAt (view d) i) f (sym (s .here) ∙ e) in
+      alone (view d) w new i f (s .below) e (subst (λ (x : File). Same (nameOf (x .bytes)) (padded new)) z (s .name)) j g (holds d j g q .here) n q r)
       own-or-none
 
   pub taken-other : nameOf (f .bytes) ≡ padded new → ⊥

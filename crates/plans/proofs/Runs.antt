@@ -13,15 +13,15 @@ use lib.ListN.{length, getD}
 use Rattle.buffers.proofs.Counts.{any-none, none-any}
 use Rattle.maps.specs.Bits.{join}
 use Rattle.maps.proofs.Laws.{bits-le, bits-join, none-share}
-use Rattle.refusals.proofs.First.{sweep-none, none-sweep, sweep-first, first-sweep}
+use Rattle.refusals.proofs.First.{scan-none, none-scan, scan-first, first-scan}
 use Rattle.slots.specs.Slot.{countOf, firstOf, mapOf}
 use Rattle.slots.proofs.Tracks.{data-is}
 use Rattle.chains.specs.File.{File}
-use Rattle.chains.specs.Chain.{linked}
-use Rattle.disk.specs.Look.{look, slotsOf, extra}
-use Rattle.disk.specs.Sound.{Sound}
-use Rattle.disk.proofs.Look.{look-extra}
-use Rattle.steps.specs.Sectors.{listed}
+use Rattle.chains.specs.Chain.{chainBit}
+use Rattle.disk.specs.View.{view, viewSlots, viewTracks}
+use Rattle.disk.specs.Accepted.{AcceptedDisk}
+use Rattle.disk.proofs.View.{view-extra}
+use Rattle.steps.specs.Sectors.{isListed}
 use Rattle.plans.specs.Saving.{freeBit, mapWith}
 use Rattle.plans.specs.Gathering.{scattered, upFrom, runAt, lowestRun}
 use Rattle.plans.specs.Gathered.{InOrder, FreeRun, NoRun, LowestRun}
@@ -42,20 +42,20 @@ up-at zero b k h = absurd (not-suc-le-zero h)
 up-at (suc count) b zero h = sym (add-zero b)
 up-at (suc count) b (suc k) h = up-at count (suc b) k (le-of-suc-le-suc h) ∙ omega arith
 
-pub up-listed : (count b c : ℕ) → listed c (upFrom count b) ≡ true → (b ≤ c) × (c < b + count)
+pub up-listed : (count b c : ℕ) → isListed c (upFrom count b) ≡ true → (b ≤ c) × (c < b + count)
 unfolding upFrom
 up-listed zero b c e = absurd (false≢true e)
 up-listed (suc count) b c e = by (eqb c b) refl e (up-listed count (suc b) c)
   where
-    by : (t : Bool) → eqb c b ≡ t → (t || listed c (upFrom count (suc b))) ≡ true → (listed c (upFrom count (suc b)) ≡ true → (suc b ≤ c) × (c < suc b + count))
+    by : (t : Bool) → eqb c b ≡ t → (t || isListed c (upFrom count (suc b))) ≡ true → (isListed c (upFrom count (suc b)) ≡ true → (suc b ≤ c) × (c < suc b + count))
         → (b ≤ c) × (c < b + suc count)
     by true q w k = let z = eqb-true c b q in (omega arith, omega arith)
     by false q w k = let z = k w in (omega arith, omega arith)
 
-pub listed-up : (count b c : ℕ) → b ≤ c → c < b + count → listed c (upFrom count b) ≡ true
+pub listed-up : (count b c : ℕ) → b ≤ c → c < b + count → isListed c (upFrom count b) ≡ true
 listed-up count b c h k =
     let e : getD (upFrom count b) (c - b) 0 ≡ c = up-at count b (c - b) (omega arith) ∙ omega arith in
-    ap (λ (x : ℕ). listed x (upFrom count b)) (sym e) ∙ listed-at (upFrom count b) (c - b) (omega (arith, up-long count b))
+    ap (λ (x : ℕ). isListed x (upFrom count b)) (sym e) ∙ listed-at (upFrom count b) (c - b) (omega (arith, up-long count b))
 
 -- ---- each passes a test
 
@@ -86,23 +86,23 @@ module _ (p : ℕ → Bool) where
 
 module _ (d : List ℕ) (count : ℕ) where
   abbrev free : ℕ → Bool
-  free = freeBit (extra (look d)) (slotsOf (look d))
+  free = freeBit (viewTracks (view d)) (viewSlots (view d))
 
   abbrev startAt : ℕ → Option ℕ
-  startAt b = cond (runAt (freeBit (extra (look d)) (slotsOf (look d))) count b) (some b) none
+  startAt b = cond (runAt (freeBit (viewTracks (view d)) (viewSlots (view d))) count b) (some b) none
 
   run-free : (b : ℕ) → runAt free count b ≡ true → FreeRun d count b
   run-free b e = record {
-    data-bits = λ k h. rw (← look-extra d) (free-data (extra (look d)) (slotsOf (look d)) (b + k) (run-all free count b e k h));
+    data-bits = λ k h. rw (← view-extra d) (free-data (viewTracks (view d)) (viewSlots (view d)) (b + k) (run-all free count b e k h));
     unused = λ k h. free-unused d (b + k) (run-all free count b e k h);
   }
 
   free-run : (b : ℕ) → FreeRun d count b → runAt free count b ≡ true
   free-run b w = all-run free count b (λ k h. unused-free d (b + k) (w .data-bits k h) (w .unused k h))
 
-  pub free-rises : (b : ℕ) → FreeRun d count b → Run (freeBit (extra (look d)) (slotsOf (look d))) 0 (upFrom count b)
+  pub free-rises : (b : ℕ) → FreeRun d count b → Run (freeBit (viewTracks (view d)) (viewSlots (view d))) 0 (upFrom count b)
   free-rises b w =
-      run-is free (λ c q. data-is (extra (look d)) c (free-data (extra (look d)) (slotsOf (look d)) c q) .0) count b 0 (omega arith) (free-run b w)
+      run-is free (λ c q. data-is (viewTracks (view d)) c (free-data (viewTracks (view d)) (viewSlots (view d)) c q) .0) count b 0 (omega arith) (free-run b w)
 
   tested : (b c : ℕ) → startAt b ≡ some c → (b ≡ c) × FreeRun d count b
   tested b c e = by (runAt free count b) refl e
@@ -122,24 +122,24 @@ module _ (d : List ℕ) (count : ℕ) where
       by false q = refl
 
   -- the run that is found is the lowest that is free
-  pub found-run : (b : ℕ) → lowestRun (extra (look d)) (slotsOf (look d)) count ≡ some b → LowestRun d count b
+  pub found-run : (b : ℕ) → lowestRun (viewTracks (view d)) (viewSlots (view d)) count ≡ some b → LowestRun d count b
   unfolding lowestRun
   found-run b e =
-      let w = sweep-first 1560 startAt b e in
+      let w = scan-first 1560 startAt b e in
       let t = tested (w .at) b (w .here) in
       rw (← t .0) (record { here = t .1; before = λ c h. passed c (w .before c h) })
 
   module _ (some-bits : 1 ≤ count) where
     -- a run of bits begins at one
     start-small : (b : ℕ) → FreeRun d count b → b < 1560
-    start-small b w = let q = data-is (extra (look d)) (b + 0) (rw (look-extra d) (w .data-bits 0 some-bits)) in omega (arith, q .0)
+    start-small b w = let q = data-is (viewTracks (view d)) (b + 0) (rw (view-extra d) (w .data-bits 0 some-bits)) in omega (arith, q .0)
 
     -- "the lowest run of free map bits of its length that are consecutive": it is found exactly where there is one
-    pub lowest-run : (b : ℕ) → (lowestRun (extra (look d)) (slotsOf (look d)) count ≡ some b) ↔ LowestRun d count b
+    pub lowest-run : (b : ℕ) → (lowestRun (viewTracks (view d)) (viewSlots (view d)) count ≡ some b) ↔ LowestRun d count b
     unfolding lowestRun
     lowest-run b = (
       found-run b,
-      λ w. first-sweep 1560 startAt b
+      λ w. first-scan 1560 startAt b
           (record {
             at = b;
             below = start-small b (w .here);
@@ -149,15 +149,15 @@ module _ (d : List ℕ) (count : ℕ) where
     )
 
     -- and none is found exactly where there is none
-    pub no-run : (lowestRun (extra (look d)) (slotsOf (look d)) count ≡ none) ↔ NoRun d count
+    pub no-run : (lowestRun (viewTracks (view d)) (viewSlots (view d)) count ≡ none) ↔ NoRun d count
     unfolding lowestRun
-    no-run = (λ e b w. passed b (sweep-none 1560 startAt e b (start-small b w)) w, λ u. none-sweep 1560 startAt (λ b h. skipped b (u b)))
+    no-run = (λ e b w. passed b (scan-none 1560 startAt e b (start-small b w)) w, λ u. none-scan 1560 startAt (λ b h. skipped b (u b)))
 
 -- the sectors of a file and a free run of as many: both are on the disk, and none twice
-pub run-few : (d : List ℕ) → Sound (look d) → (i : ℕ) (f : File) → look d .files i ≡ some f → (b : ℕ) → FreeRun d (countOf (f .bytes)) b → countOf (f .bytes) ≤ 780
+pub run-few : (d : List ℕ) → AcceptedDisk (view d) → (i : ℕ) (f : File) → view d .files i ≡ some f → (b : ℕ) → FreeRun d (countOf (f .bytes)) b → countOf (f .bytes) ≤ 780
 run-few d ok i f e b w =
     let bs : List ℕ = upFrom (countOf (f .bytes)) b in
-    let p : (ℕ → Bool) = freeBit (extra (look d)) (slotsOf (look d)) in
+    let p : (ℕ → Bool) = freeBit (viewTracks (view d)) (viewSlots (view d)) in
     let r : Run p 0 bs = free-rises d (countOf (f .bytes)) b w in
     let apart = none-share (mapWith bs) (mapOf (f .bytes)) (λ c h u v. free-unused d c (run-listed p 0 bs r c (sym (has-mapWith p 0 bs r c) ∙ u) .passes) i f e v) in
     omega (
@@ -166,22 +166,22 @@ run-few d ok i f e b w =
       bits-le (join (mapWith bs) (mapOf (f .bytes))),
       bits-mapWith p 0 bs r,
       up-long (countOf (f .bytes)) b,
-      ok .good i f (holds d i f e .here) e .bits,
+      ok .accepted i f (holds d i f e .here) e .bits,
     )
 
 -- ---- in order
 
 abbrev offAt : File → ℕ → Bool
-offAt f k = not (eqb (linked (f .sectors) (firstOf (f .bytes)) k) (firstOf (f .bytes) + k))
+offAt f k = not (eqb (chainBit (f .sectors) (firstOf (f .bytes)) k) (firstOf (f .bytes) + k))
 
 -- a file is scattered exactly where it is not "on consecutive bits in rising order"
 pub in-order : (f : File) → (scattered f ≡ false) ↔ InOrder f
 unfolding scattered
 in-order f = (
   λ e k h.
-      eqb-true (linked (f .sectors) (firstOf (f .bytes)) k) (firstOf (f .bytes) + k)
-      (not-false (eqb (linked (f .sectors) (firstOf (f .bytes)) k) (firstOf (f .bytes) + k)) (any-none (countOf (f .bytes)) (offAt f) e k h)),
-  λ w. none-any (countOf (f .bytes)) (offAt f) (λ k h. ap not (eq-eqb (linked (f .sectors) (firstOf (f .bytes)) k) (firstOf (f .bytes) + k) (w k h))),
+      eqb-true (chainBit (f .sectors) (firstOf (f .bytes)) k) (firstOf (f .bytes) + k)
+      (not-false (eqb (chainBit (f .sectors) (firstOf (f .bytes)) k) (firstOf (f .bytes) + k)) (any-none (countOf (f .bytes)) (offAt f) e k h)),
+  λ w. none-any (countOf (f .bytes)) (offAt f) (λ k h. ap not (eq-eqb (chainBit (f .sectors) (firstOf (f .bytes)) k) (firstOf (f .bytes) + k) (w k h))),
 )
 
 pub not-order : (f : File) → scattered f ≡ true → InOrder f → ⊥

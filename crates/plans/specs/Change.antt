@@ -7,7 +7,7 @@ use lib.ListN.{getD}
 use Rattle.names.specs.Name.{askable}
 
 -- "Save takes kind, new name, start page, offset, execution bytes, kind information and body."
-pub record Wish : Type 0 where
+pub record SaveRequest : Type 0 where
   pub kind : ℕ
   pub name : List ℕ
   pub page : ℕ
@@ -20,7 +20,7 @@ pub data Mark : Type 0 where
   hide show protect release : Mark
 
 pub data Change : Type 0 where
-  save : Wish → Change
+  save : SaveRequest → Change
   erase : List ℕ → Change
   rename : List ℕ → List ℕ → Change
   mark : Mark → List ℕ → Change
@@ -28,11 +28,11 @@ pub data Change : Type 0 where
   gather : List ℕ → Change
 
 -- "Hide, show, protect, release set or clear one bit": of byte 0, bit 7 is hidden, bit 6 protected
-abbrev pub marked : Mark → ℕ → ℕ
-marked hide x = x % 128 + 128
-marked show x = x % 128
-marked protect x = x / 128 * 128 + 64 + x % 64
-marked release x = x / 128 * 128 + x % 64
+abbrev pub markedByte : Mark → ℕ → ℕ
+markedByte hide x = x % 128 + 128
+markedByte show x = x % 128
+markedByte protect x = x / 128 * 128 + 64 + x % 64
+markedByte release x = x / 128 * 128 + x % 64
 
 abbrev pub between : ℕ → ℕ → ℕ → Bool
 between lo x hi = leb lo x && leb x hi

@@ -13,29 +13,29 @@ use Rattle.slots.specs.Slot.{kindOf, countOf, firstOf, mapOf}
 use Rattle.slots.specs.Tracks.{dataBit}
 use Rattle.names.specs.Name.{askable}
 use Rattle.chains.specs.File.{File, sectorAt}
-use Rattle.chains.specs.Chain.{linked}
+use Rattle.chains.specs.Chain.{chainBit}
 use Rattle.directory.specs.Places.{slotAt, dirSector}
 use Rattle.directory.specs.Directory.{tracksOf, directory}
 use Rattle.surveys.specs.Survey.{free}
 use Rattle.disk.specs.Check.{checkDisk}
-use Rattle.steps.specs.Sectors.{listed}
+use Rattle.steps.specs.Sectors.{isListed}
 use Rattle.plans.specs.Change.{gather}
 use Rattle.plans.specs.Saving.{freeBit}
 use Rattle.plans.specs.Gathering.{upFrom}
-use Rattle.plans.specs.Plan.{made, run}
-use Rattle.plans.specs.Accepted.{Named, Unused}
+use Rattle.plans.specs.Plan.{newDisk, runChange}
+use Rattle.plans.specs.Allowed.{NamedSlot, UnusedBit}
 use Rattle.plans.specs.After.{SameAnswers, Outside}
 
 -- ---- what it needs
 
 -- "already on consecutive bits in rising order"
 abbrev pub InOrder : File → Type 0
-InOrder f = (k : ℕ) → k < countOf (f .bytes) → linked (f .sectors) (firstOf (f .bytes)) k ≡ firstOf (f .bytes) + k
+InOrder f = (k : ℕ) → k < countOf (f .bytes) → chainBit (f .sectors) (firstOf (f .bytes)) k ≡ firstOf (f .bytes) + k
 
 -- "free map bits .. that are consecutive": count of them from b on, each a data sector's, and in no live file's map, the file's own neither
 pub record FreeRun (d : List ℕ) (count b : ℕ) : Type 0 where
   pub data-bits : (k : ℕ) → k < count → dataBit (tracksOf d) (b + k) ≡ true
-  pub unused : (k : ℕ) → k < count → Unused d (b + k)
+  pub unused : (k : ℕ) → k < count → UnusedBit d (b + k)
 
 abbrev pub NoRun : List ℕ → ℕ → Type 0
 NoRun d count = (b : ℕ) → FreeRun d count b → ⊥
@@ -46,7 +46,7 @@ pub record LowestRun (d : List ℕ) (count b : ℕ) : Type 0 where
   pub before : (c : ℕ) → c < b → FreeRun d count c → ⊥
 
 -- a file that must move, a run for it, and a list for its sectors and the slot's
-pub record Moves (d : List ℕ) (f : File) (room : ℕ) : Type 0 where
+pub record CanMove (d : List ℕ) (f : File) (room : ℕ) : Type 0 where
   pub must : InOrder f → ⊥
   pub bit : ℕ
   pub run : FreeRun d (countOf (f .bytes)) bit
@@ -58,9 +58,9 @@ pub record Gatherable (d n : List ℕ) (room : ℕ) : Type 0 where
   pub name : askable n ≡ true
   pub slot : ℕ
   pub file : File
-  pub found : Named d n slot file
+  pub found : NamedSlot d n slot file
   pub kind : kindOf (file .bytes) ≡ 21 → ⊥
-  pub place : InOrder file ⊎ Moves d file room
+  pub place : InOrder file ⊎ CanMove d file room
 
 -- ---- what it leaves
 
@@ -76,12 +76,12 @@ pub record MovedTo (d n : List ℕ) (slot : ℕ) (f : File) (b : ℕ) (new ss : 
   pub long : length new ≡ length d
   -- "all its payload bytes in their order": those of the sector that k links lead to
   pub payload : (k : ℕ) → k < countOf (f .bytes) → (j : ℕ) → j < 510
-      → getD (sectorAt new (b + k)) j 0 ≡ getD (f .sectors (linked (f .sectors) (firstOf (f .bytes)) k)) j 0
+      → getD (sectorAt new (b + k)) j 0 ≡ getD (f .sectors (chainBit (f .sectors) (firstOf (f .bytes)) k)) j 0
   -- "Only slot bytes 13 to 209 change.": outside them, and outside the sectors of the run, every byte of the image is what it was
-  pub bytes : (k : ℕ) → listed (k / 512) (runSectors (countOf (f .bytes)) b) ≡ false → Outside k (slotAt slot + 13) 197 → getD new k 0 ≡ getD d k 0
+  pub bytes : (k : ℕ) → isListed (k / 512) (runSectors (countOf (f .bytes)) b) ≡ false → Outside k (slotAt slot + 13) 197 → getD new k 0 ≡ getD d k 0
   -- the file then: as many sectors, "chained rising", on these bits
   pub file : File
-  pub now : Named new n slot file
+  pub now : NamedSlot new n slot file
   pub first : firstOf (file .bytes) ≡ b
   pub count : countOf (file .bytes) ≡ countOf (f .bytes)
   pub order : InOrder file
@@ -93,7 +93,7 @@ pub record MovedTo (d n : List ℕ) (slot : ℕ) (f : File) (b : ℕ) (new ss : 
   pub sectors : ss ≡ runSectors (countOf (f .bytes)) b ++ (dirSector slot ∷ [])
 
 -- "A file already on consecutive bits in rising order is left, with an empty list."
-pub record Left (d : List ℕ) (f : File) (new ss : List ℕ) : Type 0 where
+pub record LeftInPlace (d : List ℕ) (f : File) (new ss : List ℕ) : Type 0 where
   pub order : InOrder f
   pub disk : new ≡ d
   pub sectors : ss ≡ []
@@ -101,10 +101,10 @@ pub record Left (d : List ℕ) (f : File) (new ss : List ℕ) : Type 0 where
 pub record AfterGather (d n new ss : List ℕ) : Type 0 where
   pub slot : ℕ
   pub file : File
-  pub found : Named d n slot file
+  pub found : NamedSlot d n slot file
   pub kind : kindOf (file .bytes) ≡ 21 → ⊥
-  pub done : Left d file new ss ⊎ ((b : ℕ) × MovedTo d n slot file b new ss)
+  pub done : LeftInPlace d file new ss ⊎ ((b : ℕ) × MovedTo d n slot file b new ss)
   -- reading and the start address give for every name, its own too, what they gave
   pub answers : (m : List ℕ) → SameAnswers new m d m
   -- gathering it again leaves it, whatever room the list has
-  pub again : (room : ℕ) → run (gather n) new room ≡ made new []
+  pub again : (room : ℕ) → runChange (gather n) new room ≡ newDisk new []

@@ -4,7 +4,7 @@ pub mod Gathering
 pub mod Plan
 pub mod Safe
 pub mod Refused
-pub mod Accepted
+pub mod Allowed
 pub mod After
 pub mod Gathered
 pub mod Unread

@@ -13,58 +13,58 @@ use Rattle.slots.specs.Slot.{isLive, protected, carried, isDirectory, nameOf, c
 use Rattle.names.specs.Name.{sameBytes, sameName, askable, padded}
 use Rattle.chains.specs.File.{File}
 use Rattle.directory.specs.Places.{slotAt, dirSector}
-use Rattle.directory.specs.Directory.{held, Directory, isSlot, nameless}
+use Rattle.directory.specs.Directory.{foldOption, Directory, isSlot, isNamelessAt}
 use Rattle.surveys.specs.Survey.{free}
 use Rattle.directory.specs.Find.{find}
-use Rattle.disk.specs.Look.{Look, look, slotsOf, extra}
+use Rattle.disk.specs.View.{View, view, viewSlots, viewTracks}
 use Rattle.disk.specs.Check.{checkDisk}
 use Rattle.files.specs.Calls.{fileAt}
-use Rattle.steps.specs.Steps.{Put, Step, enact, numbers}
+use Rattle.steps.specs.Steps.{Put, Step, apply, numbers}
 use Rattle.trees.specs.Tree.{occupied}
-use Rattle.plans.specs.Change.{Wish, Change, save, erase, rename, mark, gather, marked, between, usable}
-use Rattle.plans.specs.Saving.{taken, lowestSlot, slotTaken, stream, block, nextTrack, nextSector, chained, newSlot}
-use Rattle.plans.specs.Gathering.{scattered, upFrom, lowestRun, payloadOf, placed}
+use Rattle.plans.specs.Change.{SaveRequest, Change, save, erase, rename, mark, gather, markedByte, between, usable}
+use Rattle.plans.specs.Saving.{takenBits, lowestSlot, takenSlot, stream, sectorBytes, nextTrack, nextSector, chainSectors, newSlot}
+use Rattle.plans.specs.Gathering.{scattered, upFrom, lowestRun, payloadOf, chainFields}
 
 -- ---- steps
 
--- one slot of a look changed
-unfoldable pub upd : Look → ℕ → Option File → Look
-upd l i o = record { long = l .long; label = l .label; files = λ j. cond (eqb j i) o (l .files j) }
+-- one slot of a view changed
+unfoldable pub withSlot : View → ℕ → Option File → View
+withSlot l i o = record { long = l .long; label = l .label; files = λ j. cond (eqb j i) o (l .files j) }
 
 -- what a slot with these bytes holds
-unfoldable pub entryOf : List ℕ → (ℕ → List ℕ) → Option File
-entryOf s sec = cond (isLive s) (some (record { bytes = s; sectors = sec })) none
+unfoldable pub fileIfLive : List ℕ → (ℕ → List ℕ) → Option File
+fileIfLive s sec = cond (isLive s) (some (record { bytes = s; sectors = sec })) none
 
-abbrev pub one : ℕ → List ℕ → List Put
-one a x = record { place = a; bytes = x } ∷ []
+abbrev pub onePut : ℕ → List ℕ → List Put
+onePut a x = record { place = a; bytes = x } ∷ []
 
 -- bytes at place o of slot i
 abbrev pub slotPut : ℕ → ℕ → List ℕ → List Put
-slotPut i o y = one (slotAt i + o) y
+slotPut i o y = onePut (slotAt i + o) y
 
 -- bytes put at place o of slot i, which then holds f: a commit
-abbrev pub slotStep : Look → ℕ → ℕ → List ℕ → Option File → Step Look
-slotStep l i o y f = record { at = dirSector i; puts = slotPut i o y; left = some (upd l i f) }
+abbrev pub slotStep : View → ℕ → ℕ → List ℕ → Option File → Step View
+slotStep l i o y f = record { at = dirSector i; puts = slotPut i o y; left = some (withSlot l i f) }
 
 -- the data sectors of a chain, each quiet
-unfoldable pub dataSteps : List ℕ → ℕ → List ℕ → List (Step Look)
+unfoldable pub dataSteps : List ℕ → ℕ → List ℕ → List (Step View)
 dataSteps st f [] = []
 dataSteps st f (b ∷ bs) =
-    record { at = bitNumber b; puts = one (bitPlace b) (block st f (nextTrack bs) (nextSector bs)); left = none } ∷ dataSteps st (f + 510) bs
+    record { at = bitNumber b; puts = onePut (bitPlace b) (sectorBytes st f (nextTrack bs) (nextSector bs)); left = none } ∷ dataSteps st (f + 510) bs
 
 -- a live slot with other bytes, its sectors kept
-abbrev pub touch : Look → ℕ → File → ℕ → List ℕ → List (Step Look)
-touch l i f o y = slotStep l i o y (entryOf (put (f .bytes) o y) (f .sectors)) ∷ []
+abbrev pub putSteps : View → ℕ → File → ℕ → List ℕ → List (Step View)
+putSteps l i f o y = slotStep l i o y (fileIfLive (put (f .bytes) o y) (f .sectors)) ∷ []
 
 -- ---- the directory's part of a save; old: whether an old name stands behind its slot
 
 -- "When a save takes that slot and a next slot exists whose first name byte is not 0": slot i's own is 0, the next one's is not
 unfoldable pub oldName : List ℕ → ℕ → Bool
-oldName d i = nameless d i && (isSlot d (suc i) && not (nameless d (suc i)))
+oldName d i = isNamelessAt d i && (isSlot d (suc i) && not (isNamelessAt d (suc i)))
 
 -- slot i and the next one lie in one sector
-unfoldable pub together : ℕ → Bool
-together i = eqb (dirSector (suc i)) (dirSector i)
+unfoldable pub sameSector : ℕ → Bool
+sameSector i = eqb (dirSector (suc i)) (dirSector i)
 
 -- "the save also sets that next slot's bytes 0 and 1 to 0, so that no old name comes back."
 abbrev pub noName : List ℕ
@@ -74,55 +74,55 @@ abbrev pub endPut : ℕ → List Put
 endPut i = slotPut (suc i) 0 noName
 
 -- a disk so, where there is such a name
-abbrev pub cleared : Bool → ℕ → List ℕ → List ℕ
-cleared old i d = cond old (put d (slotAt (suc i) + 0) noName) d
+abbrev pub withoutNextName : Bool → ℕ → List ℕ → List ℕ
+withoutNextName old i d = cond old (put d (slotAt (suc i) + 0) noName) d
 
 -- "That sector is written after the data and before the saved slot's sector": where it is another, a quiet step of its own
-unfoldable pub endSteps : Bool → ℕ → List (Step Look)
-endSteps old i = cond (old && not (together i)) (record { at = dirSector (suc i); puts = endPut i; left = none } ∷ []) []
+unfoldable pub endSteps : Bool → ℕ → List (Step View)
+endSteps old i = cond (old && not (sameSector i)) (record { at = dirSector (suc i); puts = endPut i; left = none } ∷ []) []
 
 -- "once if they are the same": then it is put in the saved slot's step
 unfoldable pub endPuts : Bool → ℕ → List Put
-endPuts old i = cond (old && together i) (endPut i) []
+endPuts old i = cond (old && sameSector i) (endPut i) []
 
 -- the sectors of the directory that are written, in their order
 unfoldable pub dirSectors : Bool → ℕ → List ℕ
-dirSectors old i = cond (old && not (together i)) (dirSector (suc i) ∷ dirSector i ∷ []) (dirSector i ∷ [])
+dirSectors old i = cond (old && not (sameSector i)) (dirSector (suc i) ∷ dirSector i ∷ []) (dirSector i ∷ [])
 
 -- bytes put at place o of slot i, which then holds f, with what is put behind it: a commit
-abbrev pub endStep : Bool → Look → ℕ → ℕ → List ℕ → Option File → Step Look
-endStep old l i o y f = record { at = dirSector i; puts = endPuts old i ++ slotPut i o y; left = some (upd l i f) }
+abbrev pub endStep : Bool → View → ℕ → ℕ → List ℕ → Option File → Step View
+endStep old l i o y f = record { at = dirSector i; puts = endPuts old i ++ slotPut i o y; left = some (withSlot l i f) }
 
 -- slot i gets these bytes, and then holds the file that they say
-abbrev pub slotSteps : Bool → Look → ℕ → List ℕ → (ℕ → List ℕ) → List (Step Look)
-slotSteps old l i s sec = endSteps old i ++ (endStep old l i 0 s (entryOf s sec) ∷ [])
+abbrev pub slotSteps : Bool → View → ℕ → List ℕ → (ℕ → List ℕ) → List (Step View)
+slotSteps old l i s sec = endSteps old i ++ (endStep old l i 0 s (fileIfLive s sec) ∷ [])
 
 -- "for a save the n data sectors in chain order and then the directory sector", before that one the one behind the end
-abbrev pub saveSteps : Bool → Look → ℕ → Wish → List ℕ → List (Step Look)
-saveSteps old l i w bs = dataSteps (stream w) 0 bs ++ slotSteps old l i (newSlot (l .label) i w bs) (chained (stream w) 0 bs)
+abbrev pub saveSteps : Bool → View → ℕ → SaveRequest → List ℕ → List (Step View)
+saveSteps old l i w bs = dataSteps (stream w) 0 bs ++ slotSteps old l i (newSlot (l .label) i w bs) (chainSectors (stream w) 0 bs)
 
 -- "all its payload bytes in their order, .. chained rising", "Data first in chain order, slot sector last, so demand 3 holds."
-abbrev pub gatherSteps : Look → ℕ → File → List ℕ → List (Step Look)
+abbrev pub gatherSteps : View → ℕ → File → List ℕ → List (Step View)
 gatherSteps l i f bs =
-    dataSteps (payloadOf f) 0 bs ++ (slotStep l i 13 (placed bs) (entryOf (put (f .bytes) 13 (placed bs)) (chained (payloadOf f) 0 bs)) ∷ [])
+    dataSteps (payloadOf f) 0 bs ++ (slotStep l i 13 (chainFields bs) (fileIfLive (put (f .bytes) 13 (chainFields bs)) (chainSectors (payloadOf f) 0 bs)) ∷ [])
 
 -- ---- what is refused, and what is done
 
 pub data Plan : Type 0 where
-  no : Refusal → Plan
-  go : List (Step Look) → Plan
+  refusedPlan : Refusal → Plan
+  plannedSteps : List (Step View) → Plan
 
-abbrev pub orNo : Reply → Plan → Plan
-orNo (some r) p = no r
-orNo none p = p
+abbrev pub planUnless : Reply → Plan → Plan
+planUnless (some r) p = refusedPlan r
+planUnless none p = p
 
 -- of the live slot that has the name; 15 where none has
-abbrev pub byName : Look → List ℕ → (ℕ → File → Plan) → Plan
-byName l n at = held (no (refuse 15 0)) (λ i. at i (fileAt l i)) (find (slotsOf l) n)
+abbrev pub planByName : View → List ℕ → (ℕ → File → Plan) → Plan
+planByName l n at = foldOption (refusedPlan (refuse 15 0)) (λ i. at i (fileAt l i)) (find (viewSlots l) n)
 
 -- 16, at the slot that has the new name
 abbrev pub takenAt : Option ℕ → Reply
-takenAt o = held none (λ i. some (refuse 16 (suc i))) o
+takenAt o = foldOption none (λ i. some (refuse 16 (suc i))) o
 
 abbrev pub nameTaken : Directory → List ℕ → Reply
 nameTaken v n = takenAt (find v n)
@@ -134,7 +134,7 @@ respells own at f new = eqb at own && not (sameBytes (nameOf (f .bytes)) (padded
 -- the slot that has the new name of the file in slot i, but none where the rename alters only the case of its own name, which "is
 -- allowed; a new name equal to the stored bytes stays refused."
 unfoldable pub takenBy : Directory → ℕ → File → List ℕ → Option ℕ
-takenBy v i f new = held none (λ j. cond (respells (suc i) (suc j) f new) none (some j)) (find v new)
+takenBy v i f new = foldOption none (λ j. cond (respells (suc i) (suc j) f new) none (some j)) (find v new)
 
 abbrev pub renameTaken : Directory → ℕ → File → List ℕ → Reply
 renameTaken v i f new = takenAt (takenBy v i f new)
@@ -148,61 +148,61 @@ abbrev pub isOccupied : Directory → ℕ → File → Reply
 isOccupied v i f = row 29 (suc i) (occupied v i (f .bytes))
 
 -- a save is refused by its arguments and the directory alone: 12, 13, 14, 16, 18, 19
-unfoldable pub saveReply : ℕ → Directory → Wish → Reply
+unfoldable pub saveReply : ℕ → Directory → SaveRequest → Reply
 saveReply n v w =
     row 12 0 (not (usable (w .name))) else row 13 0 (not (carried (w .kind)))
     else row 14 0 (not (leb (w .page) 31 && between 32768 (w .offset) 49151)) else nameTaken v (w .name)
-    else row 18 0 (held true (λ i. false) (lowestSlot n v)) else row 19 0 (ltb (free n v) (sectorsFor (length (w .body))))
+    else row 18 0 (foldOption true (λ i. false) (lowestSlot n v)) else row 19 0 (ltb (free n v) (sectorsFor (length (w .body))))
 
 -- where the file in slot i goes: "32 (slot 0), exactly when the file must move and no such run exists", "left, with an empty list" when not
-unfoldable pub movePlan : Look → ℕ → File → Plan
+unfoldable pub movePlan : View → ℕ → File → Plan
 movePlan l i f =
     cond (scattered f)
-    (held (no (refuse 32 0)) (λ b. go (gatherSteps l i f (upFrom (countOf (f .bytes)) b))) (lowestRun (extra l) (slotsOf l) (countOf (f .bytes))))
-    (go [])
+    (foldOption (refusedPlan (refuse 32 0)) (λ b. plannedSteps (gatherSteps l i f (upFrom (countOf (f .bytes)) b))) (lowestRun (viewTracks l) (viewSlots l) (countOf (f .bytes))))
+    (plannedSteps [])
 
 -- old: whether an old name stands behind slot i
-unfoldable pub planOf : (ℕ → Bool) → Change → Look → Plan
+unfoldable pub planOf : (ℕ → Bool) → Change → View → Plan
 -- "Erase sets byte 0 to 0 and changes no other byte."
 planOf old (erase n) l =
-    orNo (row 12 0 (not (askable n)))
-    (byName l n (λ i f. orNo (isProtected i f else isOccupied (slotsOf l) i f) (go (touch l i f 0 (0 ∷ [])))))
+    planUnless (row 12 0 (not (askable n)))
+    (planByName l n (λ i f. planUnless (isProtected i f else isOccupied (viewSlots l) i f) (plannedSteps (putSteps l i f 0 (0 ∷ [])))))
 -- "Rename changes bytes 1 to 10"
 planOf old (rename n new) l =
-    orNo (row 12 0 (not (askable n && usable new)))
-    (byName l n (λ i f. orNo (renameTaken (slotsOf l) i f new else isProtected i f) (go (touch l i f 1 (padded new)))))
+    planUnless (row 12 0 (not (askable n && usable new)))
+    (planByName l n (λ i f. planUnless (renameTaken (viewSlots l) i f new else isProtected i f) (plannedSteps (putSteps l i f 1 (padded new)))))
 -- "Hide, show, protect, release set or clear one bit; where it is so already the call is accepted."
 planOf old (mark m n) l =
-    orNo (row 12 0 (not (askable n))) (byName l n (λ i f. go (touch l i f 0 (marked m (getD (f .bytes) 0 0) ∷ []))))
+    planUnless (row 12 0 (not (askable n))) (planByName l n (λ i f. plannedSteps (putSteps l i f 0 (markedByte m (getD (f .bytes) 0 0) ∷ []))))
 -- "A kind 21 is refused 13."
 planOf old (gather n) l =
-    orNo (row 12 0 (not (askable n))) (byName l n (λ i f. orNo (row 13 (suc i) (isDirectory (f .bytes))) (movePlan l i f)))
+    planUnless (row 12 0 (not (askable n))) (planByName l n (λ i f. planUnless (row 13 (suc i) (isDirectory (f .bytes))) (movePlan l i f)))
 planOf old (save w) l =
-    orNo (saveReply (extra l) (slotsOf l) w)
-    (go (saveSteps (old (slotTaken (extra l) (slotsOf l))) l (slotTaken (extra l) (slotsOf l)) w (taken (extra l) (slotsOf l) w)))
+    planUnless (saveReply (viewTracks l) (viewSlots l) w)
+    (plannedSteps (saveSteps (old (takenSlot (viewTracks l) (viewSlots l))) l (takenSlot (viewTracks l) (viewSlots l)) w (takenBits (viewTracks l) (viewSlots l) w)))
 
--- the steps hang on one thing more of the disk than its look, an old name behind the directory's end; what they commit does not
+-- the steps hang on one thing more of the disk than its view, an old name behind the directory's end; what they commit does not
 abbrev pub plan : Change → List ℕ → Plan
-plan c d = planOf (oldName d) c (look d)
+plan c d = planOf (oldName d) c (view d)
 
 -- ---- the call
 
 -- a refusal, or the new disk and the sectors in the order of writing
 pub data Result : Type 0 where
-  stopped : Refusal → Result
-  made : List ℕ → List ℕ → Result
+  refusedResult : Refusal → Result
+  newDisk : List ℕ → List ℕ → Result
 
 -- with a list of so many numbers
-abbrev pub settle : List ℕ → ℕ → Plan → Result
-settle d room (no r) = stopped r
-settle d room (go sts) = cond (ltb room (length (numbers sts))) (stopped (refuse 20 0)) (made (enact d sts) (numbers sts))
+abbrev pub planResult : List ℕ → ℕ → Plan → Result
+planResult d room (refusedPlan r) = refusedResult r
+planResult d room (plannedSteps sts) = cond (ltb room (length (numbers sts))) (refusedResult (refuse 20 0)) (newDisk (apply d sts) (numbers sts))
 
-abbrev pub checked : Reply → Result → Result
-checked (some r) x = stopped r
-checked none x = x
+abbrev pub checkedResult : Reply → Result → Result
+checkedResult (some r) x = refusedResult r
+checkedResult none x = x
 
-unfoldable pub run : Change → List ℕ → ℕ → Result
-run c d room = checked (checkDisk d) (settle d room (plan c d))
+unfoldable pub runChange : Change → List ℕ → ℕ → Result
+runChange c d room = checkedResult (checkDisk d) (planResult d room (plan c d))
 
 -- what a call gives: its outcome, the image and the list at return
 pub record Changed : Type 0 where
@@ -215,11 +215,11 @@ changed o d ss = record { outcome = o; image = d; list = ss }
 
 -- "Each change fills a lent buffer of numbers with its sector numbers and answers how many .. Its rest stays."
 abbrev pub changedBy : Result → List ℕ → List ℕ → Changed
-changedBy (stopped r) d buf = changed (refused r) d buf
-changedBy (made new ss) d buf = changed (done (length ss) 0) new (put buf 0 ss)
+changedBy (refusedResult r) d buf = changed (refused r) d buf
+changedBy (newDisk new ss) d buf = changed (done (length ss) 0) new (put buf 0 ss)
 
 unfoldable pub change : Change → List ℕ → List ℕ → Changed
-change c d buf = changedBy (run c d (length buf)) d buf
+change c d buf = changedBy (runChange c d (length buf)) d buf
 
 -- "those that the change finds by name; a save finds none"
 unfoldable pub finds : Change → File → Bool

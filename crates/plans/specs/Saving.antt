@@ -7,57 +7,57 @@ use lib.Dec.{eqb, ltb}
 use lib.ListN.{length, getD, take}
 use Rattle.buffers.specs.Bytes.{tab}
 use Rattle.geometry.specs.Disk.{trackOf, sectorOf}
-use Rattle.refusals.specs.Order.{sweep}
-use Rattle.maps.specs.Bits.{has, clear, marked}
+use Rattle.refusals.specs.Order.{scan}
+use Rattle.maps.specs.Bits.{has, clearMap, withBit}
 use Rattle.slots.specs.Slot.{sectorsFor}
 use Rattle.slots.specs.Tracks.{isLabel, dataBit}
 use Rattle.names.specs.Name.{padded}
 use Rattle.directory.specs.Places.{slotCount, slots}
-use Rattle.directory.specs.Directory.{held, Directory}
+use Rattle.directory.specs.Directory.{foldOption, Directory}
 use Rattle.surveys.specs.Survey.{union}
-use Rattle.plans.specs.Change.{Wish}
+use Rattle.plans.specs.Change.{SaveRequest}
 
 -- ---- how much, and where
 
 -- the numbers that pass a test, rising, among the n from i on
-unfoldable pub passing : ℕ → ℕ → (ℕ → Bool) → List ℕ
-passing zero i p = []
-passing (suc n) i p = cond (p i) (i ∷ passing n (suc i) p) (passing n (suc i) p)
+unfoldable pub satisfying : ℕ → ℕ → (ℕ → Bool) → List ℕ
+satisfying zero i p = []
+satisfying (suc n) i p = cond (p i) (i ∷ satisfying n (suc i) p) (satisfying n (suc i) p)
 
 -- a data sector whose bit is clear in the used map, with n directory tracks beyond four: "a directory sector's bit is never free"
 abbrev pub freeBit : ℕ → Directory → ℕ → Bool
 freeBit n v b = dataBit n b && not (has (union v slots) b)
 
 -- "the n lowest free map bits, rising, as chain"
-unfoldable pub taken : ℕ → Directory → Wish → List ℕ
-taken n v w = take (sectorsFor (length (w .body))) (passing 1560 0 (freeBit n v))
+unfoldable pub takenBits : ℕ → Directory → SaveRequest → List ℕ
+takenBits n v w = take (sectorsFor (length (w .body))) (satisfying 1560 0 (freeBit n v))
 
 -- "and the lowest free slot": the lowest of the directory's that holds no file
 unfoldable pub lowestSlot : ℕ → Directory → Option ℕ
-lowestSlot n v = sweep (slotCount n) (λ i. held (some i) (λ s. none) (v i))
+lowestSlot n v = scan (slotCount n) (λ i. foldOption (some i) (λ s. none) (v i))
 
 -- its number from 0; 0 where there is none, and the save is refused
-abbrev pub slotTaken : ℕ → Directory → ℕ
-slotTaken n v = held 0 (λ i. i) (lowestSlot n v)
+abbrev pub takenSlot : ℕ → Directory → ℕ
+takenSlot n v = foldOption 0 (λ i. i) (lowestSlot n v)
 
 -- ---- the data sectors
 
 -- "Their length is pages × 16,384 + that remainder."
-abbrev pub pagesFor : Wish → ℕ
+abbrev pub pagesFor : SaveRequest → ℕ
 pagesFor w = length (w .body) / 16384
 
-abbrev pub remainderFor : Wish → ℕ
+abbrev pub remainderFor : SaveRequest → ℕ
 remainderFor w = length (w .body) % 16384
 
 -- "The first sector begins with nine bytes: kind; remainder (2) and offset (2), both low byte first; two unused; pages;
 -- start page. Body bytes follow"
-unfoldable pub stream : Wish → List ℕ
+unfoldable pub stream : SaveRequest → List ℕ
 stream w =
     w .kind ∷ remainderFor w % 256 ∷ remainderFor w / 256 ∷ w .offset % 256 ∷ w .offset / 256 ∷ 0 ∷ 0 ∷ pagesFor w ∷ w .page ∷ w .body
 
 -- "510 payload bytes to a sector": those from place f of the stream, 0 past its end, and then the next track and sector
-unfoldable pub block : List ℕ → ℕ → ℕ → ℕ → List ℕ
-block st f t s = tab 512 (λ k. cond (ltb k 510) (getD st (f + k) 0) (cond (eqb k 510) t s))
+unfoldable pub sectorBytes : List ℕ → ℕ → ℕ → ℕ → List ℕ
+sectorBytes st f t s = tab 512 (λ k. cond (ltb k 510) (getD st (f + k) 0) (cond (eqb k 510) t s))
 
 -- the address of the next sector of a chain; "The last sector has 0, 0"
 abbrev pub nextTrack : List ℕ → ℕ
@@ -69,19 +69,19 @@ nextSector [] = 0
 nextSector (b ∷ bs) = sectorOf b
 
 -- the sector of map bit c in a chain that holds the stream from place f on; none of another bit
-unfoldable pub chained : List ℕ → ℕ → List ℕ → ℕ → List ℕ
-chained st f [] c = []
-chained st f (b ∷ bs) c = cond (eqb c b) (block st f (nextTrack bs) (nextSector bs)) (chained st (f + 510) bs c)
+unfoldable pub chainSectors : List ℕ → ℕ → List ℕ → ℕ → List ℕ
+chainSectors st f [] c = []
+chainSectors st f (b ∷ bs) c = cond (eqb c b) (sectorBytes st f (nextTrack bs) (nextSector bs)) (chainSectors st (f + 510) bs c)
 
 -- ---- the slot
 
 -- the map with these bits set
 unfoldable pub mapWith : List ℕ → List ℕ
-mapWith [] = clear
-mapWith (b ∷ bs) = marked (mapWith bs) b
+mapWith [] = clearMap
+mapWith (b ∷ bs) = withBit (mapWith bs) b
 
 -- byte k of the slot that a save writes: "Slot bytes not named above are 0, but byte 245 is 255"
-unfoldable pub slotByte : Wish → List ℕ → ℕ → ℕ
+unfoldable pub slotByte : SaveRequest → List ℕ → ℕ → ℕ
 slotByte w bs k =
     cond (ltb k 1) (w .kind)
     (cond (ltb k 11) (getD (padded (w .name)) (k - 1) 0)
@@ -108,5 +108,5 @@ slotByte w bs k =
 
 -- the slot that a save writes at slot i of a disk with this label:
 -- "a save into slot 1 now keeps bytes 210 to 219, 252, 253 and 255."
-unfoldable pub newSlot : (ℕ → ℕ) → ℕ → Wish → List ℕ → List ℕ
+unfoldable pub newSlot : (ℕ → ℕ) → ℕ → SaveRequest → List ℕ → List ℕ
 newSlot label i w bs = tab 256 (λ k. cond (eqb i 0 && isLabel k) (label k) (slotByte w bs k))

@@ -8,7 +8,7 @@ use Rattle.refusals.specs.Order.{refuse}
 use Rattle.refusals.specs.Answers.{done, refused, out}
 use Rattle.chains.specs.File.{File}
 use Rattle.headers.specs.Header.{firstSector, headerLength, headerStart, bodyByte}
-use Rattle.files.specs.Calls.{reading, starting}
+use Rattle.files.specs.Calls.{reading, startAddress}
 
 -- a name that finds this file: "13 and 14 are not given for kinds 1 to 4, read or asked their start"
 pub record SpectrumAnswers (d n : List ℕ) (f : File) : Type 0 where
@@ -18,4 +18,4 @@ pub record SpectrumAnswers (d n : List ℕ) (f : File) : Type 0 where
   -- "a lent output buffer is too short"
   pub short : (buf : List ℕ) → length buf < headerLength (firstSector f) → reading d n buf ≡ out (refused (refuse 20 0)) buf
   -- "start in 3 and 4", "as it stands"
-  pub starts : starting d n ≡ done (headerStart (firstSector f)) 0
+  pub starts : startAddress d n ≡ done (headerStart (firstSector f)) 0

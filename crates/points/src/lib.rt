@@ -49,7 +49,7 @@ pub fn number(before: &[u8], n: usize) {
 
 pub fn refused(r: Refused) {
     let reason = r.reason;
-    number(b"refused ", refusals::number_of(reason));
+    number(b"refused ", refusals::refusal_number(reason));
     number(b" slot ", r.slot);
     say(b"\n");
 }
@@ -62,8 +62,8 @@ pub fn title(call: &[u8], what: &[u8]) {
 
 fn verdict(found: Verdict) {
     match found {
-        Verdict::Sound => say(b"accepted\n"),
-        Verdict::Unsound(r) => refused(r),
+        Verdict::Accepted => say(b"accepted\n"),
+        Verdict::Err(r) => refused(r),
     }
 }
 
@@ -84,7 +84,7 @@ fn files_and_free(answer: Answer) {
             number(b", free ", free);
             say(b"\n");
         }
-        Answer::No(r) => refused(r),
+        Answer::Err(r) => refused(r),
     }
 }
 
@@ -103,7 +103,7 @@ pub fn started(what: &[u8], image: &[u8], name: &[u8]) {
             number(b"", address);
             say(b"\n");
         }
-        Answer::No(r) => refused(r),
+        Answer::Err(r) => refused(r),
     }
 }
 
@@ -118,7 +118,7 @@ fn length_and_body(answer: Answer, buf: &[u8]) {
             say(buffers::part_at(buf, 501, 7));
             say(b"\n");
         }
-        Answer::No(r) => refused(r),
+        Answer::Err(r) => refused(r),
     }
 }
 
@@ -140,7 +140,7 @@ pub fn three(before: &[u8], one: usize, two: usize, three: usize) {
 }
 
 // How many sectors a change names, and the front of its list as it then is.
-pub fn told(answer: Answer, list: &[u16]) {
+pub fn print_change(answer: Answer, list: &[u16]) {
     match answer {
         Answer::Done(n, _) => {
             number(b"sectors ", n);
@@ -151,7 +151,7 @@ pub fn told(answer: Answer, list: &[u16]) {
                 listed_at(list, 2),
             );
         }
-        Answer::No(r) => refused(r),
+        Answer::Err(r) => refused(r),
     }
 }
 

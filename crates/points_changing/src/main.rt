@@ -3,44 +3,44 @@
 fn saved(what: &[u8], image: &mut [u8], name: &[u8], body: &[u8], list: &mut [u16]) {
     points::title(b"save of ", what);
     let answer = saves::save(image, 19, name, 29, 32768, b"", b"", body, list);
-    points::told(answer, list);
+    points::print_change(answer, list);
 }
 
 fn erased(image: &mut [u8], name: &[u8], list: &mut [u16]) {
     points::title(b"erase of ", name);
     let answer = changes::erase(image, name, list);
-    points::told(answer, list);
+    points::print_change(answer, list);
 }
 
 fn renamed(image: &mut [u8], name: &[u8], new: &[u8], list: &mut [u16]) {
     points::title(b"rename of ", name);
     points::title(b"to ", new);
     let answer = changes::rename(image, name, new, list);
-    points::told(answer, list);
+    points::print_change(answer, list);
 }
 
 fn protected(image: &mut [u8], name: &[u8], list: &mut [u16]) {
     points::title(b"protect of ", name);
     let answer = changes::protect(image, name, list);
-    points::told(answer, list);
+    points::print_change(answer, list);
 }
 
 fn released(image: &mut [u8], name: &[u8], list: &mut [u16]) {
     points::title(b"release of ", name);
     let answer = changes::release(image, name, list);
-    points::told(answer, list);
+    points::print_change(answer, list);
 }
 
 fn hidden(image: &mut [u8], name: &[u8], list: &mut [u16]) {
     points::title(b"hide of ", name);
     let answer = changes::hide(image, name, list);
-    points::told(answer, list);
+    points::print_change(answer, list);
 }
 
 fn shown(image: &mut [u8], name: &[u8], list: &mut [u16]) {
     points::title(b"show of ", name);
     let answer = changes::show(image, name, list);
-    points::told(answer, list);
+    points::print_change(answer, list);
 }
 
 fn small(image: &mut [u8], body: &[u8], list: &mut [u16]) {

@@ -30,7 +30,7 @@ fn file(image: &mut [u8], i: usize)
     ];
     buffers::copy_into(image, at, &front);
     let mut map = [0u8; 195];
-    maps::mark(&mut map, 100 + i);
+    maps::set_bit(&mut map, 100 + i);
     buffers::copy_into(image, at + 15, &map);
     match geometry::address_of(100 + i) {
         Address::Sector(track, sector) => {
@@ -67,7 +67,7 @@ fn rubbish_everywhere(image: &mut [u8]) {
 fn saved(what: &[u8], image: &mut [u8], name: &[u8], list: &mut [u16]) {
     points::title(b"save of ", what);
     let answer = saves::save(image, 16, name, 0, 32768, b"", b"", b"", list);
-    points::told(answer, list);
+    points::print_change(answer, list);
 }
 
 // The first bytes of slot `i`, counted from 0. Where 81 would be lies the data sector of NEW 2, at track 4 sector 2.

@@ -5,19 +5,19 @@ fn saved(image: &mut [u8], name: &[u8], body: &[u8], len: usize, list: &mut [u16
     points::title(b"save of ", name);
     let bytes = buffers::part_at(body, 0, len);
     let answer = saves::save(image, 19, name, 29, 32768, b"", b"", bytes, list);
-    points::told(answer, list);
+    points::print_change(answer, list);
 }
 
 fn erased(image: &mut [u8], name: &[u8], list: &mut [u16]) {
     points::title(b"erase of ", name);
     let answer = changes::erase(image, name, list);
-    points::told(answer, list);
+    points::print_change(answer, list);
 }
 
 fn gathered(what: &[u8], image: &mut [u8], name: &[u8], list: &mut [u16]) {
     points::title(b"gather of ", what);
     let answer = gathers::gather(image, name, list);
-    points::told(answer, list);
+    points::print_change(answer, list);
 }
 
 // Two numbers for two data sectors and one of the directory, and none where nothing must move.

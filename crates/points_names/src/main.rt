@@ -1,11 +1,11 @@
 // Points of document 02's M-105: names that differ only in a to z against A to Z are the same name.
-use readers::Opened;
+use readers::OpenAnswer;
 use refusals::Answer;
 
 fn changed(answer: Answer) {
     match answer {
         Answer::Done(_, _) => points::say(b"accepted\n"),
-        Answer::No(r) => points::refused(r),
+        Answer::Err(r) => points::refused(r),
     }
 }
 
@@ -53,11 +53,11 @@ fn read(image: &[u8], name: &[u8]) {
 fn opened(image: &[u8], name: &[u8]) {
     points::title(b"opening of ", name);
     match readers::begin(image, name) {
-        Opened::At(p) => {
+        OpenAnswer::At(p) => {
             points::number(b"left ", p.left);
             points::say(b"\n");
         }
-        Opened::No(r) => points::refused(r),
+        OpenAnswer::Err(r) => points::refused(r),
     }
 }
 

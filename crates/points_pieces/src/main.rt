@@ -1,17 +1,17 @@
 // Points of document 02's M-100: a file opened by name, its body piece by piece, and readers that no call made.
-use readers::Opened;
+use readers::OpenAnswer;
 use readers::Place;
 
 fn opened(what: &[u8], image: &[u8], name: &[u8]) {
     points::title(b"opening of ", what);
     match readers::begin(image, name) {
-        Opened::At(p) => {
+        OpenAnswer::At(p) => {
             points::number(b"sector ", p.sector);
             points::number(b", offset ", p.offset);
             points::number(b", left ", p.left);
             points::say(b"\n");
         }
-        Opened::No(r) => points::refused(r),
+        OpenAnswer::Err(r) => points::refused(r),
     }
 }
 

@@ -10,11 +10,11 @@ fn opened(image: &[u8], name: &[u8]) -> Record {
     let found = record_open::open(image, 19, name, 29, 32768, b"", b"");
     let verdict = found.verdict;
     match verdict {
-        Verdict::Unsound(r) => {
+        Verdict::Err(r) => {
             points::title(b"opening of ", name);
             points::refused(r);
         }
-        Verdict::Sound => {}
+        Verdict::Accepted => {}
     }
     found.record
 }
@@ -23,20 +23,20 @@ fn added(what: &[u8], image: &mut [u8], record: Record, piece: &[u8], list: &mut
     let next = record_add::add(image, record, piece, list);
     points::title(b"a piece of ", what);
     let answer = next.answer;
-    points::told(answer, list);
+    points::print_change(answer, list);
     next.record
 }
 
 fn closed(what: &[u8], image: &mut [u8], record: Record, list: &mut [u16]) {
     points::title(b"close of ", what);
     let answer = record_close::close(image, record, list);
-    points::told(answer, list);
+    points::print_change(answer, list);
 }
 
 fn saved(image: &mut [u8], name: &[u8], body: &[u8], list: &mut [u16]) {
     points::title(b"save of ", name);
     let answer = saves::save(image, 19, name, 29, 32768, b"", b"", body, list);
-    points::told(answer, list);
+    points::print_change(answer, list);
 }
 
 // ---- held to one save
@@ -47,7 +47,7 @@ fn named(answer: Answer) -> usize
 {
     match answer {
         Answer::Done(n, _) => buffers::lesser(n, 1562),
-        Answer::No(r) => {
+        Answer::Err(r) => {
             points::refused(r);
             0
         }
@@ -166,13 +166,13 @@ fn refused(image: &mut [u8], body: &[u8], buf: &mut [u8], list: &mut [u16]) {
 fn erased(image: &mut [u8], name: &[u8], list: &mut [u16]) {
     points::title(b"erase of ", name);
     let answer = changes::erase(image, name, list);
-    points::told(answer, list);
+    points::print_change(answer, list);
 }
 
 fn renamed(image: &mut [u8], name: &[u8], new: &[u8], list: &mut [u16]) {
     points::title(b"rename to ", new);
     let answer = changes::rename(image, name, new, list);
-    points::told(answer, list);
+    points::print_change(answer, list);
 }
 
 // A recording of 1,600 bytes, four sectors, of which the second and the third are written.
@@ -202,7 +202,7 @@ fn beside_other(image: &mut [u8], body: &[u8], list: &mut [u16]) -> Record {
 fn hidden(image: &mut [u8], name: &[u8], list: &mut [u16]) {
     points::title(b"hide of ", name);
     let answer = changes::hide(image, name, list);
-    points::told(answer, list);
+    points::print_change(answer, list);
 }
 
 fn hidden_between(image: &mut [u8], body: &[u8], buf: &mut [u8], list: &mut [u16]) {

@@ -9,7 +9,7 @@ fn answered(what: &[u8], answer: Answer) {
             points::number(b": disks ", disks);
             points::say(b"\n");
         }
-        Answer::No(r) => {
+        Answer::Err(r) => {
             points::say(b": ");
             points::refused(r);
         }
@@ -39,7 +39,7 @@ fn mark_first(map: &mut [u8], count: usize) {
         let b = bit;
         bit += 1;
         if b < count {
-            maps::mark(map, b);
+            maps::set_bit(map, b);
         }
     }
 }
@@ -81,7 +81,7 @@ fn shown(what: &[u8], bytes: &[u8]) {
 }
 
 fn added(what: &[u8], image: &[u8], report: &mut [u8]) {
-    let answer = bytereports::add(image, report);
+    let answer = report_bytes::add(image, report);
     answered(what, answer);
 }
 
@@ -132,10 +132,10 @@ fn joined(image: &[u8], first: [u8; 496]) {
     let mut two = [0u8; 496];
     added(b"an empty disk", image, &mut two);
     shown(b"another report", &two);
-    let both = bytereports::join(&mut one, &two);
+    let both = report_bytes::join(&mut one, &two);
     answered(b"the one joined by the other", both);
     shown(b"the join", &one);
-    let other = bytereports::join(&mut two, &first);
+    let other = report_bytes::join(&mut two, &first);
     answered(b"the other joined by the one", other);
     shown(b"the join", &two);
 }
@@ -147,11 +147,11 @@ fn fullest(image: &[u8]) {
     points::set(&mut report, 1, 255);
     let mut other = [0u8; 496];
     points::set(&mut other, 4, 2);
-    let early = bytereports::join(&mut report, &other);
+    let early = report_bytes::join(&mut report, &other);
     answered(b"65534 joined by 2", early);
     added(b"65534 and a disk", image, &mut report);
     added(b"65535 and a disk", image, &mut report);
-    let none = bytereports::join(&mut other, &report);
+    let none = report_bytes::join(&mut other, &report);
     answered(b"2 joined by 65535", none);
     shown(b"the report of 65535", &report);
 }
@@ -163,7 +163,7 @@ fn lengths(image: &[u8]) {
     buffers::copy_into(&mut long, 0, &zeros);
     let mut short = [0u8; 495];
     added(b"a report of 495 bytes", image, &mut short);
-    let other = bytereports::join(&mut long, &short);
+    let other = report_bytes::join(&mut long, &short);
     answered(b"joined by one of 495 bytes", other);
     added(b"a report of 500 bytes", image, &mut long);
     shown(b"with 9 in every byte past its numbers", &long);

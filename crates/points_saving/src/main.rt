@@ -3,7 +3,7 @@
 fn saved(what: &[u8], image: &mut [u8], name: &[u8], body: &[u8], list: &mut [u16]) {
     points::title(b"save of ", what);
     let answer = saves::save(image, 19, name, 29, 32768, b"", b"", body, list);
-    points::told(answer, list);
+    points::print_change(answer, list);
 }
 
 fn saved_at(
@@ -16,13 +16,13 @@ fn saved_at(
 ) {
     points::title(b"save of ", what);
     let answer = saves::save(image, kind, b"FILE X", page, offset, b"", b"", b"", list);
-    points::told(answer, list);
+    points::print_change(answer, list);
 }
 
 fn erased(image: &mut [u8], name: &[u8], list: &mut [u16]) {
     points::title(b"erase of ", name);
     let answer = changes::erase(image, name, list);
-    points::told(answer, list);
+    points::print_change(answer, list);
 }
 
 // The largest body that a disk holds, and the next.

@@ -1,5 +1,5 @@
 // Points of document 02's M-107: files of kinds 1 to 4, whose header has their length and their start.
-use readers::Opened;
+use readers::OpenAnswer;
 use refusals::Answer;
 
 mod disks; // the disk that is tried
@@ -19,7 +19,7 @@ fn read(what: &[u8], image: &[u8], name: &[u8]) {
 fn played(what: &[u8], image: &[u8], name: &[u8]) {
     points::title(b"opening of ", what);
     match readers::begin(image, name) {
-        Opened::At(p) => {
+        OpenAnswer::At(p) => {
             points::number(b"left ", p.left);
             let mut buf = [b'.'; 4];
             let piece = readers::resume(image, p, &mut buf);
@@ -28,7 +28,7 @@ fn played(what: &[u8], image: &[u8], name: &[u8]) {
             points::say(&buf);
             points::say(b"\n");
         }
-        Opened::No(r) => points::refused(r),
+        OpenAnswer::Err(r) => points::refused(r),
     }
 }
 
@@ -155,7 +155,7 @@ fn told(answer: Answer) {
             points::number(b"sectors ", n);
             points::say(b"\n");
         }
-        Answer::No(r) => points::refused(r),
+        Answer::Err(r) => points::refused(r),
     }
 }
 

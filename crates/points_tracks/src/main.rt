@@ -31,7 +31,7 @@ fn file(image: &mut [u8], i: usize, bit: usize)
     ];
     buffers::copy_into(image, at, &front);
     let mut map = [0u8; 195];
-    maps::mark(&mut map, bit);
+    maps::set_bit(&mut map, bit);
     buffers::copy_into(image, at + 15, &map);
     match geometry::address_of(bit) {
         Address::Sector(track, sector) => {
@@ -79,14 +79,14 @@ fn saved(what: &[u8], image: &mut [u8], name: &[u8]) {
     let mut list = [0u16; 3];
     points::title(b"save of ", what);
     let answer = saves::save(image, 16, name, 0, 32768, b"", b"", b"body", &mut list);
-    points::told(answer, &list);
+    points::print_change(answer, &list);
 }
 
 fn erased(what: &[u8], image: &mut [u8], name: &[u8]) {
     let mut list = [0u16; 3];
     points::title(b"erase of ", what);
     let answer = changes::erase(image, name, &mut list);
-    points::told(answer, &list);
+    points::print_change(answer, &list);
 }
 
 // A body of four bytes.
@@ -100,7 +100,7 @@ fn read(what: &[u8], image: &[u8], name: &[u8]) {
             points::say(&body);
             points::say(b"\n");
         }
-        Answer::No(r) => points::refused(r),
+        Answer::Err(r) => points::refused(r),
     }
 }
 

@@ -9,7 +9,7 @@ fn put(image: &mut [u8], at: usize, b: u8) {
 }
 
 // A directory in slot `i`, counted from 0, with a name of two letters, its code and the code of the one that it is in.
-fn folder(image: &mut [u8], i: usize, code: u8, parent: u8)
+fn directory_slot(image: &mut [u8], i: usize, code: u8, parent: u8)
     requires { ⌜ i < 300 ⌝ }
 {
     let at = directory::slot_place(i);
@@ -29,7 +29,7 @@ fn file(image: &mut [u8], parent: u8) {
 // How many, and the front of the list as it then is.
 fn treed_into(what: &[u8], image: &[u8], name: &[u8], list: &mut [u16]) {
     points::title(b"tree of ", what);
-    match treelists::list_tree(image, name, list) {
+    match tree_lists::list_tree(image, name, list) {
         Answer::Done(n, _) => {
             points::number(b"slots ", n);
             points::three(
@@ -39,7 +39,7 @@ fn treed_into(what: &[u8], image: &[u8], name: &[u8], list: &mut [u16]) {
                 points::listed_at(list, 2),
             );
         }
-        Answer::No(r) => points::refused(r),
+        Answer::Err(r) => points::refused(r),
     }
 }
 
@@ -52,12 +52,12 @@ fn erased(what: &[u8], image: &mut [u8], name: &[u8]) {
     let mut list = [0u16; 1];
     points::title(b"erase of ", what);
     let answer = changes::erase(image, name, &mut list);
-    points::told(answer, &list);
+    points::print_change(answer, &list);
 }
 
 // An empty directory: what its kind refuses, and what it does not.
 fn empty_directory(image: &mut [u8]) {
-    folder(image, 0, 9, 0);
+    directory_slot(image, 0, 9, 0);
     points::checked(b"an empty directory", image);
     treed(b"an empty directory", image, b"AA");
     treed(b"the root", image, b"");
@@ -84,9 +84,9 @@ fn short_lists(image: &[u8]) {
 
 // Slot 2 in slot 1's directory, slot 5 in slot 2's.
 fn directories_and_a_file(image: &mut [u8]) {
-    folder(image, 1, 4, 9);
-    folder(image, 2, 5, 0);
-    folder(image, 3, 6, 0);
+    directory_slot(image, 1, 4, 9);
+    directory_slot(image, 2, 5, 0);
+    directory_slot(image, 3, 6, 0);
     file(image, 4);
     points::checked(b"directories and a file", image);
 }
@@ -117,42 +117,42 @@ fn protected_and_last(image: &mut [u8]) {
 
 // 28: a ring of two with a third that hangs from it, and a directory inside itself.
 fn rings(image: &mut [u8]) {
-    folder(image, 0, 1, 2);
-    folder(image, 1, 2, 1);
-    folder(image, 2, 3, 1);
+    directory_slot(image, 0, 1, 2);
+    directory_slot(image, 1, 2, 1);
+    directory_slot(image, 2, 3, 1);
     points::checked(b"a ring of two and one that hangs from it", image);
     treed(b"a ring of two", image, b"");
 }
 
 fn ring_of_others(image: &mut [u8]) {
-    folder(image, 0, 3, 1);
-    folder(image, 2, 1, 2);
+    directory_slot(image, 0, 3, 1);
+    directory_slot(image, 2, 1, 2);
     treed(b"a ring behind one that hangs from it", image, b"");
-    folder(image, 0, 1, 0);
-    folder(image, 2, 3, 1);
+    directory_slot(image, 0, 1, 0);
+    directory_slot(image, 2, 3, 1);
 }
 
 fn inside_itself(image: &mut [u8]) {
-    folder(image, 1, 2, 2);
+    directory_slot(image, 1, 2, 2);
     treed(b"a directory inside itself", image, b"");
     erased(b"a directory inside itself", image, b"AB");
-    folder(image, 1, 2, 2);
-    folder(image, 3, 5, 0);
+    directory_slot(image, 1, 2, 2);
+    directory_slot(image, 3, 5, 0);
     file(image, 8);
     treed(b"an orphan behind it", image, b"");
 }
 
 // 27, then 26, which comes first.
 fn orphan(image: &mut [u8]) {
-    folder(image, 1, 2, 0);
+    directory_slot(image, 1, 2, 0);
     treed(b"an orphan", image, b"");
-    folder(image, 3, 1, 7);
+    directory_slot(image, 3, 1, 7);
     treed(b"two directories with one code", image, b"");
     erased(b"the first of them", image, b"AA");
 }
 
 fn code_0(image: &mut [u8]) {
-    folder(image, 3, 0, 0);
+    directory_slot(image, 3, 0, 0);
     treed(b"a directory with code 0", image, b"");
     erased(b"a directory with code 0", image, b"AD");
 }
@@ -161,7 +161,7 @@ fn code_0(image: &mut [u8]) {
 fn nested(image: &mut [u8]) {
     let mut i: usize = 0;
     while i < 255 {
-        folder(image, i, (i + 1) as u8, i as u8);
+        directory_slot(image, i, (i + 1) as u8, i as u8);
         i += 1;
     }
     put(image, 255, 9);
@@ -188,7 +188,7 @@ fn deep(image: &[u8]) {
 fn deep_erased(image: &mut [u8]) {
     erased(b"the last but one", image, b"JT");
     erased(b"the last", image, b"JU");
-    folder(image, 254, 255, 254);
+    directory_slot(image, 254, 255, 254);
     put(image, 254, 255);
     treed(b"a ring of 255", image, b"");
 }

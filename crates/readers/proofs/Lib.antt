@@ -1,5 +1,5 @@
 pub mod Positions
-pub mod Standing
+pub mod PositionAt
 pub mod Runs
 pub mod Cut
 pub mod Opening

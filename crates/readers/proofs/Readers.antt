@@ -9,23 +9,23 @@ use Rattle.buffers.specs.Bytes.{part}
 use Rattle.buffers.proofs.Lists.{length-tab, part-put, put-after, length-put}
 use Rattle.refusals.specs.Answers.{done, out}
 use Rattle.headers.specs.Header.{body}
-use Rattle.disk.specs.Look.{look}
+use Rattle.disk.specs.View.{view}
 use Rattle.files.specs.Calls.{fileNamed, reading}
 use Rattle.readers.specs.declared.Reader.{Reader}
-use Rattle.readers.specs.Pieces.{pieceBytes, pieceOf, nextPlace, joined, placePast, total}
-use Rattle.readers.specs.Opening.{at, beginOf, beginning}
+use Rattle.readers.specs.Pieces.{nextBytes, pieceOf, nextPlace, joined, placePast, total}
+use Rattle.readers.specs.Opening.{openedAt, bodyPlace, openFile}
 use Rattle.readers.specs.Readers.{readerAt, readerPlace, readerPiece, readerBytes, readerBuffer, readerAfter, readerJoined, readerPast}
-use Rattle.readers.specs.Played.{Fills, Sums, Plays, OneRead}
-use Rattle.readers.proofs.Standing.{bounded}
+use Rattle.readers.specs.ReadInPieces.{Fills, PiecesJoin, ReadsBody, OneRead}
+use Rattle.readers.proofs.PositionAt.{bounded}
 use Rattle.readers.proofs.Cut.{joined-one, past-one}
 use Rattle.readers.proofs.Joined.{joined-first, joined-whole, each-piece, each-came, each-left}
 use Rattle.readers.proofs.OneRead.{read-body}
 
 -- ---- its pieces are those of its disk and its place
 
-pub after-is : (r : Reader) (room : ℕ) → readerAfter r room ≡ readerAt (r .image) (nextPlace (now (r .image)) (readerPlace r) room)
+pub reader-after-is : (r : Reader) (room : ℕ) → readerAfter r room ≡ readerAt (r .image) (nextPlace (now (r .image)) (readerPlace r) room)
 unfolding pieceOf
-after-is r room = refl
+reader-after-is r room = refl
 
 pub joined-is : (rooms : List ℕ) (r : Reader) → readerJoined r rooms ≡ joined (now (r .image)) (readerPlace r) rooms
 unfolding readerJoined joined pieceOf
@@ -40,7 +40,7 @@ past-is (room ∷ rooms) r = past-is rooms (readerAfter r room)
 -- ---- of any reader
 
 came-long : (r : Reader) (room : ℕ) → readerPiece r room .came ≡ length (readerBytes r room)
-unfolding pieceOf pieceBytes
+unfolding pieceOf nextBytes
 came-long r room = sym (length-tab _ _)
 
 pub fills : (r : Reader) (buf : List ℕ) → Fills r buf
@@ -54,17 +54,17 @@ fills r buf =
       long = length-put buf 0 (readerBytes r (length buf));
     }
 
-pub sums : (r : Reader) (room : ℕ) (rooms : List ℕ) → Sums r room rooms
-sums r room rooms = record {
+pub pieces-join : (r : Reader) (room : ℕ) (rooms : List ℕ) → PiecesJoin r room rooms
+pieces-join r room rooms = record {
   bytes = joined-is (room ∷ rooms) r ∙ joined-one (now (r .image)) (room ∷ rooms) (readerPlace r);
-  state = past-is (room ∷ rooms) r ∙ ap (readerAt (r .image)) (past-one (now (r .image)) rooms (readerPlace r) room) ∙ sym (after-is r (total (room ∷ rooms)));
+  state = past-is (room ∷ rooms) r ∙ ap (readerAt (r .image)) (past-one (now (r .image)) rooms (readerPlace r) room) ∙ sym (reader-after-is r (total (room ∷ rooms)));
 }
 
 -- ---- of a reader at the place where its disk has a file's body begin
 
-pub plays : (n : List ℕ) (r : Reader) → beginning (now (r .image)) n ≡ at (readerPlace r) → Plays r (body (fileNamed (look (now (r .image))) n))
+pub reads-body : (n : List ℕ) (r : Reader) → openFile (now (r .image)) n ≡ openedAt (readerPlace r) → ReadsBody r (body (fileNamed (view (now (r .image))) n))
 unfolding pieceOf
-plays n r e =
+reads-body n r e =
     let d = now (r .image) in
     let p = readerPlace r in
     record {
@@ -80,10 +80,10 @@ plays n r e =
 pub one-read : (s : RefT (List ℕ)) (n buf : List ℕ) (v f : ℕ) (x : List ℕ) → reading (now s) n buf ≡ out (done v f) x → OneRead s n v x
 one-read s n buf v f x e =
     let w = read-body (now s) n buf v f x e in
-    let p = beginOf (fileNamed (look (now s)) n) in
+    let p = bodyPlace (fileNamed (view (now s)) n) in
     record {
       place = p;
       begins = w .begins;
       left = w .long;
-      plays = subst (Plays (readerAt s p)) (sym (w .front)) (plays n (readerAt s p) (w .begins));
+      plays = subst (ReadsBody (readerAt s p)) (sym (w .front)) (reads-body n (readerAt s p) (w .begins));
     }

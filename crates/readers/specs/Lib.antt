@@ -2,4 +2,4 @@ pub mod Positions
 pub mod Pieces
 pub mod Opening
 pub mod Readers
-pub mod Played
+pub mod ReadInPieces

@@ -11,13 +11,13 @@ use Rattle.geometry.specs.Disk.{imageSize}
 use Rattle.readers.specs.declared.Position.{Position}
 use Rattle.readers.specs.declared.Place.{Place}
 use Rattle.readers.specs.declared.Piece.{Piece}
-use Rattle.readers.specs.Positions.{positionOf, nowhere, isByte, byteAt, further}
+use Rattle.readers.specs.Positions.{positionOf, noPosition, isByte, byteAt, positionAfter}
 
 -- ---- "its place in the chain"
 
 -- byte `offset` of sector `sector` is the next, and `left` bytes are left
-abbrev pub placeOf : ℕ → ℕ → ℕ → Place
-placeOf n o l = record { sector = n; offset = o; left = l }
+abbrev pub readPlace : ℕ → ℕ → ℕ → Place
+readPlace n o l = record { sector = n; offset = o; left = l }
 
 -- the longest body that a disk holds: 510 × 1,560 less the nine bytes of the header
 abbrev pub longest : ℕ
@@ -25,48 +25,48 @@ longest = 795591
 
 -- "Of a reader, .., that was not made by our calls alone it is asked only that each call answers": the numbers can be a reader's
 -- where the image has a disk's size, the sector and the byte are there, and no more is left than a disk holds
-unfoldable pub canBe : List ℕ → Place → Bool
-canBe d p = eqb (length d) imageSize && (ltb (p .sector) 1600 && (ltb (p .offset) 510 && leb (p .left) longest))
+unfoldable pub isReaderPlace : List ℕ → Place → Bool
+isReaderPlace d p = eqb (length d) imageSize && (ltb (p .sector) 1600 && (ltb (p .offset) 510 && leb (p .left) longest))
 
 -- where the next byte stands: nowhere, if they can be no reader's
-unfoldable pub standing : List ℕ → Place → Position
-standing d p = cond (canBe d p) (positionOf (p .sector) (p .offset)) nowhere
+unfoldable pub positionAt : List ℕ → Place → Position
+positionAt d p = cond (isReaderPlace d p) (positionOf (p .sector) (p .offset)) noPosition
 
 -- ---- one piece
 
 -- how many come of those wanted: a chain that is no file's may end before
-unfoldable pub coming : List ℕ → Position → ℕ → ℕ
-coming d q want = count want (λ k. isByte (further d q k))
+unfoldable pub bytesComing : List ℕ → Position → ℕ → ℕ
+bytesComing d q want = count want (λ k. isByte (positionAfter d q k))
 
 -- "as many as a lent buffer holds, 0 allowed, until the body ends": into a buffer of `room` bytes
-unfoldable pub cameOf : List ℕ → Place → ℕ → ℕ
-cameOf d p room = coming d (standing d p) (min (p .left) room)
+unfoldable pub bytesCame : List ℕ → Place → ℕ → ℕ
+bytesCame d p room = bytesComing d (positionAt d p) (min (p .left) room)
 
 -- "the next bytes"
-unfoldable pub pieceBytes : List ℕ → Place → ℕ → List ℕ
-pieceBytes d p room = tab (cameOf d p room) (λ k. byteAt d (further d (standing d p) k))
+unfoldable pub nextBytes : List ℕ → Place → ℕ → List ℕ
+nextBytes d p room = tab (bytesCame d p room) (λ k. byteAt d (positionAfter d (positionAt d p) k))
 
 -- "what isn't filled stays": the lent buffer after it
 abbrev pub bufferAfter : List ℕ → Place → List ℕ → List ℕ
-bufferAfter d p buf = put buf 0 (pieceBytes d p (length buf))
+bufferAfter d p buf = put buf 0 (nextBytes d p (length buf))
 
 -- the place when c bytes have come
 unfoldable pub placeAfter : List ℕ → Place → ℕ → Place
-placeAfter d p c = placeOf (further d (standing d p) c .sector) (further d (standing d p) c .offset) (p .left - c)
+placeAfter d p c = readPlace (positionAfter d (positionAt d p) c .sector) (positionAfter d (positionAt d p) c .offset) (p .left - c)
 
 abbrev pub nextPlace : List ℕ → Place → ℕ → Place
-nextPlace d p room = placeAfter d p (cameOf d p room)
+nextPlace d p room = placeAfter d p (bytesCame d p room)
 
 -- "each piece answers how many came": and where the next one begins
-abbrev pub answerOf : ℕ → Place → Piece
-answerOf c p = record { came = c; sector = p .sector; offset = p .offset; left = p .left }
+abbrev pub pieceAt : ℕ → Place → Piece
+pieceAt c p = record { came = c; sector = p .sector; offset = p .offset; left = p .left }
 
 unfoldable pub pieceOf : List ℕ → Place → ℕ → Piece
-pieceOf d p room = answerOf (cameOf d p room) (nextPlace d p room)
+pieceOf d p room = pieceAt (bytesCame d p room) (nextPlace d p room)
 
 -- what comes of numbers that can be no reader's
 abbrev pub noPiece : ℕ → Piece
-noPiece l = answerOf 0 (placeOf 1600 0 l)
+noPiece l = pieceAt 0 (readPlace 1600 0 l)
 
 -- ---- one piece after another, into buffers of these lengths
 
@@ -78,7 +78,7 @@ total (room ∷ rooms) = room + total rooms
 -- "The pieces joined"
 unfoldable pub joined : List ℕ → Place → List ℕ → List ℕ
 joined d p [] = []
-joined d p (room ∷ rooms) = pieceBytes d p room ++ joined d (nextPlace d p room) rooms
+joined d p (room ∷ rooms) = nextBytes d p room ++ joined d (nextPlace d p room) rooms
 
 -- the place after them
 unfoldable pub placePast : List ℕ → Place → List ℕ → Place
@@ -87,7 +87,7 @@ placePast d p (room ∷ rooms) = placePast d (nextPlace d p room) rooms
 
 -- ---- what the step of a piece is entered with
 
-pub record Placed (d : List ℕ) (p : Place) : Type 0 where
+pub record PlaceInRange (d : List ℕ) (p : Place) : Type 0 where
   pub long : length d ≡ imageSize
   pub sector-small : p .sector < 1600
   pub offset-small : p .offset < 510

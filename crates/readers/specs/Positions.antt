@@ -14,19 +14,19 @@ numberOrEnd b = placeOrEnd b / 512
 
 -- "Bytes 511 and 512 of a data sector, counted from one, are the next track and sector.": the number of the sector that
 -- sector n leads to; 1,600 where they name no data sector
-unfoldable pub leads : List ℕ → ℕ → ℕ
-leads d n = numberOrEnd (bitOf (getD d (n * 512 + 510) 0) (getD d (n * 512 + 511) 0))
+unfoldable pub nextSectorNumber : List ℕ → ℕ → ℕ
+nextSectorNumber d n = numberOrEnd (bitOf (getD d (n * 512 + 510) 0) (getD d (n * 512 + 511) 0))
 
 abbrev pub positionOf : ℕ → ℕ → Position
 positionOf n o = record { sector = n; offset = o }
 
 -- where a chain that has ended stands
-abbrev pub nowhere : Position
-nowhere = positionOf 1600 0
+abbrev pub noPosition : Position
+noPosition = positionOf 1600 0
 
 -- "510 payload bytes to a sector": byte o of sector n; past the last, the first of the sector that it leads to
-unfoldable pub ahead : List ℕ → ℕ → ℕ → Position
-ahead d n o = cond (ltb o 510) (positionOf n o) (positionOf (leads d n) 0)
+unfoldable pub positionOrNext : List ℕ → ℕ → ℕ → Position
+positionOrNext d n o = cond (ltb o 510) (positionOf n o) (positionOf (nextSectorNumber d n) 0)
 
 -- a byte stands there
 abbrev pub isByte : Position → Bool
@@ -36,10 +36,10 @@ abbrev pub byteAt : List ℕ → Position → ℕ
 byteAt d p = getD d (p .sector * 512 + p .offset) 0
 
 -- one byte further, where one stands
-unfoldable pub onward : List ℕ → Position → Position
-onward d p = cond (isByte p) (ahead d (p .sector) (suc (p .offset))) p
+unfoldable pub nextPosition : List ℕ → Position → Position
+nextPosition d p = cond (isByte p) (positionOrNext d (p .sector) (suc (p .offset))) p
 
 -- k bytes further
-unfoldable pub further : List ℕ → Position → ℕ → Position
-further d p zero = p
-further d p (suc k) = onward d (further d p k)
+unfoldable pub positionAfter : List ℕ → Position → ℕ → Position
+positionAfter d p zero = p
+positionAfter d p (suc k) = nextPosition d (positionAfter d p k)

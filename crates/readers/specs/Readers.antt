@@ -5,7 +5,7 @@ use denote.Ref.{RefT, now}
 use Rattle.readers.specs.declared.Place.{Place}
 use Rattle.readers.specs.declared.Piece.{Piece}
 use Rattle.readers.specs.declared.Reader.{Reader}
-use Rattle.readers.specs.Pieces.{placeOf, pieceBytes, bufferAfter, pieceOf}
+use Rattle.readers.specs.Pieces.{readPlace, nextBytes, bufferAfter, pieceOf}
 
 -- a reader of a disk at a place
 abbrev pub readerAt : RefT (List ℕ) → Place → Reader
@@ -13,14 +13,14 @@ readerAt s p = record { image = s; sector = p .sector; offset = p .offset; left 
 
 -- its place in the chain
 abbrev pub readerPlace : Reader → Place
-readerPlace r = placeOf (r .sector) (r .offset) (r .left)
+readerPlace r = readPlace (r .sector) (r .offset) (r .left)
 
 -- what its next piece, into a buffer of `room` bytes, answers, and the piece's bytes
 abbrev pub readerPiece : Reader → ℕ → Piece
 readerPiece r room = pieceOf (now (r .image)) (readerPlace r) room
 
 abbrev pub readerBytes : Reader → ℕ → List ℕ
-readerBytes r room = pieceBytes (now (r .image)) (readerPlace r) room
+readerBytes r room = nextBytes (now (r .image)) (readerPlace r) room
 
 -- a lent buffer after it
 abbrev pub readerBuffer : Reader → List ℕ → List ℕ

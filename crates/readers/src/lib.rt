@@ -3,9 +3,9 @@ ghost use mathlib.Core.Path.{_≡_};
 ghost use Prim.Native.Nat.{_<_};
 ghost use lib.ListN.{length};
 ghost use Rattle.chains.specs.File.{fileOf};
-ghost use Rattle.readers.specs.Positions.{ahead};
-ghost use Rattle.readers.specs.Pieces.{placeOf, pieceOf, bufferAfter, noPiece, Placed};
-ghost use Rattle.readers.specs.Opening.{beginAt, beginning, openedOf};
+ghost use Rattle.readers.specs.Positions.{positionOrNext};
+ghost use Rattle.readers.specs.Pieces.{readPlace, pieceOf, bufferAfter, noPiece, PlaceInRange};
+ghost use Rattle.readers.specs.Opening.{openFileAt, openFile, fileOpeningOf};
 ghost use Rattle.readers.specs.Readers.{readerAt, readerPiece, readerAfter, readerBuffer};
 use files::Lookup;
 use refusals::Reason;
@@ -43,9 +43,9 @@ pub struct Piece {
 
 // What opening answers: where the body begins, with its length, or a refusal. An enum can hold no reference, so the reader
 // itself is made of the place.
-pub enum Opened {
+pub enum OpenAnswer {
     At(Place),
-    No(Refused),
+    Err(Refused),
 }
 
 // "The reader holds the lent disk and its place in the chain." While it is held the disk is lent to it: "A disk being read can't
@@ -60,7 +60,7 @@ pub struct Reader<'a> {
 // The position of byte `offset` of a sector's payload; past its last byte, the first of the sector that its link names.
 fn position_at(image: &[u8], sector: usize, offset: usize) -> Position
     requires { ⌜ sector < 1600 ⌝ }
-    ensures { λ r. ⌜ r ≡ ahead (now (image .entry)) sector offset ⌝ }
+    ensures { λ r. ⌜ r ≡ positionOrNext (now (image .entry)) sector offset ⌝ }
 {
     if offset < PAYLOAD {
         return Position { sector, offset };
@@ -77,8 +77,8 @@ fn position_at(image: &[u8], sector: usize, offset: usize) -> Position
 // Copies the next bytes to the front of `out`, as many as are left or as it holds: from each sector one run. A chain that is
 // no file's may end before.
 fn copy_runs(image: &[u8], sector: usize, offset: usize, left: usize, out: &mut [u8]) -> Piece
-    requires { ⌜ Placed (now image) (placeOf sector offset left) ⌝ }
-    ensures { λ r. ⌜ (r ≡ pieceOf (now (image .entry)) (placeOf sector offset left) (length (now (out .entry)))) × (now (out .exit) ≡ bufferAfter (now (image .entry)) (placeOf sector offset left) (now (out .entry))) ⌝ }
+    requires { ⌜ PlaceInRange (now image) (readPlace sector offset left) ⌝ }
+    ensures { λ r. ⌜ (r ≡ pieceOf (now (image .entry)) (readPlace sector offset left) (length (now (out .entry)))) × (now (out .exit) ≡ bufferAfter (now (image .entry)) (readPlace sector offset left) (now (out .entry))) ⌝ }
 {
     let want = buffers::lesser(left, out.len());
     let mut at = sector;
@@ -123,7 +123,7 @@ fn nothing_from(left: usize) -> Piece
 // The next bytes to the front of `out`, from byte `offset` of a sector on, of a body that has `left` bytes left. It answers for
 // numbers of any size and an image of any length.
 pub fn piece_at(image: &[u8], sector: usize, offset: usize, left: usize, out: &mut [u8]) -> Piece
-    ensures { λ r. ⌜ (r ≡ pieceOf (now (image .entry)) (placeOf sector offset left) (length (now (out .entry)))) × (now (out .exit) ≡ bufferAfter (now (image .entry)) (placeOf sector offset left) (now (out .entry))) ⌝ }
+    ensures { λ r. ⌜ (r ≡ pieceOf (now (image .entry)) (readPlace sector offset left) (length (now (out .entry)))) × (now (out .exit) ≡ bufferAfter (now (image .entry)) (readPlace sector offset left) (now (out .entry))) ⌝ }
 {
     if image.len() != geometry::IMAGE_SIZE {
         return nothing_from(left);
@@ -141,16 +141,16 @@ pub fn piece_at(image: &[u8], sector: usize, offset: usize, left: usize, out: &m
 }
 
 // Where the body of the file in a slot begins, whose number is `slot`: past the nine bytes of its header.
-fn begin_at(image: &[u8], s: &[u8], slot: usize) -> Opened
-    ensures { λ r. ⌜ openedOf r ≡ beginAt slot (fileOf (now (image .entry)) (now (s .entry))) ⌝ }
+fn begin_at(image: &[u8], s: &[u8], slot: usize) -> OpenAnswer
+    ensures { λ r. ⌜ fileOpeningOf r ≡ openFileAt slot (fileOf (now (image .entry)) (now (s .entry))) ⌝ }
 {
     if !slots::is_readable(slots::kind_of(s)) {
-        return Opened::No(Refused {
+        return OpenAnswer::Err(Refused {
             reason: Reason::WrongKind,
             slot,
         });
     }
-    Opened::At(Place {
+    OpenAnswer::At(Place {
         sector: geometry::bit_place(slots::first_of(s)) / 512,
         offset: 9,
         left: headers::file_length(image, s),
@@ -158,11 +158,11 @@ fn begin_at(image: &[u8], s: &[u8], slot: usize) -> Opened
 }
 
 // Opens a file by name: where its body begins and how long it is. What a read refuses is refused here, but for 20.
-pub fn begin(image: &[u8], name: &[u8]) -> Opened
-    ensures { λ r. ⌜ openedOf r ≡ beginning (now (image .entry)) (now (name .entry)) ⌝ }
+pub fn begin(image: &[u8], name: &[u8]) -> OpenAnswer
+    ensures { λ r. ⌜ fileOpeningOf r ≡ openFile (now (image .entry)) (now (name .entry)) ⌝ }
 {
     match files::look_up(image, name) {
-        Lookup::Barred(r) => Opened::No(r),
+        Lookup::Err(r) => OpenAnswer::Err(r),
         Lookup::At(i) => begin_at(image, directory::slot_at(image, i), i + 1),
     }
 }

@@ -2,4 +2,4 @@ pub mod Clear
 pub mod Sectors
 pub mod Longer
 pub mod Blocks
-pub mod Settle
+pub mod PieceResult

@@ -12,31 +12,31 @@ use Rattle.buffers.proofs.Lists.{below-or-not}
 use Rattle.slots.specs.Slot.{sectorsFor}
 use Rattle.slots.proofs.Least.{sectors-least, sectors-some}
 use Rattle.recordings.specs.declared.Record.{Record}
-use Rattle.recordings.specs.Record.{lastFrom, grownLast, grown, zeros}
-use Rattle.record_add.specs.Along.{capped}
+use Rattle.recordings.specs.Record.{lastFrom, lastWith, recordWith, zeros}
+use Rattle.record_add.specs.Adding.{sectorsCapped}
 
 -- ---- the sectors of a length
 
-pub capped-most : (n : ℕ) → 795591 < n → 1561 ≡ capped n
-unfolding capped
+pub capped-most : (n : ℕ) → 795591 < n → 1561 ≡ sectorsCapped n
+unfolding sectorsCapped
 capped-most n h = rw (lt-ltb 795591 n h)
 
-pub capped-few : (n : ℕ) → n ≤ 795591 → sectorsFor n ≡ capped n
-unfolding capped
+pub capped-few : (n : ℕ) → n ≤ 795591 → sectorsFor n ≡ sectorsCapped n
+unfolding sectorsCapped
 capped-few n h = rw (le-ltb 795591 n h)
 
 -- a number of sectors that a disk has is the length's own
-pub capped-is : (n k : ℕ) → k ≡ capped n → k ≤ 1560 → (n ≤ 795591) × (k ≡ sectorsFor n)
+pub capped-is : (n k : ℕ) → k ≡ sectorsCapped n → k ≤ 1560 → (n ≤ 795591) × (k ≡ sectorsFor n)
 capped-is n k e h =
     ⊎-elim (λ (l : 795591 < n). absurd (omega (arith, capped-most n l))) (λ (l : n ≤ 795591). (l, e ∙ sym (capped-few n l))) (below-or-not 795591 n)
 
-pub capped-le : (n k : ℕ) → k ≡ capped n → k ≤ sectorsFor n
+pub capped-le : (n k : ℕ) → k ≡ sectorsCapped n → k ≤ sectorsFor n
 unfolding sectorsFor
 capped-le n k e =
     ⊎-elim (λ (l : 795591 < n). omega (arith, capped-most n l)) (λ (l : n ≤ 795591). omega (arith, capped-few n l)) (below-or-not 795591 n)
 
 -- and else both are more than there are
-pub capped-min : (n k : ℕ) → k ≡ capped n → min k 1560 ≡ min (sectorsFor n) 1560
+pub capped-min : (n k : ℕ) → k ≡ sectorsCapped n → min k 1560 ≡ min (sectorsFor n) 1560
 unfolding sectorsFor
 capped-min n k e =
     ⊎-elim (λ (l : 795591 < n). omega (arith, capped-most n l)) (λ (l : n ≤ 795591). ap (λ (k : ℕ). min k 1560) (e ∙ sym (capped-few n l))) (below-or-not 795591 n)
@@ -63,8 +63,8 @@ sectors-rise a b = omega arith
 
 module _ (k : Record) (x : List ℕ) where
   pub goes-on : sectorsFor (k .long + length x) ≡ sectorsFor (k .long) → (f : ℕ) → f ≡ lastFrom (k .long) → (y : List ℕ) → y ≡ put (k .last) (k .long - f) x
-      → y ≡ grownLast k x
-  unfolding grownLast
+      → y ≡ lastWith k x
+  unfolding lastWith
   goes-on e f ef y ey = ey ∙ ap (λ (f : ℕ). put (k .last) (k .long - f) x) ef ∙ sym (rw (eq-eqb (sectorsFor (k .long + length x)) (sectorsFor (k .long)) e))
 
   module _ (e : sectorsFor (k .long + length x) ≢ sectorsFor (k .long)) (f : ℕ) (ef : f ≡ lastFrom (k .long + length x)) where
@@ -77,8 +77,8 @@ module _ (k : Record) (x : List ℕ) where
         omega arith
 
     -- with its bytes as the code has them
-    pub begins : (z : List ℕ) → z ≡ part (f - k .long) (length x) x → (y : List ℕ) → y ≡ put (zeros 510) 0 z → y ≡ grownLast k x
-    unfolding grownLast part
+    pub begins : (z : List ℕ) → z ≡ part (f - k .long) (length x) x → (y : List ℕ) → y ≡ put (zeros 510) 0 z → y ≡ lastWith k x
+    unfolding lastWith part
     begins z ez y ey =
         ey ∙ ap (put (zeros 510) 0) (ez ∙ take-all (length x) (drop (f - k .long) x) (omega (arith, length-drop (f - k .long) x)))
         ∙ ap (λ (f : ℕ). put (zeros 510) 0 (drop (f - k .long) x)) ef ∙ sym (rw (ne-eqb (sectorsFor (k .long + length x)) (sectorsFor (k .long)) e))
@@ -99,6 +99,6 @@ module _ (k : Record) (x : List ℕ) where
     last = l;
   }
 
-  pub grown-is : (f l : List ℕ) → f ≡ put (k .first) (k .long) x → l ≡ grownLast k x → withBytes f l ≡ grown k x
-  unfolding grown
+  pub grown-is : (f l : List ℕ) → f ≡ put (k .first) (k .long) x → l ≡ lastWith k x → withBytes f l ≡ recordWith k x
+  unfolding recordWith
   grown-is f l p q = ap₂ withBytes p q

@@ -10,17 +10,17 @@ use Rattle.buffers.specs.Bytes.{put}
 use Rattle.buffers.proofs.Lists.{length-put, put-none, put-one, put-append}
 use Rattle.geometry.specs.Disk.{bitNumber, bitPlace, placeOrEnd}
 use Rattle.geometry.proofs.Laws.{place-or-end, number-small}
-use Rattle.steps.specs.Steps.{putAll, enact, numbers}
+use Rattle.steps.specs.Steps.{putAll, apply, numbers}
 use Rattle.steps.proofs.Steps.{numbers-take}
-use Rattle.plans.specs.Saving.{block, nextTrack, nextSector}
+use Rattle.plans.specs.Saving.{sectorBytes, nextTrack, nextSector}
 use Rattle.plans.specs.Plan.{dataSteps}
 use Rattle.plans.proofs.Laid.{data-numbers}
-use Rattle.changes.specs.Settled.{Made}
-use Rattle.taking.specs.Taken.{nextClear}
-use Rattle.payloads.specs.declared.Link.{Link}
-use Rattle.payloads.specs.Sector.{linkOf}
-use Rattle.payloads.proofs.Links.{link-bit}
-use Rattle.record_add.specs.Along.{clearFrom, along, Along}
+use Rattle.changes.specs.ChangeCalls.{Applied}
+use Rattle.allocation.specs.Taken.{nextClear}
+use Rattle.sector_writes.specs.declared.Link.{Link}
+use Rattle.sector_writes.specs.Sector.{linkToBit}
+use Rattle.sector_writes.proofs.Links.{link-bit}
+use Rattle.record_add.specs.Adding.{clearFrom, stepsAlong, SectorsAlong}
 use Rattle.record_add.proofs.Clear.{from-next, next-same, from-clear}
 
 -- the number of a bit's sector
@@ -29,8 +29,8 @@ number-at b p h e =
     let q : p ≡ bitNumber b * 512 = e ∙ place-or-end b h in
     (omega arith, omega (arith, number-small b h))
 
-pub stored : (l : List ℕ) (j v n : ℕ) → v ≡ n → set l j v ≡ put l j (n ∷ [])
-stored l j v n e = put-one l j v ∙ ap (λ (n : ℕ). put l j (n ∷ [])) e
+pub set-as-put : (l : List ℕ) (j v n : ℕ) → v ≡ n → set l j v ≡ put l j (n ∷ [])
+set-as-put l j v n e = put-one l j v ∙ ap (λ (n : ℕ). put l j (n ∷ [])) e
 
 take-map : (n : ℕ) (bs : List ℕ) → take n (map bitNumber bs) ≡ map bitNumber (take n bs)
 take-map zero bs = refl
@@ -38,16 +38,16 @@ take-map (suc n) [] = refl
 take-map (suc n) (b ∷ bs) = ap (λ (l : List ℕ). bitNumber b ∷ l) (take-map n bs)
 
 -- j of the sectors are written: e and l are the image and the list then, d and buf as they were; b is the next one's bit
-pub record Written (m : List ℕ) (from count f : ℕ) (st d buf e l : List ℕ) (j b : ℕ) : Type 0 where
+pub record SectorsLoop (m : List ℕ) (from count f : ℕ) (st d buf e l : List ℕ) (j b : ℕ) : Type 0 where
   pub far : j ≤ count
   pub here : clearFrom m b ≡ drop j (clearFrom m from)
   pub clear : nextClear m b ≡ b
   pub long : length e ≡ length d
-  pub left : enact e (take (count - j) (dataSteps st (f + 510 * j) (clearFrom m b))) ≡ enact d (along st f count m from)
+  pub left : apply e (take (count - j) (dataSteps st (f + 510 * j) (clearFrom m b))) ≡ apply d (stepsAlong st f count m from)
   pub list : l ≡ put buf 0 (map bitNumber (take j (clearFrom m from)))
 
-module _ (m : List ℕ) (from count f : ℕ) (st d buf : List ℕ) (a : Along m from count f buf) where
-  pub written-none : Written m from count f st d buf d buf 0 from
+module _ (m : List ℕ) (from count f : ℕ) (st d buf : List ℕ) (a : SectorsAlong m from count f buf) where
+  pub written-none : SectorsLoop m from count f st d buf d buf 0 from
   written-none = record {
     far = omega arith;
     here = refl;
@@ -60,7 +60,7 @@ module _ (m : List ℕ) (from count f : ℕ) (st d buf : List ℕ) (a : Along m 
   abbrev bs : List ℕ
   bs = clearFrom m from
 
-  module _ (e l : List ℕ) (j b : ℕ) (w : Written m from count f st d buf e l j b) where
+  module _ (e l : List ℕ) (j b : ℕ) (w : SectorsLoop m from count f st d buf e l j b) where
     pub written-long : length l ≡ length buf
     written-long = ap length (w .list) ∙ length-put buf 0 (map bitNumber (take j (clearFrom m from)))
 
@@ -85,10 +85,10 @@ module _ (m : List ℕ) (from count f : ℕ) (st d buf : List ℕ) (a : Along m 
           let r = from-clear m n z (omega (arith, ap length q, some, ap length (one .1))) in
           (r .0, sym q ∙ r .1)
 
-      pub written-more : (n : ℕ) → n ≡ nextClear m (b + 1) → (k : Link) → k ≡ linkOf n → (e′ : List ℕ)
-          → e′ ≡ put e (placeOrEnd b) (block st (f + 510 * j) (k .track) (k .sector)) → (l′ : List ℕ) → l′ ≡ put l j (bitNumber b ∷ [])
-          → Written m from count f st d buf e′ l′ (j + 1) n
-      unfolding enact putAll dataSteps
+      pub written-more : (n : ℕ) → n ≡ nextClear m (b + 1) → (k : Link) → k ≡ linkToBit n → (e′ : List ℕ)
+          → e′ ≡ put e (placeOrEnd b) (sectorBytes st (f + 510 * j) (k .track) (k .sector)) → (l′ : List ℕ) → l′ ≡ put l j (bitNumber b ∷ [])
+          → SectorsLoop m from count f st d buf e′ l′ (j + 1) n
+      unfolding apply putAll dataSteps
       written-more n en k ek e′ ee l′ el = record {
         far = omega arith;
         here = rest;
@@ -102,13 +102,13 @@ module _ (m : List ℕ) (from count f : ℕ) (st d buf : List ℕ) (a : Along m 
           q = ap (clearFrom m) en ∙ from-next m (b + 1) (omega (arith, written-bit)) ∙ ap (clearFrom m) (add-one b)
 
           bytes : List ℕ
-          bytes = block st (f + 510 * j) (nextTrack (clearFrom m (suc b))) (nextSector (clearFrom m (suc b)))
+          bytes = sectorBytes st (f + 510 * j) (nextTrack (clearFrom m (suc b))) (nextSector (clearFrom m (suc b)))
 
           image : e′ ≡ put e (bitPlace b) bytes
           image =
               ee
-              ∙ ap₂ (λ (a : ℕ) (k : Link). put e a (block st (f + 510 * j) (k .track) (k .sector))) (place-or-end b written-bit) (ek ∙ link-bit n (next n en .0))
-              ∙ ap (λ (x : List ℕ). put e (bitPlace b) (block st (f + 510 * j) (nextTrack x) (nextSector x))) (sym (next n en .1))
+              ∙ ap₂ (λ (a : ℕ) (k : Link). put e a (sectorBytes st (f + 510 * j) (k .track) (k .sector))) (place-or-end b written-bit) (ek ∙ link-bit n (next n en .0))
+              ∙ ap (λ (x : List ℕ). put e (bitPlace b) (sectorBytes st (f + 510 * j) (nextTrack x) (nextSector x))) (sym (next n en .1))
 
           rest : clearFrom m n ≡ drop (j + 1) (clearFrom m from)
           rest = q ∙ ap (drop 1) (sym (one .1) ∙ w .here) ∙ drop-drop 1 j bs
@@ -130,12 +130,12 @@ module _ (m : List ℕ) (from count f : ℕ) (st d buf : List ℕ) (a : Along m 
               (ap (λ (k : ℕ). map bitNumber (take k bs)) (add-one j) ∙ ap (map bitNumber) (take-suc bs j 0 (omega (arith, a .enough)) ∙ ap (λ (v : ℕ). take j bs ++ (v ∷ [])) x)
               ∙ map-append bitNumber (take j bs) (b ∷ [])))
 
-    pub written-all : count ≤ j → Made (along st f count m from) d buf e l count
-    unfolding enact
+    pub written-all : count ≤ j → Applied (stepsAlong st f count m from) d buf e l count
+    unfolding apply
     written-all h =
         let z : count - j ≡ 0 = omega arith in
         let y : j ≡ count = omega (arith, w .far) in
-        let n : numbers (along st f count m from) ≡ map bitNumber (take count bs) =
+        let n : numbers (stepsAlong st f count m from) ≡ map bitNumber (take count bs) =
         numbers-take count (dataSteps st f bs) ∙ ap (take count) (data-numbers st f bs) ∙ take-map count bs in
         record {
           many = sym (ap length n ∙ length-map (take count bs) bitNumber ∙ length-take-le count bs (omega (arith, a .enough)));

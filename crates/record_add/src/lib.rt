@@ -6,12 +6,12 @@ ghost use lib.ListN.{length};
 ghost use Rattle.buffers.specs.Bytes.{put};
 ghost use Rattle.geometry.specs.Disk.{bitNumber};
 ghost use Rattle.refusals.specs.Order.{refuse};
-ghost use Rattle.refusals.specs.Answers.{numberOf, outcomeOf, refused};
-ghost use Rattle.changes.specs.Settled.{Made};
-ghost use Rattle.recordings.specs.Recording.{inner, pieceSteps};
-ghost use Rattle.recordings.specs.Record.{lastFrom, grownLast, grown, recordingOf, zeros};
-ghost use Rattle.record_add.specs.Along.{capped, along, Along, Completes, Onward, Adds};
-use links::Trail;
+ghost use Rattle.refusals.specs.Answers.{refusalNumber, outcomeOf, refused};
+ghost use Rattle.changes.specs.ChangeCalls.{Applied};
+ghost use Rattle.recordings.specs.Recording.{innerSectors, pieceSteps};
+ghost use Rattle.recordings.specs.Record.{lastFrom, lastWith, recordWith, recordingOf, zeros};
+ghost use Rattle.record_add.specs.Adding.{sectorsCapped, stepsAlong, SectorsAlong, Completes, PieceReady, AddsPiece};
+use recording_links::Continuation;
 use recordings::Record;
 use refusals::Answer;
 use refusals::Reason;
@@ -26,7 +26,7 @@ pub struct Added {
 
 // How many sectors a body of `long` bytes and `more` takes: 1,561, more than there are, where no disk holds it.
 fn sectors_of(long: usize, more: usize) -> usize
-    ensures { λ r. ⌜ r ≡ capped (long + more) ⌝ }
+    ensures { λ r. ⌜ r ≡ sectorsCapped (long + more) ⌝ }
 {
     if 795591 < long {
         return 1561;
@@ -39,7 +39,7 @@ fn sectors_of(long: usize, more: usize) -> usize
 
 // Of `n` sectors all but the first and the last.
 fn inner_of(n: usize) -> usize
-    ensures { λ r. ⌜ r ≡ inner n ⌝ }
+    ensures { λ r. ⌜ r ≡ innerSectors n ⌝ }
 {
     if n < 2 {
         return 0;
@@ -79,15 +79,15 @@ fn write_sectors(
     from: usize,
     list: &mut [u16],
 )
-    requires { ⌜ Along (now map) bit count from (now list) ⌝ }
-    ensures { λ _. ⌜ Made (along (now (front .entry) ++ now (back .entry)) from count (now (map .entry)) bit) (now (image .entry)) (now (list .entry)) (now (image .exit)) (now (list .exit)) count ⌝ }
+    requires { ⌜ SectorsAlong (now map) bit count from (now list) ⌝ }
+    ensures { λ _. ⌜ Applied (stepsAlong (now (front .entry) ++ now (back .entry)) from count (now (map .entry)) bit) (now (image .entry)) (now (list .entry)) (now (image .exit)) (now (list .exit)) count ⌝ }
 {
     let mut j: usize = 0;
     let mut b = bit;
     while j < count {
-        let next = taking::next_clear(map, b + 1);
-        let link = payloads::link_of(next);
-        payloads::write_sector(image, b, front, back, from + 510 * j, link);
+        let next = allocation::next_clear(map, b + 1);
+        let link = sector_writes::link_of(next);
+        sector_writes::write_sector(image, b, front, back, from + 510 * j, link);
         put_number(list, j, b);
         b = next;
         j += 1;
@@ -115,7 +115,7 @@ fn held_bytes(last: &[u8]) -> [u8; 510]
 // The last sector's bytes with a piece more: it goes on, or another has begun.
 fn grown_last(kept: Record, piece: &[u8]) -> [u8; 510]
     requires { ⌜ kept .long + length (now piece) ≤ 795591 ⌝ }
-    ensures { λ r. ⌜ r ≡ grownLast kept (now (piece .entry)) ⌝ }
+    ensures { λ r. ⌜ r ≡ lastWith kept (now (piece .entry)) ⌝ }
 {
     let long = kept.long;
     let total = long + piece.len();
@@ -131,7 +131,7 @@ fn grown_last(kept: Record, piece: &[u8]) -> [u8; 510]
 // The record with a piece more.
 fn grown(kept: Record, piece: &[u8]) -> Record
     requires { ⌜ kept .long + length (now piece) ≤ 795591 ⌝ }
-    ensures { λ r. ⌜ r ≡ grown kept (now (piece .entry)) ⌝ }
+    ensures { λ r. ⌜ r ≡ recordWith kept (now (piece .entry)) ⌝ }
 {
     let name = kept.name;
     let exec = kept.exec;
@@ -167,7 +167,7 @@ fn write_piece(
     list: &mut [u16],
 )
     requires { ⌜ Completes (now map) bit count kept (now piece) (now list) ⌝ }
-    ensures { λ _. ⌜ Made (pieceSteps (recordingOf kept) (now (piece .entry))) (now (image .entry)) (now (list .entry)) (now (image .exit)) (now (list .exit)) count ⌝ }
+    ensures { λ _. ⌜ Applied (pieceSteps (recordingOf kept) (now (piece .entry))) (now (image .entry)) (now (list .entry)) (now (image .exit)) (now (list .exit)) count ⌝ }
 {
     let long = kept.long;
     if long <= 501 {
@@ -182,10 +182,10 @@ fn write_piece(
 }
 
 // A refusal, which leaves the record as it is.
-fn denied(reason: Reason, kept: Record) -> Added
-    ensures { λ r. ⌜ (outcomeOf (r .answer) ≡ refused (refuse (numberOf reason) 0)) × (r .«record» ≡ kept) ⌝ }
+fn refused_piece(reason: Reason, kept: Record) -> Added
+    ensures { λ r. ⌜ (outcomeOf (r .answer) ≡ refused (refuse (refusalNumber reason) 0)) × (r .«record» ≡ kept) ⌝ }
 {
-    let answer = refusals::no(reason, 0);
+    let answer = refusals::refused_answer(reason, 0);
     Added {
         answer,
         record: kept,
@@ -201,18 +201,18 @@ fn add_at(
     piece: &[u8],
     list: &mut [u16],
 ) -> Added
-    requires { ⌜ Onward (now image) used kept bit ⌝ }
-    ensures { λ r. ⌜ Adds kept (now (piece .entry)) (now (image .entry)) (now (list .entry)) (outcomeOf (r .answer)) (r .«record») (now (image .exit)) (now (list .exit)) ⌝ }
+    requires { ⌜ PieceReady (now image) used kept bit ⌝ }
+    ensures { λ r. ⌜ AddsPiece kept (now (piece .entry)) (now (image .entry)) (now (list .entry)) (outcomeOf (r .answer)) (r .«record») (now (image .exit)) (now (list .exit)) ⌝ }
 {
     let n = sectors_of(kept.long, piece.len());
     if surveys::free_of(used) < n {
-        return denied(Reason::TooFewSectors, kept);
+        return refused_piece(Reason::TooFewSectors, kept);
     }
     let count = inner_of(n) - inner_of(sectors_of(kept.long, 0));
     if list.len() < count {
-        return denied(Reason::BufferTooShort, kept);
+        return refused_piece(Reason::BufferTooShort, kept);
     }
-    let map = taking::shut_bits(used);
+    let map = allocation::unavailable_bits(used);
     write_piece(image, &map, bit, count, kept, piece, list);
     let record = grown(kept, piece);
     Added {
@@ -224,22 +224,22 @@ fn add_at(
 // Adds a piece to a recording: the sectors after the first that now have a byte beyond them are written, the front of `list`
 // gets their numbers, the answer says how many, and the record grows. A refused piece changes nothing.
 pub fn add(image: &mut [u8], kept: Record, piece: &[u8], list: &mut [u16]) -> Added
-    ensures { λ r. ⌜ Adds kept (now (piece .entry)) (now (image .entry)) (now (list .entry)) (outcomeOf (r .answer)) (r .«record») (now (image .exit)) (now (list .exit)) ⌝ }
+    ensures { λ r. ⌜ AddsPiece kept (now (piece .entry)) (now (image .entry)) (now (list .entry)) (outcomeOf (r .answer)) (r .«record») (now (image .exit)) (now (list .exit)) ⌝ }
 {
     let found = disk::examine(image);
     let verdict = found.verdict;
     match verdict {
-        Verdict::Unsound(r) => Added {
-            answer: Answer::No(r),
+        Verdict::Err(r) => Added {
+            answer: Answer::Err(r),
             record: kept,
         },
-        Verdict::Sound => {
+        Verdict::Accepted => {
             let used = found.used;
             let was = kept.used;
             let n = sectors_of(kept.long, 0);
-            match links::follow(image, used, &was, kept.tracks, n) {
-                Trail::Lost => denied(Reason::RecordingMoved, kept),
-                Trail::On(bit) => add_at(image, used, bit, kept, piece, list),
+            match recording_links::follow(image, used, &was, kept.tracks, n) {
+                Continuation::Stale => refused_piece(Reason::RecordingMoved, kept),
+                Continuation::NextBit(bit) => add_at(image, used, bit, kept, piece, list),
             }
         }
     }

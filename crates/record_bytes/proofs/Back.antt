@@ -11,11 +11,11 @@ use Rattle.buffers.proofs.Lists.{length-tab, getD-tab, tab-of, tab-cong, length
 use Rattle.steps.specs.Steps.{Put, putAll}
 use Rattle.steps.proofs.Steps.{putAll-long}
 use Rattle.slots.specs.Slot.{sectorsFor}
-use Rattle.bytereports.specs.Bytes.{fourOf}
-use Rattle.bytereports.proofs.Raising.{four-of}
-use Rattle.recordings.specs.Record.{lastFrom, zeros, grownLast, grown}
+use Rattle.report_bytes.specs.Bytes.{fourOf}
+use Rattle.report_bytes.proofs.Raising.{four-of}
+use Rattle.recordings.specs.Record.{lastFrom, zeros, lastWith, recordWith}
 use Rattle.recordings.specs.declared.Record.{Record}
-use Rattle.record_bytes.specs.Layout.{recordBytes, bytesAt, offsetIn, longIn, recordIn, field, frontOf, bytesOf, grownIn, Fits, RestStays}
+use Rattle.record_bytes.specs.Layout.{recordBytes, bytesAt, recordOffset, recordLength, recordIn, field, frontOf, bytesOf, recordBytesWith, FitsRecord, RestStays}
 use Rattle.record_bytes.proofs.Laid.{record-is}
 
 -- ---- parts that lie behind each other
@@ -87,7 +87,7 @@ pub length-bytes : (k : Record) → length (bytesOf k) ≡ recordBytes
 unfolding bytesOf
 length-bytes k = putAll-long (parts k) (zeros recordBytes) ∙ length-replicate {A = ℕ} 2048 0
 
-module _ (k : Record) (f : Fits k) where
+module _ (k : Record) (f : FitsRecord k) where
   apart : Rising 0 (parts k) recordBytes
   apart = (
     omega arith,
@@ -117,10 +117,10 @@ module _ (k : Record) (f : Fits k) where
       (one-back (k .tracks) (f .tracks) ∙ sym (front 4 (omega arith))) long (sized 231 501 (k .first) (bytesOf k) (f .first) (u .1 .0))
       (sized 732 510 (k .last) (bytesOf k) (f .last) (u .1 .1 .0))
     where
-      offset : k .offset ≡ offsetIn (bytesOf k)
+      offset : k .offset ≡ recordOffset (bytesOf k)
       offset = rw (front 2 (omega arith), front 3 (omega arith)) (two-back (k .offset) (f .offset))
 
-      long : k .long ≡ longIn (bytesOf k)
+      long : k .long ≡ recordLength (bytesOf k)
       long = rw (front 8 (omega arith), front 9 (omega arith), front 10 (omega arith), front 11 (omega arith)) (four-back (k .long) (f .long))
 
 -- the record is read of its first bytes
@@ -133,7 +133,7 @@ record-same b c h =
     part : (a n : ℕ) → a + n ≤ recordBytes → bytesAt a n b ≡ bytesAt a n c
     part a n l = tab-cong n (λ j. getD b (a + j) 0) (λ j. getD c (a + j) 0) (λ j m. h (a + j) (omega arith))
 
-pub opened-back : (b : List ℕ) (k : Record) → recordBytes ≤ length b → Fits k → recordIn (put b 0 (bytesOf k)) ≡ k
+pub opened-back : (b : List ℕ) (k : Record) → recordBytes ≤ length b → FitsRecord k → recordIn (put b 0 (bytesOf k)) ≡ k
 opened-back b k l f = record-same (put b 0 (bytesOf k)) (bytesOf k) byte ∙ sym (bytes-back k f)
   where
     byte : (i : ℕ) → i < recordBytes → getD (put b 0 (bytesOf k)) i 0 ≡ getD (bytesOf k) i 0
@@ -146,17 +146,17 @@ opened-rest b k = record { long = length-put b 0 (bytesOf k); rest = λ i h. put
 
 module _ (b x : List ℕ) where
   abbrev k : Record
-  k = grown (recordIn b) x
+  k = recordWith (recordIn b) x
 
   abbrev raised : List Put
   raised = field 8 (fourOf (k .long)) ∷ field 231 (k .first) ∷ field 732 (k .last) ∷ []
 
   first-long : length (k .first) ≡ 501
-  unfolding grown recordIn
+  unfolding recordWith recordIn
   first-long = length-put (recordIn b .first) (recordIn b .long) x ∙ length-tab 501 (λ j. getD b (231 + j) 0)
 
   last-long : length (k .last) ≡ 510
-  unfolding grown recordIn grownLast
+  unfolding recordWith recordIn lastWith
   last-long = by (eqb (sectorsFor (recordIn b .long + length x)) (sectorsFor (recordIn b .long)))
     where
       by : (t : Bool) → length (cond t (put (recordIn b .last) (recordIn b .long - lastFrom (recordIn b .long)) x) (put (zeros 510) 0 (drop (lastFrom (recordIn b .long + length x) - recordIn b .long) x))) ≡ 510
@@ -166,39 +166,39 @@ module _ (b x : List ℕ) where
   raised-apart : Rising 8 raised recordBytes
   raised-apart = (omega arith, (omega arith, (omega (arith, first-long), omega (arith, last-long))))
 
-  stays-before : (i : ℕ) → i < 8 → getD (grownIn b k) i 0 ≡ getD b i 0
-  unfolding grownIn
+  stays-before : (i : ℕ) → i < 8 → getD (recordBytesWith b k) i 0 ≡ getD b i 0
+  unfolding recordBytesWith
   stays-before i h = before-all raised b 8 recordBytes raised-apart i h
 
-  stays-between : (i : ℕ) → 12 ≤ i → i < 231 → getD (grownIn b k) i 0 ≡ getD b i 0
-  unfolding grownIn putAll
+  stays-between : (i : ℕ) → 12 ≤ i → i < 231 → getD (recordBytesWith b k) i 0 ≡ getD b i 0
+  unfolding recordBytesWith putAll
   stays-between i h m =
       before-all (field 231 (k .first) ∷ field 732 (k .last) ∷ []) (put b 8 (fourOf (k .long))) 231 recordBytes (omega arith, raised-apart .1 .1) i m
       ∙ put-after b 8 (fourOf (k .long)) i h
 
-  between : (a n : ℕ) → 12 ≤ a → a + n ≤ 231 → bytesAt a n b ≡ bytesAt a n (grownIn b k)
-  between a n h m = tab-cong n (λ j. getD b (a + j) 0) (λ j. getD (grownIn b k) (a + j) 0) (λ j q. sym (stays-between (a + j) (omega arith) (omega arith)))
+  between : (a n : ℕ) → 12 ≤ a → a + n ≤ 231 → bytesAt a n b ≡ bytesAt a n (recordBytesWith b k)
+  between a n h m = tab-cong n (λ j. getD b (a + j) 0) (λ j. getD (recordBytesWith b k) (a + j) 0) (λ j q. sym (stays-between (a + j) (omega arith) (omega arith)))
 
-  pub grown-rest : RestStays b (grownIn b k)
-  unfolding grownIn
+  pub grown-rest : RestStays b (recordBytesWith b k)
+  unfolding recordBytesWith
   grown-rest = record { long = putAll-long raised b; rest = λ i h. after-all raised b 8 recordBytes raised-apart i h }
 
   module _ (l : recordBytes ≤ length b) (few : recordIn b .long + length x < 2 ^ 32) where
-    raised-back : Back (grownIn b k) raised
-    unfolding grownIn
+    raised-back : Back (recordBytesWith b k) raised
+    unfolding recordBytesWith
     raised-back = all-back raised b 8 recordBytes raised-apart l
 
-    four : (j : ℕ) → j < 4 → getD (grownIn b k) (8 + j) 0 ≡ getD (fourOf (k .long)) j 0
-    four = byte-of 8 4 (fourOf (k .long)) (grownIn b k) (raised-back .0)
+    four : (j : ℕ) → j < 4 → getD (recordBytesWith b k) (8 + j) 0 ≡ getD (fourOf (k .long)) j 0
+    four = byte-of 8 4 (fourOf (k .long)) (recordBytesWith b k) (raised-back .0)
 
-    pub grown-back : recordIn (grownIn b k) ≡ k
-    unfolding grown recordIn
+    pub grown-back : recordIn (recordBytesWith b k) ≡ k
+    unfolding recordWith recordIn
     grown-back = sym is
       where
-        is : k ≡ recordIn (grownIn b k)
+        is : k ≡ recordIn (recordBytesWith b k)
         is =
-            record-is (grownIn b k) (sym (stays-before 0 (omega arith))) (between 12 10 (omega arith) (omega arith)) (sym (stays-before 1 (omega arith)))
+            record-is (recordBytesWith b k) (sym (stays-before 0 (omega arith))) (between 12 10 (omega arith) (omega arith)) (sym (stays-before 1 (omega arith)))
             (rw (stays-before 2 (omega arith), stays-before 3 (omega arith))) (between 22 3 (omega arith) (omega arith)) (between 25 11 (omega arith) (omega arith))
             (between 36 195 (omega arith) (omega arith)) (sym (stays-before 4 (omega arith)))
             (rw (four 0 (omega arith), four 1 (omega arith), four 2 (omega arith), four 3 (omega arith)) (four-back (k .long) few))
-            (sized 231 501 (k .first) (grownIn b k) first-long (raised-back .1 .0)) (sized 732 510 (k .last) (grownIn b k) last-long (raised-back .1 .1 .0))
+            (sized 231 501 (k .first) (recordBytesWith b k) first-long (raised-back .1 .0)) (sized 732 510 (k .last) (recordBytesWith b k) last-long (raised-back .1 .1 .0))

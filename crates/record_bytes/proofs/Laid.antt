@@ -8,10 +8,10 @@ use lib.ListN.{length, getD, replicate, length-replicate, getD-replicate}
 use Rattle.buffers.specs.Bytes.{tab, part, put}
 use Rattle.buffers.proofs.Lists.{below-or-not, past-end, length-part, part-at, length-put, put-in, put-after, tab-of}
 use Rattle.steps.specs.Steps.{putAll}
-use Rattle.bytereports.specs.Bytes.{fourOf}
+use Rattle.report_bytes.specs.Bytes.{fourOf}
 use Rattle.recordings.specs.Record.{zeros}
 use Rattle.recordings.specs.declared.Record.{Record}
-use Rattle.record_bytes.specs.Layout.{recordBytes, bytesAt, offsetIn, longIn, recordIn, frontOf, grownIn, bytesOf}
+use Rattle.record_bytes.specs.Layout.{recordBytes, bytesAt, recordOffset, recordLength, recordIn, frontOf, recordBytesWith, bytesOf}
 
 -- ---- read
 
@@ -32,8 +32,8 @@ copied a n b p e q w = tab-of n (λ j. getD b (a + j) 0) e (ap length w ∙ leng
 
 -- all of them
 module _ (b : List ℕ) {kind page offset tracks long : ℕ} {name exec info used first last : List ℕ} where
-  pub record-is : kind ≡ getD b 0 0 → name ≡ bytesAt 12 10 b → page ≡ getD b 1 0 → offset ≡ offsetIn b → exec ≡ bytesAt 22 3 b → info ≡ bytesAt 25 11 b
-      → used ≡ bytesAt 36 195 b → tracks ≡ getD b 4 0 → long ≡ longIn b → first ≡ bytesAt 231 501 b → last ≡ bytesAt 732 510 b
+  pub record-is : kind ≡ getD b 0 0 → name ≡ bytesAt 12 10 b → page ≡ getD b 1 0 → offset ≡ recordOffset b → exec ≡ bytesAt 22 3 b → info ≡ bytesAt 25 11 b
+      → used ≡ bytesAt 36 195 b → tracks ≡ getD b 4 0 → long ≡ recordLength b → first ≡ bytesAt 231 501 b → last ≡ bytesAt 732 510 b
       → record { kind = kind; name = name; page = page; offset = offset; exec = exec; info = info; used = used; tracks = tracks; long = long; first = first; last = last }
       ≡ recordIn b
   unfolding recordIn
@@ -45,8 +45,8 @@ put-on : {a a′ x x′ b : List ℕ} (n : ℕ) → a ≡ a′ → x ≡ x′ �
 put-on n e f g = g ∙ ap₂ (λ (p q : List ℕ). put p n q) e f
 
 module _ (b : List ℕ) (k : Record) {c d e x : List ℕ} where
-  pub grown-put : x ≡ fourOf (k .long) → c ≡ put b 8 x → d ≡ put c 231 (k .first) → e ≡ put d 732 (k .last) → e ≡ grownIn b k
-  unfolding grownIn putAll
+  pub grown-put : x ≡ fourOf (k .long) → c ≡ put b 8 x → d ≡ put c 231 (k .first) → e ≡ put d 732 (k .last) → e ≡ recordBytesWith b k
+  unfolding recordBytesWith putAll
   grown-put ex ec ed ee = put-on 732 (put-on 231 (put-on 8 refl ex ec) refl ed) refl ee
 
 module _ (k : Record) {a b c d e f g x : List ℕ} where

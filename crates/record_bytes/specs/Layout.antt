@@ -6,7 +6,7 @@ use mathlib.Core.Path.{_≡_}
 use lib.ListN.{length, getD}
 use Rattle.buffers.specs.Bytes.{tab}
 use Rattle.steps.specs.Steps.{Put, putAll}
-use Rattle.bytereports.specs.Bytes.{fourOf}
+use Rattle.report_bytes.specs.Bytes.{fourOf}
 use Rattle.recordings.specs.Record.{zeros}
 use Rattle.recordings.specs.declared.Record.{Record}
 
@@ -20,24 +20,24 @@ abbrev pub bytesAt : ℕ → ℕ → List ℕ → List ℕ
 bytesAt a n b = tab n (λ j. getD b (a + j) 0)
 
 -- the start's offset
-abbrev pub offsetIn : List ℕ → ℕ
-offsetIn b = getD b 2 0 + 256 * getD b 3 0
+abbrev pub recordOffset : List ℕ → ℕ
+recordOffset b = getD b 2 0 + 256 * getD b 3 0
 
 -- how many bytes came
-abbrev pub longIn : List ℕ → ℕ
-longIn b = getD b 8 0 + 256 * getD b 9 0 + 65536 * getD b 10 0 + 16777216 * getD b 11 0
+abbrev pub recordLength : List ℕ → ℕ
+recordLength b = getD b 8 0 + 256 * getD b 9 0 + 65536 * getD b 10 0 + 16777216 * getD b 11 0
 
 unfoldable pub recordIn : List ℕ → Record
 recordIn b = record {
   kind = getD b 0 0;
   name = bytesAt 12 10 b;
   page = getD b 1 0;
-  offset = offsetIn b;
+  offset = recordOffset b;
   exec = bytesAt 22 3 b;
   info = bytesAt 25 11 b;
   used = bytesAt 36 195 b;
   tracks = getD b 4 0;
-  long = longIn b;
+  long = recordLength b;
   first = bytesAt 231 501 b;
   last = bytesAt 732 510 b;
 }
@@ -58,8 +58,8 @@ bytesOf k =
     (field 0 (frontOf k) ∷ field 12 (k .name) ∷ field 22 (k .exec) ∷ field 25 (k .info) ∷ field 36 (k .used) ∷ field 231 (k .first) ∷ field 732 (k .last) ∷ [])
 
 -- a piece: how many bytes came, and the bytes that wait; all others stay
-unfoldable pub grownIn : List ℕ → Record → List ℕ
-grownIn b k = putAll b (field 8 (fourOf (k .long)) ∷ field 231 (k .first) ∷ field 732 (k .last) ∷ [])
+unfoldable pub recordBytesWith : List ℕ → Record → List ℕ
+recordBytesWith b k = putAll b (field 8 (fourOf (k .long)) ∷ field 231 (k .first) ∷ field 732 (k .last) ∷ [])
 
 -- "the front of a longer buffer is used, its rest stays"
 pub record RestStays (b b′ : List ℕ) : Type 0 where
@@ -68,7 +68,7 @@ pub record RestStays (b b′ : List ℕ) : Type 0 where
 
 -- ---- a record that its bytes can hold
 
-pub record Fits (k : Record) : Type 0 where
+pub record FitsRecord (k : Record) : Type 0 where
   pub kind : k .kind < 256
   pub page : k .page < 256
   pub offset : k .offset < 65536

@@ -1,8 +1,8 @@
 // The record of a recording as the app lends it: 2,048 bytes at the front of a buffer, laid out here and nowhere else.
 ghost use mathlib.Core.Path.{_≡_};
 ghost use Rattle.buffers.specs.Bytes.{put};
-ghost use Rattle.bytereports.specs.Bytes.{fourOf};
-ghost use Rattle.record_bytes.specs.Layout.{offsetIn, longIn, recordIn, frontOf, bytesOf, grownIn};
+ghost use Rattle.report_bytes.specs.Bytes.{fourOf};
+ghost use Rattle.record_bytes.specs.Layout.{recordOffset, recordLength, recordIn, frontOf, bytesOf, recordBytesWith};
 use recordings::Record;
 
 // The bytes of a record, of which the last 806 are not used.
@@ -24,13 +24,13 @@ const FIRST: usize = 231;
 const LAST: usize = 732;
 
 fn offset_in(bytes: &[u8]) -> usize
-    ensures { λ r. ⌜ r ≡ offsetIn (now (bytes .entry)) ⌝ }
+    ensures { λ r. ⌜ r ≡ recordOffset (now (bytes .entry)) ⌝ }
 {
     buffers::num_at(bytes, 2) + 256 * buffers::num_at(bytes, 3)
 }
 
 fn long_in(bytes: &[u8]) -> usize
-    ensures { λ r. ⌜ r ≡ longIn (now (bytes .entry)) ⌝ }
+    ensures { λ r. ⌜ r ≡ recordLength (now (bytes .entry)) ⌝ }
 {
     buffers::num_at(bytes, 8)
         + 256 * buffers::num_at(bytes, 9)
@@ -127,7 +127,7 @@ fn four_of(x: usize) -> [u8; 4]
 
 // Puts what a piece changes of a record: how many bytes came, and those that wait.
 pub fn put_grown(bytes: &mut [u8], held: Record)
-    ensures { λ _. ⌜ now (bytes .exit) ≡ grownIn (now (bytes .entry)) held ⌝ }
+    ensures { λ _. ⌜ now (bytes .exit) ≡ recordBytesWith (now (bytes .entry)) held ⌝ }
 {
     let long = four_of(held.long);
     buffers::copy_into(bytes, LONG, &long);

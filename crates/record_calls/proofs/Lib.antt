@@ -1,3 +1,3 @@
-pub mod Held
+pub mod RecordedBytes
 pub mod Refused
 pub mod Called

@@ -5,8 +5,8 @@ ghost use Rattle.refusals.specs.Order.{refuse};
 ghost use Rattle.refusals.specs.Answers.{outcomeOf, refused, unless, out};
 ghost use Rattle.disk.specs.Check.{checkDisk};
 ghost use Rattle.plans.specs.Plan.{changed};
-ghost use Rattle.saves.specs.Write.{wish};
-ghost use Rattle.record_calls.specs.Calls.{openingBytes, keptBy, pieced, pieceBytes, closeBytes};
+ghost use Rattle.saves.specs.Write.{saveRequest};
+ghost use Rattle.record_calls.specs.Calls.{openingBytes, keptBy, pieced, addPieceBytes, closeBytes};
 use recordings::Record;
 use refusals::Answer;
 use refusals::Reason;
@@ -23,15 +23,15 @@ pub fn open(
     info: &[u8],
     kept: &mut [u8],
 ) -> Answer
-    ensures { λ r. ⌜ out (outcomeOf r) (now (kept .exit)) ≡ openingBytes (wish kind (now (name .entry)) page offset (now (exec .entry)) (now (info .entry)) []) (now (image .entry)) (now (kept .entry)) ⌝ }
+    ensures { λ r. ⌜ out (outcomeOf r) (now (kept .exit)) ≡ openingBytes (saveRequest kind (now (name .entry)) page offset (now (exec .entry)) (now (info .entry)) []) (now (image .entry)) (now (kept .entry)) ⌝ }
 {
     let opened = record_open::open(image, kind, name, page, offset, exec, info);
     let verdict = opened.verdict;
     match verdict {
-        Verdict::Unsound(r) => Answer::No(r),
-        Verdict::Sound => {
+        Verdict::Err(r) => Answer::Err(r),
+        Verdict::Accepted => {
             if kept.len() < record_bytes::RECORD_BYTES {
-                return refusals::no(Reason::BufferTooShort, 0);
+                return refusals::refused_answer(Reason::BufferTooShort, 0);
             }
             let fresh = opened.record;
             record_bytes::put_opened(kept, fresh);
@@ -46,8 +46,8 @@ fn too_short(image: &[u8]) -> Answer
 {
     let verdict = disk::check(image);
     match verdict {
-        Verdict::Unsound(r) => Answer::No(r),
-        Verdict::Sound => refusals::no(Reason::BufferTooShort, 0),
+        Verdict::Err(r) => Answer::Err(r),
+        Verdict::Accepted => refusals::refused_answer(Reason::BufferTooShort, 0),
     }
 }
 
@@ -60,19 +60,19 @@ fn keep(a: Answer, grown: Record, kept: &mut [u8]) -> Answer
             record_bytes::put_grown(kept, grown);
             a
         }
-        Answer::No(_) => a,
+        Answer::Err(_) => a,
     }
 }
 
 // Adds a piece to the recording whose record `kept` is: how many sectors, and their numbers to the front of the list.
 pub fn add(image: &mut [u8], piece: &[u8], kept: &mut [u8], list: &mut [u8]) -> Answer
-    ensures { λ r. ⌜ pieced (outcomeOf r) (now (image .exit)) (now (kept .exit)) (now (list .exit)) ≡ pieceBytes (now (piece .entry)) (now (image .entry)) (now (kept .entry)) (now (list .entry)) ⌝ }
+    ensures { λ r. ⌜ pieced (outcomeOf r) (now (image .exit)) (now (kept .exit)) (now (list .exit)) ≡ addPieceBytes (now (piece .entry)) (now (image .entry)) (now (kept .entry)) (now (list .entry)) ⌝ }
 {
     if kept.len() < record_bytes::RECORD_BYTES {
         return too_short(image);
     }
     let held = record_bytes::record_in(kept);
-    let added = bytelists::add_piece(image, held, piece, list);
+    let added = byte_lists::add_piece(image, held, piece, list);
     let answer = added.answer;
     let grown = added.record;
     keep(answer, grown, kept)
@@ -86,5 +86,5 @@ pub fn close(image: &mut [u8], kept: &[u8], list: &mut [u8]) -> Answer
         return too_short(image);
     }
     let held = record_bytes::record_in(kept);
-    bytelists::close(image, held, list)
+    byte_lists::close(image, held, list)
 }

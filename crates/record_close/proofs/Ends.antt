@@ -15,31 +15,31 @@ use Rattle.geometry.specs.Disk.{bitNumber, bitPlace, placeOrEnd}
 use Rattle.geometry.proofs.Laws.{place-or-end}
 use Rattle.slots.specs.Slot.{sectorsFor}
 use Rattle.slots.proofs.Least.{sectors-least}
-use Rattle.steps.specs.Steps.{putAll, enact, numbers}
-use Rattle.plans.specs.Change.{Wish}
-use Rattle.plans.specs.Accepted.{many}
-use Rattle.plans.specs.Saving.{stream, block, nextTrack, nextSector}
+use Rattle.steps.specs.Steps.{putAll, apply, numbers}
+use Rattle.plans.specs.Change.{SaveRequest}
+use Rattle.plans.specs.Allowed.{sectorsTaken}
+use Rattle.plans.specs.Saving.{stream, sectorBytes, nextTrack, nextSector}
 use Rattle.plans.proofs.Blocks.{blocks}
-use Rattle.payloads.specs.declared.Link.{Link}
-use Rattle.payloads.specs.Sector.{startOf, Plain, header, linkOf, linkTo}
-use Rattle.payloads.proofs.Links.{stream-is, to-some}
-use Rattle.payloads.proofs.Runs.{getD-right}
+use Rattle.sector_writes.specs.declared.Link.{Link}
+use Rattle.sector_writes.specs.Sector.{headerFieldsOf, FieldsFit, header, linkToBit, linkToNext}
+use Rattle.sector_writes.proofs.Links.{stream-is, to-some}
+use Rattle.sector_writes.proofs.Runs.{getD-right}
 use Rattle.recordings.specs.declared.Record.{Record}
 use Rattle.recordings.specs.Record.{lastFrom, keptByte, recordingOf}
 use Rattle.recordings.specs.Recording.{closeData}
-use Rattle.recordings.proofs.Straight.{block-shift, stream-body}
+use Rattle.recordings.proofs.Uninterrupted.{block-shift, stream-body}
 use Rattle.recordings.proofs.Close.{one-sector, two-sectors}
-use Rattle.record_close.specs.Close.{wishOf, ends, endNumbers}
+use Rattle.record_close.specs.Close.{requestOf, endSectors, endNumbers}
 
 -- ---- the bytes that the record keeps
 
 module _ (k : Record) where
-  pub body-long : length (wishOf k .body) ≡ k .long
+  pub body-long : length (requestOf k .body) ≡ k .long
   unfolding recordingOf
   body-long = length-tab (k .long) (keptByte k)
 
   -- the first sector's body bytes
-  first-byte : (j : ℕ) → j < 501 → getD (part 0 (k .long) (k .first)) j 0 ≡ getD (wishOf k .body) j 0
+  first-byte : (j : ℕ) → j < 501 → getD (part 0 (k .long) (k .first)) j 0 ≡ getD (requestOf k .body) j 0
   unfolding recordingOf keptByte
   first-byte j h =
       ⊎-elim
@@ -50,7 +50,7 @@ module _ (k : Record) where
       (below-or-not j (k .long))
 
   -- the last one's, which begin at body byte a
-  last-byte : (a : ℕ) → a ≡ lastFrom (k .long) → 501 ≤ a → a ≤ k .long → (j : ℕ) → getD (part 0 (k .long - a) (k .last)) j 0 ≡ getD (wishOf k .body) (a + j) 0
+  last-byte : (a : ℕ) → a ≡ lastFrom (k .long) → 501 ≤ a → a ≤ k .long → (j : ℕ) → getD (part 0 (k .long - a) (k .last)) j 0 ≡ getD (requestOf k .body) (a + j) 0
   unfolding recordingOf keptByte
   last-byte a e h m j =
       ⊎-elim
@@ -63,87 +63,87 @@ module _ (k : Record) where
 
   -- ---- the sectors
 
-  head-long : length (header (startOf (wishOf k)) (k .long)) ≡ 9
+  head-long : length (header (headerFieldsOf (requestOf k)) (k .long)) ≡ 9
   unfolding header
   head-long = refl
 
-  first-stream : Plain (startOf (wishOf k)) (length (wishOf k .body)) → (j : ℕ) → j < 510
-      → getD (header (startOf (wishOf k)) (k .long) ++ part 0 (k .long) (k .first)) j 0 ≡ getD (stream (wishOf k)) j 0
+  first-stream : FieldsFit (headerFieldsOf (requestOf k)) (length (requestOf k .body)) → (j : ℕ) → j < 510
+      → getD (header (headerFieldsOf (requestOf k)) (k .long) ++ part 0 (k .long) (k .first)) j 0 ≡ getD (stream (requestOf k)) j 0
   first-stream p j h =
-      let hd : List ℕ = header (startOf (wishOf k)) (k .long) in
+      let hd : List ℕ = header (headerFieldsOf (requestOf k)) (k .long) in
       let x : List ℕ = part 0 (k .long) (k .first) in
-      let st : hd ++ wishOf k .body ≡ stream (wishOf k) = ap (λ (n : ℕ). header (startOf (wishOf k)) n ++ wishOf k .body) (sym body-long) ∙ stream-is (wishOf k) p in
-      ⊎-elim (λ (l : j < 9). List·getD-append hd x 0 j (omega (arith, head-long)) ∙ sym (List·getD-append hd (wishOf k .body) 0 j (omega (arith, head-long))))
+      let st : hd ++ requestOf k .body ≡ stream (requestOf k) = ap (λ (n : ℕ). header (headerFieldsOf (requestOf k)) n ++ requestOf k .body) (sym body-long) ∙ stream-is (requestOf k) p in
+      ⊎-elim (λ (l : j < 9). List·getD-append hd x 0 j (omega (arith, head-long)) ∙ sym (List·getD-append hd (requestOf k .body) 0 j (omega (arith, head-long))))
       (λ (l : 9 ≤ j).
-      getD-right hd x j (j - 9) (omega (arith, head-long)) ∙ first-byte (j - 9) (omega arith) ∙ sym (getD-right hd (wishOf k .body) j (j - 9) (omega (arith, head-long))))
+      getD-right hd x j (j - 9) (omega (arith, head-long)) ∙ first-byte (j - 9) (omega arith) ∙ sym (getD-right hd (requestOf k .body) j (j - 9) (omega (arith, head-long))))
       (below-or-not j 9)
       ∙ ap (λ (y : List ℕ). getD y j 0) st
 
-  pub first-sector : Plain (startOf (wishOf k)) (length (wishOf k .body)) → (d : List ℕ) (b : ℕ) (link : Link) {head x d′ : List ℕ} {s : _} → s ≡ startOf (wishOf k) → head ≡ header s (k .long)
-      → x ≡ part 0 (k .long) (k .first) → d′ ≡ put d (placeOrEnd b) (block (head ++ x) 0 (link .track) (link .sector))
-      → d′ ≡ put d (placeOrEnd b) (block (stream (wishOf k)) 0 (link .track) (link .sector))
+  pub first-sector : FieldsFit (headerFieldsOf (requestOf k)) (length (requestOf k .body)) → (d : List ℕ) (b : ℕ) (link : Link) {head x d′ : List ℕ} {s : _} → s ≡ headerFieldsOf (requestOf k) → head ≡ header s (k .long)
+      → x ≡ part 0 (k .long) (k .first) → d′ ≡ put d (placeOrEnd b) (sectorBytes (head ++ x) 0 (link .track) (link .sector))
+      → d′ ≡ put d (placeOrEnd b) (sectorBytes (stream (requestOf k)) 0 (link .track) (link .sector))
   first-sector p d b link {head} {x} {d′} {s} es eh ex q =
       q
       ∙ ap (put d (placeOrEnd b))
-      (ap₂ (λ (h y : List ℕ). block (h ++ y) 0 (link .track) (link .sector)) (eh ∙ ap (λ s. header s (k .long)) es) ex
-      ∙ block-shift (header (startOf (wishOf k)) (k .long) ++ part 0 (k .long) (k .first)) (stream (wishOf k)) 0 0 (link .track) (link .sector)
+      (ap₂ (λ (h y : List ℕ). sectorBytes (h ++ y) 0 (link .track) (link .sector)) (eh ∙ ap (λ s. header s (k .long)) es) ex
+      ∙ block-shift (header (headerFieldsOf (requestOf k)) (k .long) ++ part 0 (k .long) (k .first)) (stream (requestOf k)) 0 0 (link .track) (link .sector)
       (λ j h. let z : 0 + j ≡ j = omega arith in rw z (first-stream p j h)))
 
   -- how its last sector begins, of n
-  module _ (n : ℕ) (e : n ≡ many (wishOf k)) (h : 1 < n) where
+  module _ (n : ℕ) (e : n ≡ sectorsTaken (requestOf k)) (h : 1 < n) where
     many-long : n ≡ sectorsFor (k .long)
     many-long = e ∙ ap sectorsFor body-long
 
     pub last-from : (510 * (n - 1) - 9 ≡ lastFrom (k .long)) × (510 * (n - 1) - 9 ≤ k .long) × (n ≤ 1 + k .long)
     last-from = (ap (λ (m : ℕ). 510 * (m - 1) - 9) many-long, omega (arith, many-long, sectors-least (k .long)), omega (arith, many-long, sectors-least (k .long)))
 
-    pub last-sector : (d : List ℕ) (b : ℕ) {x d′ : List ℕ} → x ≡ part 0 (k .long - (510 * (n - 1) - 9)) (k .last) → d′ ≡ put d (placeOrEnd b) (block (x ++ []) 0 0 0)
-        → d′ ≡ put d (placeOrEnd b) (block (stream (wishOf k)) (510 * (n - 1)) 0 0)
+    pub last-sector : (d : List ℕ) (b : ℕ) {x d′ : List ℕ} → x ≡ part 0 (k .long - (510 * (n - 1) - 9)) (k .last) → d′ ≡ put d (placeOrEnd b) (sectorBytes (x ++ []) 0 0 0)
+        → d′ ≡ put d (placeOrEnd b) (sectorBytes (stream (requestOf k)) (510 * (n - 1)) 0 0)
     last-sector d b {x} {d′} ex q =
         let a : ℕ = 510 * (n - 1) - 9 in
         q
         ∙ ap (put d (placeOrEnd b))
-        (ap (λ (y : List ℕ). block y 0 0 0) (append-nil x ∙ ex)
-        ∙ block-shift (part 0 (k .long - a) (k .last)) (stream (wishOf k)) 0 (510 * (n - 1)) 0 0
+        (ap (λ (y : List ℕ). sectorBytes y 0 0 0) (append-nil x ∙ ex)
+        ∙ block-shift (part 0 (k .long - a) (k .last)) (stream (requestOf k)) 0 (510 * (n - 1)) 0 0
         (λ j l.
         let z : 0 + j ≡ j = omega arith in
         let y : 510 * (n - 1) + j - 9 ≡ a + j = omega arith in
-        rw z (last-byte a (last-from .0) (omega arith) (last-from .1) j) ∙ sym (stream-body (wishOf k) (510 * (n - 1) + j) (omega arith) ∙ ap (λ (i : ℕ). getD (wishOf k .body) i 0) y)))
+        rw z (last-byte a (last-from .0) (omega arith) (last-from .1) j) ∙ sym (stream-body (requestOf k) (510 * (n - 1) + j) (omega arith) ∙ ap (λ (i : ℕ). getD (requestOf k .body) i 0) y)))
 
 -- ---- the chain's ends
 
 -- one sector alone
-pub ends-one : (w : Wish) (d bs : List ℕ) → length bs < 2 → 1 ≤ length bs → getD bs 0 0 < 1560 → {x : ℕ} → x ≡ getD bs 0 0 → {d′ : List ℕ}
-    → d′ ≡ put d (placeOrEnd x) (block (stream w) 0 0 0) → d′ ≡ enact d (closeData w bs)
-unfolding enact putAll blocks
+pub ends-one : (w : SaveRequest) (d bs : List ℕ) → length bs < 2 → 1 ≤ length bs → getD bs 0 0 < 1560 → {x : ℕ} → x ≡ getD bs 0 0 → {d′ : List ℕ}
+    → d′ ≡ put d (placeOrEnd x) (sectorBytes (stream w) 0 0 0) → d′ ≡ apply d (closeData w bs)
+unfolding apply putAll blocks
 ends-one w d [] l h s e q = absurd (not-suc-le-zero h)
 ends-one w d (b ∷ []) l h s e q =
-    q ∙ ap (λ (a : ℕ). put d a (block (stream w) 0 0 0)) (ap placeOrEnd e ∙ place-or-end b s) ∙ sym (ap (enact d) (one-sector w b))
+    q ∙ ap (λ (a : ℕ). put d a (sectorBytes (stream w) 0 0 0)) (ap placeOrEnd e ∙ place-or-end b s) ∙ sym (ap (apply d) (one-sector w b))
 ends-one w d (b ∷ c ∷ cs) l h s e q = absurd (omega arith)
 
 -- the last, and then the first
-pub ends-two : (w : Wish) (d bs : List ℕ) → 2 ≤ length bs → ((k : ℕ) → k < length bs → getD bs k 0 < 1560) → {z y x : ℕ} {link : Link} {d′ d″ : List ℕ}
-    → z ≡ getD bs (length bs - 1) 0 → d′ ≡ put d (placeOrEnd z) (block (stream w) (510 * (length bs - 1)) 0 0) → y ≡ getD bs 1 0 → link ≡ linkOf y
-    → x ≡ getD bs 0 0 → d″ ≡ put d′ (placeOrEnd x) (block (stream w) 0 (link .track) (link .sector)) → d″ ≡ enact d (closeData w bs)
-unfolding enact putAll blocks linkTo
+pub ends-two : (w : SaveRequest) (d bs : List ℕ) → 2 ≤ length bs → ((k : ℕ) → k < length bs → getD bs k 0 < 1560) → {z y x : ℕ} {link : Link} {d′ d″ : List ℕ}
+    → z ≡ getD bs (length bs - 1) 0 → d′ ≡ put d (placeOrEnd z) (sectorBytes (stream w) (510 * (length bs - 1)) 0 0) → y ≡ getD bs 1 0 → link ≡ linkToBit y
+    → x ≡ getD bs 0 0 → d″ ≡ put d′ (placeOrEnd x) (sectorBytes (stream w) 0 (link .track) (link .sector)) → d″ ≡ apply d (closeData w bs)
+unfolding apply putAll blocks linkToNext
 ends-two w d [] h s ez p ey e ex q = absurd (omega arith)
 ends-two w d (b ∷ []) h s ez p ey e ex q = absurd (omega arith)
 ends-two w d (b ∷ c ∷ cs) h s {x = x} {link = link} {d′ = d′} ez p ey e ex q =
     let bs : List ℕ = b ∷ c ∷ cs in
     let n : length (b ∷ c ∷ cs) - 1 ≡ suc (length cs) = omega arith in
     let t : ℕ = getD (c ∷ cs) (length cs) 0 in
-    let l : link ≡ linkTo (c ∷ cs) = to-some bs 1 (omega arith) (s 1 (omega arith)) link (e ∙ ap linkOf ey) in
-    let m : d′ ≡ put d (bitPlace t) (block (stream w) (510 * suc (length cs)) 0 0) =
-    p ∙ ap (λ (z : ℕ). put d (placeOrEnd z) (block (stream w) (510 * (length bs - 1)) 0 0)) ez
-    ∙ ap (λ (k : ℕ). put d (placeOrEnd (getD bs k 0)) (block (stream w) (510 * k) 0 0)) n
-    ∙ ap (λ (a : ℕ). put d a (block (stream w) (510 * suc (length cs)) 0 0)) (place-or-end t (s (suc (length cs)) (omega arith))) in
-    q ∙ ap₂ (λ (y : List ℕ) (k : Link). put y (placeOrEnd x) (block (stream w) 0 (k .track) (k .sector))) m l
-    ∙ ap (λ (a : ℕ). put (put d (bitPlace t) (block (stream w) (510 * suc (length cs)) 0 0)) a (block (stream w) 0 (nextTrack (c ∷ cs)) (nextSector (c ∷ cs)))) (ap placeOrEnd ex ∙ place-or-end b (s 0 (omega arith)))
-    ∙ sym (ap (enact d) (two-sectors w b c cs))
+    let l : link ≡ linkToNext (c ∷ cs) = to-some bs 1 (omega arith) (s 1 (omega arith)) link (e ∙ ap linkToBit ey) in
+    let m : d′ ≡ put d (bitPlace t) (sectorBytes (stream w) (510 * suc (length cs)) 0 0) =
+    p ∙ ap (λ (z : ℕ). put d (placeOrEnd z) (sectorBytes (stream w) (510 * (length bs - 1)) 0 0)) ez
+    ∙ ap (λ (k : ℕ). put d (placeOrEnd (getD bs k 0)) (sectorBytes (stream w) (510 * k) 0 0)) n
+    ∙ ap (λ (a : ℕ). put d a (sectorBytes (stream w) (510 * suc (length cs)) 0 0)) (place-or-end t (s (suc (length cs)) (omega arith))) in
+    q ∙ ap₂ (λ (y : List ℕ) (k : Link). put y (placeOrEnd x) (sectorBytes (stream w) 0 (k .track) (k .sector))) m l
+    ∙ ap (λ (a : ℕ). put (put d (bitPlace t) (sectorBytes (stream w) (510 * suc (length cs)) 0 0)) a (sectorBytes (stream w) 0 (nextTrack (c ∷ cs)) (nextSector (c ∷ cs)))) (ap placeOrEnd ex ∙ place-or-end b (s 0 (omega arith)))
+    ∙ sym (ap (apply d) (two-sectors w b c cs))
 
 -- ---- their numbers
 
-pub ends-numbers : (w : Wish) (bs : List ℕ) → 1 ≤ length bs → numbers (closeData w bs) ≡ endNumbers bs
+pub ends-numbers : (w : SaveRequest) (bs : List ℕ) → 1 ≤ length bs → numbers (closeData w bs) ≡ endNumbers bs
 unfolding numbers blocks endNumbers
 ends-numbers w [] h = absurd (not-suc-le-zero h)
 ends-numbers w (b ∷ []) h = ap numbers (one-sector w b)
@@ -151,8 +151,8 @@ ends-numbers w (b ∷ c ∷ cs) h =
     let n : length (b ∷ c ∷ cs) - 1 ≡ suc (length cs) = omega arith in
     ap numbers (two-sectors w b c cs) ∙ sym (rw (lt-ltb 1 (length (b ∷ c ∷ cs)) (omega arith), n))
 
-pub ends-long : (bs : List ℕ) → length (endNumbers bs) ≡ ends (length bs)
-unfolding ends endNumbers
+pub ends-long : (bs : List ℕ) → length (endNumbers bs) ≡ endSectors (length bs)
+unfolding endSectors endNumbers
 ends-long bs = by (ltb 1 (length bs))
   where
     by : (t : Bool) → length (cond t (bitNumber (getD bs (length bs - 1) 0) ∷ bitNumber (getD bs 0 0) ∷ []) (bitNumber (getD bs 0 0) ∷ [])) ≡ cond t 2 1
@@ -160,17 +160,17 @@ ends-long bs = by (ltb 1 (length bs))
     by false = refl
 
 -- a list with room for them
-pub room-one : (n m : ℕ) → ends n ≤ m → 0 < m
-unfolding ends
+pub room-one : (n m : ℕ) → endSectors n ≤ m → 0 < m
+unfolding endSectors
 room-one n m h = by (ltb 1 n) h
   where
     by : (t : Bool) → cond t 2 1 ≤ m → 0 < m
     by true h = omega arith
     by false h = omega arith
 
-pub room-both : (n m : ℕ) → 2 ≤ n → ends n ≤ m → 1 < m
-unfolding ends
-room-both n m h l = let e : ends n ≡ 2 = rw (lt-ltb 1 n (omega arith)) in omega arith
+pub room-both : (n m : ℕ) → 2 ≤ n → endSectors n ≤ m → 1 < m
+unfolding endSectors
+room-both n m h l = let e : endSectors n ≡ 2 = rw (lt-ltb 1 n (omega arith)) in omega arith
 
 -- as the code puts them
 pub put-one-end : (l bs : List ℕ) → length bs < 2 → (x : ℕ) → x ≡ bitNumber (getD bs 0 0) → set l 0 x ≡ put l 0 (endNumbers bs)

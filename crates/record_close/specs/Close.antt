@@ -7,25 +7,25 @@ use lib.Dec.{ltb}
 use lib.ListN.{length, getD}
 use Rattle.geometry.specs.Disk.{bitNumber}
 use Rattle.surveys.specs.declared.UsedMap.{UsedMap}
-use Rattle.files.specs.Calls.{at}
-use Rattle.files.specs.Steps.{Accepted}
-use Rattle.plans.specs.Change.{Wish}
+use Rattle.files.specs.Calls.{foundSlot}
+use Rattle.files.specs.Steps.{CheckedDisk}
+use Rattle.plans.specs.Change.{SaveRequest}
 use Rattle.plans.specs.Plan.{dirSectors}
-use Rattle.plans.specs.Accepted.{many}
-use Rattle.taking.specs.Taken.{slotFor, shutMap, lowest}
-use Rattle.payloads.specs.Sector.{startOf, Plain}
+use Rattle.plans.specs.Allowed.{sectorsTaken}
+use Rattle.allocation.specs.Taken.{slotForSave, unavailableMap, lowestClearBits}
+use Rattle.sector_writes.specs.Sector.{headerFieldsOf, FieldsFit}
 use Rattle.saves.specs.Write.{Bits, Writable}
 use Rattle.recordings.specs.declared.Record.{Record}
-use Rattle.recordings.specs.Recording.{chainOf, moved}
+use Rattle.recordings.specs.Recording.{chainOf, diskMoved}
 use Rattle.recordings.specs.Record.{recordingOf}
 
 -- the save that a record stands for
-abbrev pub wishOf : Record → Wish
-wishOf k = recordingOf k .wish
+abbrev pub requestOf : Record → SaveRequest
+requestOf k = recordingOf k .request
 
 -- "close writes the last, then the first if it is another,": how many, of a chain of n sectors
-unfoldable pub ends : ℕ → ℕ
-ends n = cond (ltb 1 n) 2 1
+unfoldable pub endSectors : ℕ → ℕ
+endSectors n = cond (ltb 1 n) 2 1
 
 -- their numbers, in the order of writing
 unfoldable pub endNumbers : List ℕ → List ℕ
@@ -33,30 +33,30 @@ endNumbers bs =
     cond (ltb 1 (length bs)) (bitNumber (getD bs (length bs - 1) 0) ∷ bitNumber (getD bs 0 0) ∷ []) (bitNumber (getD bs 0 0) ∷ [])
 
 -- a chain that holds the recording, whose numbers each fit their bytes
-pub record Chained (k : Record) (bs : List ℕ) : Type 0 where
+pub record RecordingChain (k : Record) (bs : List ℕ) : Type 0 where
   pub bits : Bits bs
-  pub enough : length bs ≡ many (wishOf k)
-  pub plain : Plain (startOf (wishOf k)) (length (wishOf k .body))
+  pub enough : length bs ≡ sectorsTaken (requestOf k)
+  pub plain : FieldsFit (headerFieldsOf (requestOf k)) (length (requestOf k .body))
 
 -- the recording with this chain can be closed into slot i; old: an old name stands behind it
 pub record Closable (i : ℕ) (old : Bool) (k : Record) (bs : List ℕ) : Type 0 where
-  pub file : Writable i old (startOf (wishOf k)) (wishOf k .body) bs
-  pub enough : length bs ≡ many (wishOf k)
+  pub file : Writable i old (headerFieldsOf (requestOf k)) (requestOf k .body) bs
+  pub enough : length bs ≡ sectorsTaken (requestOf k)
 
 -- a close of a recording in n sectors that nothing refuses, into slot i of a disk, by the clear bits of m
-pub record Closing (m : List ℕ) (n i : ℕ) (old : Bool) (k : Record) (list : List ℕ) : Type 0 where
-  pub sectors : n ≡ many (wishOf k)
-  pub file : Closable i old k (lowest m n)
-  pub room : ends n + length (dirSectors old i) ≤ length list
+pub record CloseReady (m : List ℕ) (n i : ℕ) (old : Bool) (k : Record) (list : List ℕ) : Type 0 where
+  pub sectors : n ≡ sectorsTaken (requestOf k)
+  pub file : Closable i old k (lowestClearBits m n)
+  pub room : endSectors n + length (dirSectors old i) ≤ length list
 
 -- an accepted disk that the recording still fits
-pub record Stays (d : List ℕ) (u : UsedMap) (k : Record) : Type 0 where
-  pub disk : Accepted d u
-  pub still : moved d (recordingOf k) ≡ false
+pub record StillFits (d : List ℕ) (u : UsedMap) (k : Record) : Type 0 where
+  pub disk : CheckedDisk d u
+  pub still : diskMoved d (recordingOf k) ≡ false
   -- its chain is what a save would take there
-  pub chain : chainOf (recordingOf k) ≡ lowest (shutMap u) (many (wishOf k))
+  pub chain : chainOf (recordingOf k) ≡ lowestClearBits (unavailableMap u) (sectorsTaken (requestOf k))
 
 -- and the slot that the close takes there
-pub record Open (d : List ℕ) (u : UsedMap) (i : ℕ) (k : Record) : Type 0 where
-  pub stays : Stays d u k
-  pub place : at i ≡ slotFor d (startOf (wishOf k)) (wishOf k .name)
+pub record CloseSlotOf (d : List ℕ) (u : UsedMap) (i : ℕ) (k : Record) : Type 0 where
+  pub stays : StillFits d u k
+  pub place : foundSlot i ≡ slotForSave d (headerFieldsOf (requestOf k)) (requestOf k .name)

@@ -6,32 +6,32 @@ ghost use lib.ListN.{length, getD};
 ghost use Rattle.buffers.specs.Bytes.{put};
 ghost use Rattle.geometry.specs.Disk.{bitNumber, placeOrEnd};
 ghost use Rattle.refusals.specs.Answers.{outcomeOf};
-ghost use Rattle.steps.specs.Steps.{enact};
-ghost use Rattle.plans.specs.Accepted.{many};
-ghost use Rattle.plans.specs.Saving.{stream, block};
+ghost use Rattle.steps.specs.Steps.{apply};
+ghost use Rattle.plans.specs.Allowed.{sectorsTaken};
+ghost use Rattle.plans.specs.Saving.{stream, sectorBytes};
 ghost use Rattle.plans.specs.Plan.{dirSectors, changed};
-ghost use Rattle.changes.specs.Settled.{Made};
-ghost use Rattle.taking.specs.Taken.{lowest};
-ghost use Rattle.payloads.specs.Sector.{startOf, Plain};
+ghost use Rattle.changes.specs.ChangeCalls.{Applied};
+ghost use Rattle.allocation.specs.Taken.{lowestClearBits};
+ghost use Rattle.sector_writes.specs.Sector.{headerFieldsOf, FieldsFit};
 ghost use Rattle.saves.specs.Write.{Bits};
 ghost use Rattle.recordings.specs.Recording.{closeData, closeSteps};
-ghost use Rattle.recordings.specs.Calls.{closed};
-ghost use Rattle.record_close.specs.Close.{wishOf, ends, endNumbers, Chained, Closable, Closing, Stays, Open};
+ghost use Rattle.recordings.specs.Calls.{closeCall};
+ghost use Rattle.record_close.specs.Close.{requestOf, endSectors, endNumbers, RecordingChain, Closable, CloseReady, StillFits, CloseSlotOf};
 use files::Lookup;
-use links::Trail;
-use payloads::Link;
+use recording_links::Continuation;
+use sector_writes::Link;
 use recordings::Record;
 use refusals::Answer;
 use refusals::Reason;
 use refusals::Verdict;
 use surveys::UsedMap;
-use taking::Start;
+use allocation::HeaderFields;
 
 // The kind of the file that is recorded, and where it is loaded.
-fn start_of(kept: Record) -> Start
-    ensures { λ r. ⌜ r ≡ startOf (wishOf kept) ⌝ }
+fn start_of(kept: Record) -> HeaderFields
+    ensures { λ r. ⌜ r ≡ headerFieldsOf (requestOf kept) ⌝ }
 {
-    Start {
+    HeaderFields {
         kind: kept.kind,
         page: kept.page,
         offset: kept.offset,
@@ -47,19 +47,19 @@ fn bit_at(bits: &[u16], j: usize) -> usize
 
 // Writes the first sector of a recording, at a map bit.
 fn write_first(image: &mut [u8], kept: Record, bit: usize, link: Link)
-    requires { ⌜ Plain (startOf (wishOf kept)) (length (wishOf kept .body)) ⌝ }
-    ensures { λ _. ⌜ now (image .exit) ≡ put (now (image .entry)) (placeOrEnd bit) (block (stream (wishOf kept)) 0 (link .track) (link .sector)) ⌝ }
+    requires { ⌜ FieldsFit (headerFieldsOf (requestOf kept)) (length (requestOf kept .body)) ⌝ }
+    ensures { λ _. ⌜ now (image .exit) ≡ put (now (image .entry)) (placeOrEnd bit) (sectorBytes (stream (requestOf kept)) 0 (link .track) (link .sector)) ⌝ }
 {
     let long = kept.long;
-    let head = payloads::header_of(start_of(kept), long);
+    let head = sector_writes::header_of(start_of(kept), long);
     let body = kept.first;
-    payloads::write_sector(image, bit, &head, buffers::part_at(&body, 0, long), 0, link);
+    sector_writes::write_sector(image, bit, &head, buffers::part_at(&body, 0, long), 0, link);
 }
 
 // Writes the last sector of a recording, the `n`-th and not the first, at a map bit.
 fn write_last(image: &mut [u8], kept: Record, n: usize, bit: usize)
-    requires { ⌜ (n ≡ many (wishOf kept)) × (1 < n) × (n ≤ 1560) ⌝ }
-    ensures { λ _. ⌜ now (image .exit) ≡ put (now (image .entry)) (placeOrEnd bit) (block (stream (wishOf kept)) (510 * (n - 1)) 0 0) ⌝ }
+    requires { ⌜ (n ≡ sectorsTaken (requestOf kept)) × (1 < n) × (n ≤ 1560) ⌝ }
+    ensures { λ _. ⌜ now (image .exit) ≡ put (now (image .entry)) (placeOrEnd bit) (sectorBytes (stream (requestOf kept)) (510 * (n - 1)) 0 0) ⌝ }
 {
     let from = 510 * (n - 1) - 9;
     let body = kept.last;
@@ -68,13 +68,13 @@ fn write_last(image: &mut [u8], kept: Record, n: usize, bit: usize)
         track: 0,
         sector: 0,
     };
-    payloads::write_sector(image, bit, there, &[], 0, link);
+    sector_writes::write_sector(image, bit, there, &[], 0, link);
 }
 
 // Writes the last sector of a recording, and then the first if it is another.
 fn write_ends(image: &mut [u8], kept: Record, bits: &[u16])
-    requires { ⌜ Chained kept (now bits) ⌝ }
-    ensures { λ _. ⌜ now (image .exit) ≡ enact (now (image .entry)) (closeData (wishOf kept) (now (bits .entry))) ⌝ }
+    requires { ⌜ RecordingChain kept (now bits) ⌝ }
+    ensures { λ _. ⌜ now (image .exit) ≡ apply (now (image .entry)) (closeData (requestOf kept) (now (bits .entry))) ⌝ }
 {
     let n = bits.len();
     if n < 2 {
@@ -86,21 +86,21 @@ fn write_ends(image: &mut [u8], kept: Record, bits: &[u16])
         return;
     }
     write_last(image, kept, n, bit_at(bits, n - 1));
-    let next = payloads::link_of(bit_at(bits, 1));
+    let next = sector_writes::link_of(bit_at(bits, 1));
     write_first(image, kept, bit_at(bits, 0), next);
 }
 
 // Writes a recording into slot `i`: the ends of its chain, no old name behind the slot, then the slot.
 fn write_recording(image: &mut [u8], i: usize, old: bool, kept: Record, bits: &[u16])
     requires { ⌜ Closable i old kept (now bits) × (256 ≤ length (now image)) ⌝ }
-    ensures { λ _. ⌜ now (image .exit) ≡ enact (now (image .entry)) (closeSteps old (now (image .entry)) i (wishOf kept) (now (bits .entry))) ⌝ }
+    ensures { λ _. ⌜ now (image .exit) ≡ apply (now (image .entry)) (closeSteps old (now (image .entry)) i (requestOf kept) (now (bits .entry))) ⌝ }
 {
-    let map = filing::map_with(bits);
-    let first = payloads::link_of(bit_at(bits, 0));
+    let map = slot_writes::map_with(bits);
+    let first = sector_writes::link_of(bit_at(bits, 0));
     let name = kept.name;
     let exec = kept.exec;
     let info = kept.info;
-    let slot = filing::slot_of(
+    let slot = slot_writes::slot_of(
         image,
         i,
         start_of(kept),
@@ -113,18 +113,18 @@ fn write_recording(image: &mut [u8], i: usize, old: bool, kept: Record, bits: &[
         &map,
     );
     write_ends(image, kept, bits);
-    filing::put_slot(image, i, old, &slot);
+    slot_writes::put_slot(image, i, old, &slot);
 }
 
 // How many sectors of its data a close writes, of a chain of `n`.
 fn ends_of(n: usize) -> usize
-    ensures { λ r. ⌜ (r ≡ ends n) × (r ≤ 2) ⌝ }
+    ensures { λ r. ⌜ (r ≡ endSectors n) × (r ≤ 2) ⌝ }
 {
     if 1 < n { 2 } else { 1 }
 }
 
 // The number of the sector of a map bit.
-fn number_of(bit: usize) -> u16
+fn sector_number(bit: usize) -> u16
     requires { ⌜ bit < 1560 ⌝ }
     ensures { λ r. ⌜ r ≡ bitNumber bit ⌝ }
 {
@@ -133,16 +133,16 @@ fn number_of(bit: usize) -> u16
 
 // Puts the numbers of those sectors to the front of a list.
 fn put_ends(list: &mut [u16], bits: &[u16])
-    requires { ⌜ Bits (now bits) × (1 ≤ length (now bits)) × (ends (length (now bits)) ≤ length (now list)) ⌝ }
+    requires { ⌜ Bits (now bits) × (1 ≤ length (now bits)) × (endSectors (length (now bits)) ≤ length (now list)) ⌝ }
     ensures { λ _. ⌜ now (list .exit) ≡ put (now (list .entry)) 0 (endNumbers (now (bits .entry))) ⌝ }
 {
     let n = bits.len();
-    let first = number_of(bit_at(bits, 0));
+    let first = sector_number(bit_at(bits, 0));
     if n < 2 {
         list[0] = first;
         return;
     }
-    list[0] = number_of(bit_at(bits, n - 1));
+    list[0] = sector_number(bit_at(bits, n - 1));
     list[1] = first;
 }
 
@@ -164,47 +164,47 @@ fn write_close(
     kept: Record,
     list: &mut [u16],
 )
-    requires { ⌜ Closing (now map) n i old kept (now list) × (256 ≤ length (now image)) ⌝ }
-    ensures { λ _. ⌜ Made (closeSteps old (now (image .entry)) i (wishOf kept) (lowest (now (map .entry)) n)) (now (image .entry)) (now (list .entry)) (now (image .exit)) (now (list .exit)) (ends n + length (dirSectors old i)) ⌝ }
+    requires { ⌜ CloseReady (now map) n i old kept (now list) × (256 ≤ length (now image)) ⌝ }
+    ensures { λ _. ⌜ Applied (closeSteps old (now (image .entry)) i (requestOf kept) (lowestClearBits (now (map .entry)) n)) (now (image .entry)) (now (list .entry)) (now (image .exit)) (now (list .exit)) (endSectors n + length (dirSectors old i)) ⌝ }
 {
     let mut bits = no_bits();
-    taking::pick_bits(map, n, &mut bits);
+    allocation::pick_bits(map, n, &mut bits);
     write_recording(image, i, old, kept, &bits[..n]);
     put_ends(list, &bits[..n]);
-    filing::put_dirs(list, ends_of(n), i, old);
+    slot_writes::put_dirs(list, ends_of(n), i, old);
 }
 
 // Closes into the free slot `i` of an accepted disk whose used map is `used`, where the sectors and the list suffice.
 fn close_at(image: &mut [u8], used: UsedMap, i: usize, kept: Record, list: &mut [u16]) -> Answer
-    requires { ⌜ Open (now image) used i kept ⌝ }
-    ensures { λ r. ⌜ changed (outcomeOf r) (now (image .exit)) (now (list .exit)) ≡ closed kept (now (image .entry)) (now (list .entry)) ⌝ }
+    requires { ⌜ CloseSlotOf (now image) used i kept ⌝ }
+    ensures { λ r. ⌜ changed (outcomeOf r) (now (image .exit)) (now (list .exit)) ≡ closeCall kept (now (image .entry)) (now (list .entry)) ⌝ }
 {
     // No disk holds more, and past the largest number the sectors could not be counted.
     if 795591 < kept.long {
-        return refusals::no(Reason::TooFewSectors, 0);
+        return refusals::refused_answer(Reason::TooFewSectors, 0);
     }
     let n = (kept.long + 518) / 510;
     if surveys::free_of(used) < n {
-        return refusals::no(Reason::TooFewSectors, 0);
+        return refusals::refused_answer(Reason::TooFewSectors, 0);
     }
-    let old = filing::has_old_name(image, i);
-    let named = ends_of(n) + filing::dir_count(i, old);
+    let old = slot_writes::has_old_name(image, i);
+    let named = ends_of(n) + slot_writes::dir_count(i, old);
     if list.len() < named {
-        return refusals::no(Reason::BufferTooShort, 0);
+        return refusals::refused_answer(Reason::BufferTooShort, 0);
     }
-    let map = taking::shut_bits(used);
+    let map = allocation::unavailable_bits(used);
     write_close(image, &map, n, i, old, kept, list);
     Answer::Done(named, 0)
 }
 
 // Closes on an accepted disk whose used map is `used` and which the recording still fits.
 fn close_still(image: &mut [u8], used: UsedMap, kept: Record, list: &mut [u16]) -> Answer
-    requires { ⌜ Stays (now image) used kept ⌝ }
-    ensures { λ r. ⌜ changed (outcomeOf r) (now (image .exit)) (now (list .exit)) ≡ closed kept (now (image .entry)) (now (list .entry)) ⌝ }
+    requires { ⌜ StillFits (now image) used kept ⌝ }
+    ensures { λ r. ⌜ changed (outcomeOf r) (now (image .exit)) (now (list .exit)) ≡ closeCall kept (now (image .entry)) (now (list .entry)) ⌝ }
 {
     let name = kept.name;
-    match taking::slot_for(image, start_of(kept), &name) {
-        Lookup::Barred(r) => Answer::No(r),
+    match allocation::slot_for(image, start_of(kept), &name) {
+        Lookup::Err(r) => Answer::Err(r),
         Lookup::At(i) => close_at(image, used, i, kept, list),
     }
 }
@@ -212,20 +212,20 @@ fn close_still(image: &mut [u8], used: UsedMap, kept: Record, list: &mut [u16]) 
 // Closes a recording: the image changes, the front of `list` gets the numbers of the sectors in the order of writing, and the
 // answer says how many. A refused close changes nothing.
 pub fn close(image: &mut [u8], kept: Record, list: &mut [u16]) -> Answer
-    ensures { λ r. ⌜ changed (outcomeOf r) (now (image .exit)) (now (list .exit)) ≡ closed kept (now (image .entry)) (now (list .entry)) ⌝ }
+    ensures { λ r. ⌜ changed (outcomeOf r) (now (image .exit)) (now (list .exit)) ≡ closeCall kept (now (image .entry)) (now (list .entry)) ⌝ }
 {
     let found = disk::examine(image);
     let verdict = found.verdict;
     match verdict {
-        Verdict::Unsound(r) => Answer::No(r),
-        Verdict::Sound => {
+        Verdict::Err(r) => Answer::Err(r),
+        Verdict::Accepted => {
             let used = found.used;
             let was = kept.used;
             // No disk holds more sectors than 1,560, and past the largest number they could not be counted.
             let n = (buffers::lesser(kept.long, 795592) + 518) / 510;
-            match links::follow(image, used, &was, kept.tracks, n) {
-                Trail::Lost => refusals::no(Reason::RecordingMoved, 0),
-                Trail::On(_) => close_still(image, used, kept, list),
+            match recording_links::follow(image, used, &was, kept.tracks, n) {
+                Continuation::Stale => refusals::refused_answer(Reason::RecordingMoved, 0),
+                Continuation::NextBit(_) => close_still(image, used, kept, list),
             }
         }
     }

@@ -15,28 +15,28 @@ use Rattle.names.specs.Name.{padded}
 use Rattle.directory.specs.Directory.{Directory, tracksOf, directory}
 use Rattle.surveys.specs.Survey.{freeOf}
 use Rattle.surveys.specs.declared.UsedMap.{UsedMap}
-use Rattle.disk.specs.Look.{look}
+use Rattle.disk.specs.View.{view}
 use Rattle.disk.specs.Check.{checkDisk}
-use Rattle.disk.proofs.Look.{look-slots, look-extra}
-use Rattle.files.specs.Calls.{barred}
-use Rattle.plans.specs.Change.{Wish}
+use Rattle.disk.proofs.View.{view-slots, view-extra}
+use Rattle.files.specs.Calls.{refusedLookup}
+use Rattle.plans.specs.Change.{SaveRequest}
 use Rattle.plans.specs.Plan.{saveReply}
 use Rattle.plans.proofs.Kept.{usable-is}
-use Rattle.plans.proofs.Sure.{save-tested}
-use Rattle.taking.specs.declared.Start.{Start}
-use Rattle.taking.specs.Taken.{slotFor}
-use Rattle.saves.specs.Write.{wishFor, Open}
-use Rattle.saves.proofs.Planned.{reply-barred, reply-at}
+use Rattle.plans.proofs.SafeSteps.{save-tested}
+use Rattle.allocation.specs.declared.HeaderFields.{HeaderFields}
+use Rattle.allocation.specs.Taken.{slotForSave}
+use Rattle.saves.specs.Write.{saveRequestFor, SaveSlot}
+use Rattle.saves.proofs.Planned.{reply-refused, reply-at}
 use Rattle.recordings.specs.declared.Record.{Record}
-use Rattle.recordings.specs.Recording.{openReply}
+use Rattle.recordings.specs.Recording.{recordingReply}
 use Rattle.recordings.specs.Record.{zeros, freshRecord}
-use Rattle.recordings.specs.Calls.{openingReply, blankRecord, recordOr, openedRecord}
-use Rattle.links.proofs.Followed.{used-is, tracks-is}
+use Rattle.recordings.specs.Calls.{openRecordingReply, blankRecord, recordOr, openedRecord}
+use Rattle.recording_links.proofs.FollowLaws.{used-is, tracks-is}
 use Rattle.record_open.specs.Fresh.{freshFor}
 
 -- ---- the record
 
-abbrev kept : Start → List ℕ → List ℕ → List ℕ → List ℕ → ℕ → Record
+abbrev kept : HeaderFields → List ℕ → List ℕ → List ℕ → List ℕ → ℕ → Record
 kept s n e i m t = record {
   kind = s .kind;
   name = n;
@@ -51,7 +51,7 @@ kept s n e i m t = record {
   last = zeros 510;
 }
 
-pub fresh-by : (s : Start) (n e i : List ℕ) (u : UsedMap) (x y z : List ℕ) → x ≡ part 0 10 (padded n) → y ≡ put (zeros 3) 0 e → z ≡ put (zeros 11) 0 i
+pub fresh-by : (s : HeaderFields) (n e i : List ℕ) (u : UsedMap) (x y z : List ℕ) → x ≡ part 0 10 (padded n) → y ≡ put (zeros 3) 0 e → z ≡ put (zeros 11) 0 i
     → kept s x y z (u .bytes) (u .tracks) ≡ freshFor s n e i u
 unfolding freshFor
 fresh-by s n e i u x y z p q r =
@@ -59,45 +59,45 @@ fresh-by s n e i u x y z p q r =
 
 -- ---- the answer
 
-module _ (w : Wish) (d : List ℕ) where
+module _ (w : SaveRequest) (d : List ℕ) where
   -- refused, with a blank record
-  pub shuts : (x : Refusal) → openingReply w d ≡ some x → (q : Reply) → q ≡ some x → (k : Record) → k ≡ blankRecord
-      → (q ≡ openingReply w d) × (k ≡ openedRecord w d)
+  pub shuts : (x : Refusal) → openRecordingReply w d ≡ some x → (q : Reply) → q ≡ some x → (k : Record) → k ≡ blankRecord
+      → (q ≡ openRecordingReply w d) × (k ≡ openedRecord w d)
   unfolding openedRecord
-  shuts x e q p k r = (p ∙ sym e, r ∙ sym (ap (λ (q : Reply). recordOr q (freshRecord w (look d))) e))
+  shuts x e q p k r = (p ∙ sym e, r ∙ sym (ap (λ (q : Reply). recordOr q (freshRecord w (view d))) e))
 
-  opens : openingReply w d ≡ none → (q : Reply) → q ≡ none → (k : Record) → k ≡ freshRecord w (look d) → (q ≡ openingReply w d) × (k ≡ openedRecord w d)
+  opens : openRecordingReply w d ≡ none → (q : Reply) → q ≡ none → (k : Record) → k ≡ freshRecord w (view d) → (q ≡ openRecordingReply w d) × (k ≡ openedRecord w d)
   unfolding openedRecord
-  opens e q p k r = (p ∙ sym e, r ∙ sym (ap (λ (q : Reply). recordOr q (freshRecord w (look d))) e))
+  opens e q p k r = (p ∙ sym e, r ∙ sym (ap (λ (q : Reply). recordOr q (freshRecord w (view d))) e))
 
-module _ (d : List ℕ) (s : Start) (name exec info : List ℕ) where
-  abbrev w : Wish
-  w = wishFor s name exec info []
+module _ (d : List ℕ) (s : HeaderFields) (name exec info : List ℕ) where
+  abbrev w : SaveRequest
+  w = saveRequestFor s name exec info []
 
-  pub reply-unsound : (x : Refusal) → checkDisk d ≡ some x → openingReply w d ≡ some x
-  reply-unsound x e = ap (λ (q : Reply). q else openReply w (look d)) e
+  pub reply-err : (x : Refusal) → checkDisk d ≡ some x → openRecordingReply w d ≡ some x
+  reply-err x e = ap (λ (q : Reply). q else recordingReply w (view d)) e
 
-  reply-sound : checkDisk d ≡ none → openingReply w d ≡ saveReply (tracksOf d) (directory d) w
-  reply-sound a =
-      ap (λ (q : Reply). q else openReply w (look d)) a ∙ ap₂ (λ (n : ℕ) (v : Directory). saveReply n v w) (look-extra d) (look-slots d)
+  reply-accepted : checkDisk d ≡ none → openRecordingReply w d ≡ saveReply (tracksOf d) (directory d) w
+  reply-accepted a =
+      ap (λ (q : Reply). q else recordingReply w (view d)) a ∙ ap₂ (λ (n : ℕ) (v : Directory). saveReply n v w) (view-extra d) (view-slots d)
 
-  pub reply-no-slot : checkDisk d ≡ none → (x : Refusal) → barred x ≡ slotFor d s name → openingReply w d ≡ some x
-  reply-no-slot a x e = reply-sound a ∙ reply-barred d s name exec info [] x e
+  pub reply-no-slot : checkDisk d ≡ none → (x : Refusal) → refusedLookup x ≡ slotForSave d s name → openRecordingReply w d ≡ some x
+  reply-no-slot a x e = reply-accepted a ∙ reply-refused d s name exec info [] x e
 
-  module _ (u : UsedMap) (i : ℕ) (o : Open d u i s name) (f : ℕ) (e : f ≡ freeOf u) where
+  module _ (u : UsedMap) (i : ℕ) (o : SaveSlot d u i s name) (f : ℕ) (e : f ≡ freeOf u) where
     -- an empty body takes one sector
-    reply-by : (t : Bool) → ltb f 1 ≡ t → openingReply w d ≡ row 19 0 t
+    reply-by : (t : Bool) → ltb f 1 ≡ t → openRecordingReply w d ≡ row 19 0 t
     unfolding sectorsFor
-    reply-by t h = reply-sound (o .disk .accepted) ∙ reply-at d u i s name exec info [] [] o f e t h
+    reply-by t h = reply-accepted (o .disk .accepted) ∙ reply-at d u i s name exec info [] [] o f e t h
 
-    pub reply-few : f < 1 → openingReply w d ≡ some (refuse 19 0)
+    pub reply-few : f < 1 → openRecordingReply w d ≡ some (refuse 19 0)
     reply-few h = reply-by true (lt-ltb f 1 h)
 
-    pub running : 1 ≤ f → (q : Reply) → q ≡ none → (k : Record) → k ≡ freshFor s name exec info u → (q ≡ openingReply w d) × (k ≡ openedRecord w d)
+    pub running : 1 ≤ f → (q : Reply) → q ≡ none → (k : Record) → k ≡ freshFor s name exec info u → (q ≡ openRecordingReply w d) × (k ≡ openedRecord w d)
     unfolding freshFor freshRecord
     running h q p k r =
         let n = reply-by false (le-ltb f 1 h) in
-        let t = save-tested (tracksOf d) (directory d) w (sym (reply-sound (o .disk .accepted)) ∙ n) in
+        let t = save-tested (tracksOf d) (directory d) w (sym (reply-accepted (o .disk .accepted)) ∙ n) in
         opens w d n q p k
         (r
         ∙ ap (λ (x : List ℕ). kept s x (put (zeros 3) 0 exec) (put (zeros 11) 0 info) (u .bytes) (u .tracks))

@@ -4,12 +4,12 @@ use Prim.Native.Nat.{ℕ}
 use Rattle.buffers.specs.Bytes.{part, put}
 use Rattle.names.specs.Name.{padded}
 use Rattle.surveys.specs.declared.UsedMap.{UsedMap}
-use Rattle.taking.specs.declared.Start.{Start}
+use Rattle.allocation.specs.declared.HeaderFields.{HeaderFields}
 use Rattle.recordings.specs.declared.Record.{Record}
 use Rattle.recordings.specs.Record.{zeros}
 
 -- of the save's particulars, and the used map and n at opening
-unfoldable pub freshFor : Start → List ℕ → List ℕ → List ℕ → UsedMap → Record
+unfoldable pub freshFor : HeaderFields → List ℕ → List ℕ → List ℕ → UsedMap → Record
 freshFor s n e i u = record {
   kind = s .kind;
   name = part 0 10 (padded n);

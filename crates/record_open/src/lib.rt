@@ -2,18 +2,18 @@
 ghost use mathlib.Core.Path.{_≡_};
 ghost use mathlib.Core.List.{[]};
 ghost use Rattle.refusals.specs.Answers.{replyOf};
-ghost use Rattle.recordings.specs.Calls.{blankRecord, openingReply, openedRecord};
-ghost use Rattle.saves.specs.Write.{wish};
+ghost use Rattle.recordings.specs.Calls.{blankRecord, openRecordingReply, openedRecord};
+ghost use Rattle.saves.specs.Write.{saveRequest};
 ghost use Rattle.record_open.specs.Fresh.{freshFor};
 use files::Lookup;
 use recordings::Record;
 use refusals::Reason;
 use refusals::Verdict;
 use surveys::UsedMap;
-use taking::Start;
+use allocation::HeaderFields;
 
 // What an opening gives: why it is refused, if it is; and the record, which is then blank.
-pub struct Opened {
+pub struct OpenedRecord {
     pub verdict: Verdict,
     pub record: Record,
 }
@@ -38,7 +38,7 @@ fn blank() -> Record
 }
 
 // The record of a recording in which nothing is yet, on a disk whose used map is `used`.
-fn fresh(start: Start, name: &[u8], exec: &[u8], info: &[u8], used: UsedMap) -> Record
+fn fresh(start: HeaderFields, name: &[u8], exec: &[u8], info: &[u8], used: UsedMap) -> Record
     ensures { λ r. ⌜ r ≡ freshFor start (now (name .entry)) (now (exec .entry)) (now (info .entry)) used ⌝ }
 {
     let filled = names::padded_name(name);
@@ -63,11 +63,11 @@ fn fresh(start: Start, name: &[u8], exec: &[u8], info: &[u8], used: UsedMap) -> 
 }
 
 // An opening that is refused.
-fn shut(verdict: Verdict) -> Opened
+fn refused_opening(verdict: Verdict) -> OpenedRecord
     ensures { λ r. ⌜ (r .verdict ≡ verdict) × (r .record ≡ blankRecord) ⌝ }
 {
     let record = blank();
-    Opened { verdict, record }
+    OpenedRecord { verdict, record }
 }
 
 // Opens a recording.
@@ -79,24 +79,24 @@ pub fn open(
     offset: usize,
     exec: &[u8],
     info: &[u8],
-) -> Opened
-    ensures { λ r. ⌜ (replyOf (r .verdict) ≡ openingReply (wish kind (now (name .entry)) page offset (now (exec .entry)) (now (info .entry)) []) (now (image .entry))) × (r .record ≡ openedRecord (wish kind (now (name .entry)) page offset (now (exec .entry)) (now (info .entry)) []) (now (image .entry))) ⌝ }
+) -> OpenedRecord
+    ensures { λ r. ⌜ (replyOf (r .verdict) ≡ openRecordingReply (saveRequest kind (now (name .entry)) page offset (now (exec .entry)) (now (info .entry)) []) (now (image .entry))) × (r .record ≡ openedRecord (saveRequest kind (now (name .entry)) page offset (now (exec .entry)) (now (info .entry)) []) (now (image .entry))) ⌝ }
 {
     let found = disk::examine(image);
     let verdict = found.verdict;
     match verdict {
-        Verdict::Unsound(_) => shut(verdict),
-        Verdict::Sound => {
+        Verdict::Err(_) => refused_opening(verdict),
+        Verdict::Accepted => {
             let used = found.used;
-            let start = Start { kind, page, offset };
-            match taking::slot_for(image, start, name) {
-                Lookup::Barred(r) => shut(Verdict::Unsound(r)),
+            let start = HeaderFields { kind, page, offset };
+            match allocation::slot_for(image, start, name) {
+                Lookup::Err(r) => refused_opening(Verdict::Err(r)),
                 Lookup::At(_) => {
                     if surveys::free_of(used) < 1 {
-                        return shut(refusals::unsound(Reason::TooFewSectors, 0));
+                        return refused_opening(refusals::refused_verdict(Reason::TooFewSectors, 0));
                     }
                     let record = fresh(start, name, exec, info, used);
-                    Opened { verdict, record }
+                    OpenedRecord { verdict, record }
                 }
             }
         }

@@ -18,25 +18,25 @@ use Rattle.chains.specs.File.{File, sectorAt, sectorsOf}
 use Rattle.chains.specs.Whole.{LinksTo}
 use Rattle.chains.proofs.Laws.{sectors-own}
 use Rattle.directory.specs.Places.{slotBytes, dirSector}
-use Rattle.directory.specs.Directory.{tracksOf, slotsIn, nameless}
+use Rattle.directory.specs.Directory.{tracksOf, slotsIn, isNamelessAt}
 use Rattle.directory.specs.Find.{find}
-use Rattle.directory.proofs.Label.{tracks-few}
-use Rattle.disk.specs.Look.{Look, look, slotsOf, extra}
-use Rattle.disk.specs.Sound.{GoodFile, Sound}
-use Rattle.steps.specs.Sectors.{listed, Once}
-use Rattle.steps.specs.Steps.{Step, enact, numbers, commits, lastOf, Goes}
+use Rattle.directory.proofs.Label.{disk-tracks-few}
+use Rattle.disk.specs.View.{View, view, viewSlots, viewTracks}
+use Rattle.disk.specs.Accepted.{AcceptedFile, AcceptedDisk}
+use Rattle.steps.specs.Sectors.{isListed, Once}
+use Rattle.steps.specs.Steps.{Step, apply, numbers, commits, lastView, StepsHold}
 use Rattle.steps.proofs.Sectors.{listed-head}
-use Rattle.steps.proofs.Steps.{commits-append, goes-look}
-use Rattle.plans.specs.Change.{Wish}
-use Rattle.plans.specs.Saving.{freeBit, stream, block, nextTrack, nextSector, newSlot}
-use Rattle.plans.specs.Plan.{upd, entryOf, dataSteps, oldName, endSteps, endStep, slotSteps}
+use Rattle.steps.proofs.Steps.{commits-append, goes-view}
+use Rattle.plans.specs.Change.{SaveRequest}
+use Rattle.plans.specs.Saving.{freeBit, stream, sectorBytes, nextTrack, nextSector, newSlot}
+use Rattle.plans.specs.Plan.{withSlot, fileIfLive, dataSteps, oldName, endSteps, endStep, slotSteps}
 use Rattle.plans.proofs.Frame.{entry-live}
-use Rattle.plans.proofs.Kept.{Apart}
+use Rattle.plans.proofs.Kept.{DisjointFiles}
 use Rattle.plans.proofs.Free.{FreeSlot, Run, run-at, run-rises}
 use Rattle.plans.proofs.NewFile.{listed-at, next-first, length-block, block-byte, block-track, block-sector, live-is, Ready, filled}
 use Rattle.plans.proofs.Ended.{reach-free, end-commits}
-use Rattle.plans.proofs.Good.{Along, own-bit, good-of, slot-names, slot-fits, new-named}
-use Rattle.plans.proofs.Blocks.{Block, blocks, bitsIn, Fits, Spare, blocks-look, blocks-commits, blocks-else, blocks-in, dir-unlisted, blocks-else-slot, blocks-next, blocks-then-slot}
+use Rattle.plans.proofs.AcceptedFile.{LinkedAlong, own-bit, accepted-of, slot-names, slot-fits, new-named}
+use Rattle.plans.proofs.Blocks.{Block, blocks, bitsIn, WholeBlock, SpareBlocks, blocks-view, blocks-commits, blocks-else, blocks-in, dir-unlisted, blocks-else-slot, blocks-next, blocks-then-slot}
 use Rattle.plans.proofs.Laid.{laid-data, laid-unused}
 use Rattle.plans.proofs.Saved.{there, slot-map, new-apart, whole-slot, kept, slot-fit}
 use Rattle.recordings.specs.Recording.{closeData, closeSteps}
@@ -44,15 +44,15 @@ use Rattle.recordings.specs.Recording.{closeData, closeSteps}
 -- ---- the data sectors of a close
 
 -- the sector of bit b that holds the stream from f on and leads to the first of bs
-abbrev pub blockAt : Wish → ℕ → ℕ → List ℕ → Block
-blockAt w f b bs = record { bit = b; bytes = block (stream w) f (nextTrack bs) (nextSector bs) }
+abbrev pub blockAt : SaveRequest → ℕ → ℕ → List ℕ → Block
+blockAt w f b bs = record { bit = b; bytes = sectorBytes (stream w) f (nextTrack bs) (nextSector bs) }
 
 -- one sector alone, or the last and then the first
-pub one-sector : (w : Wish) (b : ℕ) → closeData w (b ∷ []) ≡ blocks (blockAt w 0 b [] ∷ [])
+pub one-sector : (w : SaveRequest) (b : ℕ) → closeData w (b ∷ []) ≡ blocks (blockAt w 0 b [] ∷ [])
 unfolding dataSteps blocks
 one-sector w b = refl
 
-pub two-sectors : (w : Wish) (b c : ℕ) (cs : List ℕ)
+pub two-sectors : (w : SaveRequest) (b c : ℕ) (cs : List ℕ)
     → closeData w (b ∷ c ∷ cs) ≡ blocks (blockAt w (510 * suc (length cs)) (getD (c ∷ cs) (length cs) 0) [] ∷ blockAt w 0 b (c ∷ cs) ∷ [])
 unfolding dataSteps blocks
 two-sectors w b c cs =
@@ -62,22 +62,22 @@ two-sectors w b c cs =
     rw (e, l) refl
 
 -- they are spare blocks, and what the chain's sectors hold after them
-pub record Filled (d : List ℕ) (w : Wish) (bs : List ℕ) (sts : List (Step Look)) : Type 0 where
+pub record ChainFilled (d : List ℕ) (w : SaveRequest) (bs : List ℕ) (sts : List (Step View)) : Type 0 where
   pub parts : List Block
   pub are : sts ≡ blocks parts
-  pub spare : Spare d parts
-  pub last : (k : ℕ) → suc k ≡ length bs → sectorAt (enact d sts) (getD bs k 0) ≡ block (stream w) (510 * k) 0 0
-  pub first : sectorAt (enact d sts) (getD bs 0 0) ≡ block (stream w) 0 (nextTrack (drop 1 bs)) (nextSector (drop 1 bs))
-  pub others : (k : ℕ) → 1 ≤ k → suc k < length bs → sectorAt (enact d sts) (getD bs k 0) ≡ sectorAt d (getD bs k 0)
+  pub spare : SpareBlocks d parts
+  pub last : (k : ℕ) → suc k ≡ length bs → sectorAt (apply d sts) (getD bs k 0) ≡ sectorBytes (stream w) (510 * k) 0 0
+  pub first : sectorAt (apply d sts) (getD bs 0 0) ≡ sectorBytes (stream w) 0 (nextTrack (drop 1 bs)) (nextSector (drop 1 bs))
+  pub others : (k : ℕ) → 1 ≤ k → suc k < length bs → sectorAt (apply d sts) (getD bs k 0) ≡ sectorAt d (getD bs k 0)
 
-fits-at : (w : Wish) (f b : ℕ) (bs : List ℕ) → b < 1560 → Fits (blockAt w f b bs)
+fits-at : (w : SaveRequest) (f b : ℕ) (bs : List ℕ) → b < 1560 → WholeBlock (blockAt w f b bs)
 fits-at w f b bs h = record { small = h; long = length-block (stream w) f (nextTrack bs) (nextSector bs) }
 
-module _ (d : List ℕ) (s : Sound (look d)) (w : Wish) where
+module _ (d : List ℕ) (s : AcceptedDisk (view d)) (w : SaveRequest) where
   abbrev free : ℕ → Bool
-  free = freeBit (extra (look d)) (slotsOf (look d))
+  free = freeBit (viewTracks (view d)) (viewSlots (view d))
 
-  filled-one : (b : ℕ) → Run free 0 (b ∷ []) → Filled d w (b ∷ []) (blocks (blockAt w 0 b [] ∷ []))
+  filled-one : (b : ℕ) → Run free 0 (b ∷ []) → ChainFilled d w (b ∷ []) (blocks (blockAt w 0 b [] ∷ []))
   unfolding bitsIn
   filled-one b r = record {
     parts = blockAt w 0 b [] ∷ [];
@@ -88,20 +88,20 @@ module _ (d : List ℕ) (s : Sound (look d)) (w : Wish) where
     others = λ k a q. absurd (omega arith);
   }
     where
-      fr : Spare d (blockAt w 0 b [] ∷ [])
+      fr : SpareBlocks d (blockAt w 0 b [] ∷ [])
       fr = record {
-        sound = s;
+        accepted = s;
         fit = (fits-at w 0 b [] (r .0 .small), tt);
         once = (refl, tt);
         data-bits = laid-data d s (stream w) (b ∷ []) r;
         unused = laid-unused d s (stream w) (b ∷ []) r;
       }
 
-      at : (k : ℕ) → suc k ≡ length (b ∷ []) → sectorAt (enact d (blocks (blockAt w 0 b [] ∷ []))) (getD (b ∷ []) k 0) ≡ block (stream w) (510 * k) 0 0
+      at : (k : ℕ) → suc k ≡ length (b ∷ []) → sectorAt (apply d (blocks (blockAt w 0 b [] ∷ []))) (getD (b ∷ []) k 0) ≡ sectorBytes (stream w) (510 * k) 0 0
       at zero e = blocks-in d (blockAt w 0 b [] ∷ []) fr (blockAt w 0 b []) (inl refl)
       at (suc k) e = absurd (omega arith)
 
-  module _ (b c : ℕ) (cs : List ℕ) (r : Run (freeBit (extra (look d)) (slotsOf (look d))) 0 (b ∷ c ∷ cs)) where
+  module _ (b c : ℕ) (cs : List ℕ) (r : Run (freeBit (viewTracks (view d)) (viewSlots (view d))) 0 (b ∷ c ∷ cs)) where
     abbrev bs : List ℕ
     bs = b ∷ c ∷ cs
 
@@ -124,25 +124,25 @@ module _ (d : List ℕ) (s : Sound (look d)) (w : Wish) where
     differ : z ≡ b → ⊥
     differ e = apart 0 (suc (length cs)) (omega arith) (omega arith) (sym e)
 
-    mine : (x : ℕ) → listed x (z ∷ b ∷ []) ≡ true → listed x bs ≡ true
+    mine : (x : ℕ) → isListed x (z ∷ b ∷ []) ≡ true → isListed x bs ≡ true
     mine x m = by (eqb x z) refl (eqb x b) refl m
       where
-        by : (t : Bool) → eqb x z ≡ t → (u : Bool) → eqb x b ≡ u → (t || (u || false)) ≡ true → listed x bs ≡ true
-        by true q u v e = ap (λ (x : ℕ). listed x bs) (eqb-true x z q) ∙ listed-at bs (suc (length cs)) (omega arith)
-        by false q true v e = ap (λ (x : ℕ). listed x bs) (eqb-true x b v) ∙ listed-head b (c ∷ cs)
+        by : (t : Bool) → eqb x z ≡ t → (u : Bool) → eqb x b ≡ u → (t || (u || false)) ≡ true → isListed x bs ≡ true
+        by true q u v e = ap (λ (x : ℕ). isListed x bs) (eqb-true x z q) ∙ listed-at bs (suc (length cs)) (omega arith)
+        by false q true v e = ap (λ (x : ℕ). isListed x bs) (eqb-true x b v) ∙ listed-head b (c ∷ cs)
         by false q false v e = absurd (false≢true e)
 
-    both-spare : Spare d (lastBlock ∷ firstBlock ∷ [])
+    both-spare : SpareBlocks d (lastBlock ∷ firstBlock ∷ [])
     unfolding bitsIn
     both-spare = record {
-      sound = s;
+      accepted = s;
       fit = (fits-at w (510 * suc (length cs)) z [] (small (suc (length cs)) (omega arith)), (fits-at w 0 b (c ∷ cs) (small 0 (omega arith)), tt));
       once = (rw (ne-eqb z b differ), (refl, tt));
       data-bits = λ x m. laid-data d s (stream w) bs r x (mine x m);
       unused = λ x j g m. laid-unused d s (stream w) bs r x j g (mine x m);
     }
 
-    filled-two : Filled d w bs (blocks (lastBlock ∷ firstBlock ∷ []))
+    filled-two : ChainFilled d w bs (blocks (lastBlock ∷ firstBlock ∷ []))
     unfolding bitsIn
     filled-two = record {
       parts = lastBlock ∷ firstBlock ∷ [];
@@ -150,7 +150,7 @@ module _ (d : List ℕ) (s : Sound (look d)) (w : Wish) where
       spare = both-spare;
       last = λ k e.
           let q : k ≡ suc (length cs) = omega arith in
-          subst (λ (k : ℕ). sectorAt (enact d (blocks (lastBlock ∷ firstBlock ∷ []))) (getD bs k 0) ≡ block (stream w) (510 * k) 0 0) (sym q)
+          subst (λ (k : ℕ). sectorAt (apply d (blocks (lastBlock ∷ firstBlock ∷ []))) (getD bs k 0) ≡ sectorBytes (stream w) (510 * k) 0 0) (sym q)
           (blocks-in d (lastBlock ∷ firstBlock ∷ []) both-spare lastBlock (inl refl));
       first = blocks-in d (lastBlock ∷ firstBlock ∷ []) both-spare firstBlock (inr (inl refl));
       others = λ k a q.
@@ -158,44 +158,44 @@ module _ (d : List ℕ) (s : Sound (look d)) (w : Wish) where
           (rw (ne-eqb (getD bs k 0) z (apart k (suc (length cs)) (omega arith) (omega arith)), ne-eqb (getD bs k 0) b (λ e. apart 0 k a (omega arith) (sym e))));
     }
 
-  pub filled-by : (bs : List ℕ) → 1 ≤ length bs → Run free 0 bs → Filled d w bs (closeData w bs)
+  pub filled-by : (bs : List ℕ) → 1 ≤ length bs → Run free 0 bs → ChainFilled d w bs (closeData w bs)
   filled-by [] h r = absurd (not-suc-le-zero h)
   filled-by (b ∷ []) h r = rw (one-sector w b) (filled-one b r)
   filled-by (b ∷ c ∷ cs) h r = rw (two-sectors w b c cs) (filled-two b c cs r)
 
 -- nothing of them is seen, and nothing committed
-pub filled-look : (d : List ℕ) (w : Wish) (bs : List ℕ) (sts : List (Step Look)) → Filled d w bs sts → look (enact d sts) ≡ look d
-filled-look d w bs sts f = ap (λ (x : List (Step Look)). look (enact d x)) (f .are) ∙ blocks-look d (f .parts) (f .spare)
+pub filled-view : (d : List ℕ) (w : SaveRequest) (bs : List ℕ) (sts : List (Step View)) → ChainFilled d w bs sts → view (apply d sts) ≡ view d
+filled-view d w bs sts f = ap (λ (x : List (Step View)). view (apply d x)) (f .are) ∙ blocks-view d (f .parts) (f .spare)
 
-pub filled-quiet : (d : List ℕ) (w : Wish) (bs : List ℕ) (sts : List (Step Look)) → Filled d w bs sts → commits sts ≡ []
+pub filled-quiet : (d : List ℕ) (w : SaveRequest) (bs : List ℕ) (sts : List (Step View)) → ChainFilled d w bs sts → commits sts ≡ []
 filled-quiet d w bs sts f = ap commits (f .are) ∙ blocks-commits (f .parts)
 
 -- ---- the file
 
 -- the closed file: what its sectors then hold
-abbrev pub closedFile : List ℕ → ℕ → Wish → List ℕ → File
-closedFile d i w bs = record { bytes = newSlot (look d .label) i w bs; sectors = sectorsOf (enact d (closeData w bs)) (newSlot (look d .label) i w bs) }
+abbrev pub closedFile : List ℕ → ℕ → SaveRequest → List ℕ → File
+closedFile d i w bs = record { bytes = newSlot (view d .label) i w bs; sectors = sectorsOf (apply d (closeData w bs)) (newSlot (view d .label) i w bs) }
 
-module _ (d : List ℕ) (s : Sound (look d)) (i : ℕ) (at : FreeSlot (look d) i) (w : Wish) (bs : List ℕ)
-    (r : Ready (extra (look d)) (freeBit (extra (look d)) (slotsOf (look d))) w bs)
+module _ (d : List ℕ) (s : AcceptedDisk (view d)) (i : ℕ) (at : FreeSlot (view d) i) (w : SaveRequest) (bs : List ℕ)
+    (r : Ready (viewTracks (view d)) (freeBit (viewTracks (view d)) (viewSlots (view d))) w bs)
     (led : (k : ℕ) → 1 ≤ k → suc k < length bs → LinksTo (sectorAt d (getD bs k 0)) (getD bs (suc k) 0)) where
   abbrev n : ℕ
-  n = extra (look d)
+  n = viewTracks (view d)
 
   abbrev slot : List ℕ
-  slot = newSlot (look d .label) i w bs
+  slot = newSlot (view d .label) i w bs
 
   abbrev mid : List ℕ
-  mid = enact d (closeData w bs)
+  mid = apply d (closeData w bs)
 
   some-bits : 1 ≤ length bs
-  some-bits = filled (look d .label) i n (free d s w) w bs r
+  some-bits = filled (view d .label) i n (free d s w) w bs r
 
-  put-in-place : Filled d w bs (closeData w bs)
+  put-in-place : ChainFilled d w bs (closeData w bs)
   put-in-place = filled-by d s w bs some-bits (r .run)
 
   sector-of : (k : ℕ) → k < length bs → sectorsOf mid slot (getD bs k 0) ≡ sectorAt mid (getD bs k 0)
-  sector-of k q = sectors-own mid slot (getD bs k 0) (own-bit (free d s w) slot bs (r .run) some-bits (slot-names (look d .label) i w bs) k q)
+  sector-of k q = sectors-own mid slot (getD bs k 0) (own-bit (free d s w) slot bs (r .run) some-bits (slot-names (view d .label) i w bs) k q)
 
   first-link : 1 < length bs → LinksTo (sectorAt mid (getD bs 0 0)) (getD bs 1 0)
   first-link q =
@@ -211,7 +211,7 @@ module _ (d : List ℕ) (s : Sound (look d)) (i : ℕ) (at : FreeSlot (look d) i
   links zero q = first-link q
   links (suc k) q = rw (put-in-place .others (suc k) (omega arith) q) (led (suc k) (omega arith) q)
 
-  pub along : Along (sectorsOf mid slot) bs
+  pub along : LinkedAlong (sectorsOf mid slot) bs
   along = record {
     links = λ k q. rw (sector-of k (omega arith)) (links k q);
     last = λ k q.
@@ -224,56 +224,56 @@ module _ (d : List ℕ) (s : Sound (look d)) (i : ℕ) (at : FreeSlot (look d) i
       rw (sector-of 0 some-bits, put-in-place .first)
       (block-byte (stream w) 0 (nextTrack (drop 1 bs)) (nextSector (drop 1 bs)) k (omega arith) ∙ ap (λ (n : ℕ). getD (stream w) n 0) (omega arith))
 
-  pub closed-good : GoodFile (extra (look d)) (closedFile d i w bs)
-  closed-good =
-      good-of (free d s w) slot bs (r .run) some-bits (slot-names (look d .label) i w bs) n (r .inside) (sectorsOf mid slot) along
-      (slot-fits (look d .label) i w bs n (free d s w) r (sectorsOf mid slot (getD bs 0 0)) header)
+  pub closed-accepted : AcceptedFile (viewTracks (view d)) (closedFile d i w bs)
+  closed-accepted =
+      accepted-of (free d s w) slot bs (r .run) some-bits (slot-names (view d .label) i w bs) n (r .inside) (sectorsOf mid slot) along
+      (slot-fits (view d .label) i w bs n (free d s w) r (sectorsOf mid slot (getD bs 0 0)) header)
 
   -- whether an old name stands behind the slot
   abbrev old : Bool
   old = oldName d i
 
   -- what is written after the data sectors
-  abbrev end : List (Step Look) → List (Step Look)
-  end x = slotSteps old (look d) i slot (sectorsOf (enact d x) slot)
+  abbrev end : List (Step View) → List (Step View)
+  end x = slotSteps old (view d) i slot (sectorsOf (apply d x) slot)
 
-  pub close-goes : find (slotsOf (look d)) (w .name) ≡ none
-      → Goes look Sound d (closeSteps (oldName d i) d i w bs) × Once (numbers (closeSteps (oldName d i) d i w bs))
+  pub close-goes : find (viewSlots (view d)) (w .name) ≡ none
+      → StepsHold view AcceptedDisk d (closeSteps (oldName d i) d i w bs) × Once (numbers (closeSteps (oldName d i) d i w bs))
   close-goes f =
-      subst (λ (x : List (Step Look)). Goes look Sound d (x ++ end x) × Once (numbers (x ++ end x))) (sym (put-in-place .are))
+      subst (λ (x : List (Step View)). StepsHold view AcceptedDisk d (x ++ end x) × Once (numbers (x ++ end x))) (sym (put-in-place .are))
       (blocks-then-slot d (put-in-place .parts) (put-in-place .spare) i (there d s i at w bs r) old (reach-free d i at) 0 slot (slot-fit d s i at w bs r) slot
-      (whole-slot d s i at w bs r) (new-named (look d .label) i n (free d s w) w bs r) (kept d s i at w bs r)
+      (whole-slot d s i at w bs r) (new-named (view d .label) i n (free d s w) w bs r) (kept d s i at w bs r)
       (λ b m. laid-data d s (stream w) bs (r .run) b (sym (slot-map d s i at w bs r b) ∙ m))
-      (λ a. subst (λ (x : List (Step Look)). GoodFile (extra (look d)) (file x)) (put-in-place .are) closed-good)
-      (λ a j g k n q. new-apart d s i at w bs r f (sectorsOf (enact d (blocks (put-in-place .parts))) slot) j g k q))
+      (λ a. subst (λ (x : List (Step View)). AcceptedFile (viewTracks (view d)) (file x)) (put-in-place .are) closed-accepted)
+      (λ a j g k n q. new-apart d s i at w bs r f (sectorsOf (apply d (blocks (put-in-place .parts))) slot) j g k q))
     where
-      file : List (Step Look) → File
-      file x = record { bytes = slot; sectors = sectorsOf (enact d x) slot }
+      file : List (Step View) → File
+      file x = record { bytes = slot; sectors = sectorsOf (apply d x) slot }
 
   -- the other slots are as they were, but for the name behind the directory's end
   pub close-slots : (j : ℕ) → j < slotsIn d → (j ≡ i → ⊥) → (oldName d i ≡ true → j ≡ suc i → ⊥)
-      → slotBytes (enact d (closeSteps (oldName d i) d i w bs)) j ≡ slotBytes d j
+      → slotBytes (apply d (closeSteps (oldName d i) d i w bs)) j ≡ slotBytes d j
   close-slots =
       subst
-      (λ (x : List (Step Look)). (j : ℕ) → j < slotsIn d → (j ≡ i → ⊥) → (old ≡ true → j ≡ suc i → ⊥) → slotBytes (enact d (x ++ end x)) j ≡ slotBytes d j)
+      (λ (x : List (Step View)). (j : ℕ) → j < slotsIn d → (j ≡ i → ⊥) → (old ≡ true → j ≡ suc i → ⊥) → slotBytes (apply d (x ++ end x)) j ≡ slotBytes d j)
       (sym (put-in-place .are))
       (blocks-else-slot d (put-in-place .parts) (put-in-place .spare) i (there d s i at w bs r) old (reach-free d i at) 0 slot (slot-fit d s i at w bs r) _)
 
-  pub close-next : nameless d i ≡ true → suc i < slotsIn d → nameless (enact d (closeSteps (oldName d i) d i w bs)) (suc i) ≡ true
+  pub close-next : isNamelessAt d i ≡ true → suc i < slotsIn d → isNamelessAt (apply d (closeSteps (oldName d i) d i w bs)) (suc i) ≡ true
   close-next =
-      subst (λ (x : List (Step Look)). nameless d i ≡ true → suc i < slotsIn d → nameless (enact d (x ++ end x)) (suc i) ≡ true) (sym (put-in-place .are))
+      subst (λ (x : List (Step View)). isNamelessAt d i ≡ true → suc i < slotsIn d → isNamelessAt (apply d (x ++ end x)) (suc i) ≡ true) (sym (put-in-place .are))
       (blocks-next d (put-in-place .parts) (put-in-place .spare) i (there d s i at w bs r) old (reach-free d i at) 0 slot (slot-fit d s i at w bs r) _)
 
   -- its data sectors are none of the directory's
-  pub close-apart : (j : ℕ) → j < slotsIn d → listed (dirSector j) (numbers (closeData w bs)) ≡ false
-  close-apart j h = rw (put-in-place .are) (dir-unlisted (tracksOf d) (tracks-few d) (put-in-place .parts) (put-in-place .spare .data-bits) j h)
+  pub close-apart : (j : ℕ) → j < slotsIn d → isListed (dirSector j) (numbers (closeData w bs)) ≡ false
+  close-apart j h = rw (put-in-place .are) (dir-unlisted (tracksOf d) (disk-tracks-few d) (put-in-place .parts) (put-in-place .spare .data-bits) j h)
 
   -- what is seen then: the slot holds the recording, as its sectors read
-  pub close-look : find (slotsOf (look d)) (w .name) ≡ none → look (enact d (closeSteps (oldName d i) d i w bs)) ≡ upd (look d) i (some (closedFile d i w bs))
-  unfolding commits lastOf
-  close-look f =
-      goes-look look Sound (closeSteps old d i w bs) d (close-goes f .0)
-      ∙ ap (lastOf (look d))
-      (commits-append (closeData w bs) (slotSteps old (look d) i slot (sectorsOf mid slot)) (filled-quiet d w bs (closeData w bs) put-in-place)
-      ∙ commits-append (endSteps old i) (endStep old (look d) i 0 slot (entryOf slot (sectorsOf mid slot)) ∷ []) (end-commits old i))
-      ∙ ap (upd (look d) i) (entry-live slot (sectorsOf mid slot) (live-is (look d .label) i w bs (omega (arith, r .kind))))
+  pub close-view : find (viewSlots (view d)) (w .name) ≡ none → view (apply d (closeSteps (oldName d i) d i w bs)) ≡ withSlot (view d) i (some (closedFile d i w bs))
+  unfolding commits lastView
+  close-view f =
+      goes-view view AcceptedDisk (closeSteps old d i w bs) d (close-goes f .0)
+      ∙ ap (lastView (view d))
+      (commits-append (closeData w bs) (slotSteps old (view d) i slot (sectorsOf mid slot)) (filled-quiet d w bs (closeData w bs) put-in-place)
+      ∙ commits-append (endSteps old i) (endStep old (view d) i 0 slot (fileIfLive slot (sectorsOf mid slot)) ∷ []) (end-commits old i))
+      ∙ ap (withSlot (view d) i) (entry-live slot (sectorsOf mid slot) (live-is (view d .label) i w bs (omega (arith, r .kind))))

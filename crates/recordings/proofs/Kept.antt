@@ -17,17 +17,17 @@ use Rattle.refusals.specs.Order.{Reply}
 use Rattle.slots.specs.Slot.{sectorsFor}
 use Rattle.slots.proofs.Least.{sectors-least}
 use Rattle.names.specs.Name.{askable, padded}
-use Rattle.disk.specs.Look.{look, slotsOf, extra}
+use Rattle.disk.specs.View.{view, viewSlots, viewTracks}
 use Rattle.disk.specs.Check.{checkDisk}
-use Rattle.plans.specs.Change.{Wish, between, allBetween, usable}
-use Rattle.plans.specs.Plan.{Plan, settle, checked, made}
+use Rattle.plans.specs.Change.{SaveRequest, between, allBetween, usable}
+use Rattle.plans.specs.Plan.{Plan, planResult, checkedResult, newDisk}
 use Rattle.plans.proofs.Kept.{usable-is}
-use Rattle.plans.proofs.Sure.{save-tested}
-use Rattle.recordings.specs.Recording.{Recording, withBody, more, begin, running, opening, piecePlan, adding, closePlan, closing, Recorded, opened, added}
-use Rattle.recordings.specs.Record.{lastFrom, keptByte, recordingOf, zeros, freshRecord, grownLast, grown, StandsFor}
+use Rattle.plans.proofs.SafeSteps.{save-tested}
+use Rattle.recordings.specs.Recording.{Recording, withBody, withPiece, freshRecording, openedRecording, openRecording, piecePlan, addPiece, closePlan, closeRecording, Recorded, byOpening, byPiece}
+use Rattle.recordings.specs.Record.{lastFrom, keptByte, recordingOf, zeros, freshRecord, lastWith, recordWith, RecordOf}
 use Rattle.recordings.specs.declared.Record.{Record}
 use Rattle.recordings.proofs.Whole.{open-of}
-use Rattle.recordings.proofs.Alike.{Alike, piece-alike, close-alike}
+use Rattle.recordings.proofs.SameRequest.{SameRequest, piece-alike, close-alike}
 
 -- ---- names
 
@@ -74,11 +74,11 @@ front-at n x j h =
 
 -- ---- the recording of a record
 
-module _ (k : Record) (r : Recording) (h : StandsFor k r) where
+module _ (k : Record) (r : Recording) (h : RecordOf k r) where
   abbrev body : List ℕ
-  body = r .wish .body
+  body = r .request .body
 
-  body-byte : (j : ℕ) → (j < length body → keptByte k j ≡ getD body j 0) → getD (recordingOf k .wish .body) j 0 ≡ getD body j 0
+  body-byte : (j : ℕ) → (j < length body → keptByte k j ≡ getD body j 0) → getD (recordingOf k .request .body) j 0 ≡ getD body j 0
   unfolding recordingOf
   body-byte j e =
       ⊎-elim (λ (m : j < length body). getD-tab (k .long) (keptByte k) j (omega (arith, h .long)) ∙ e m)
@@ -93,14 +93,14 @@ module _ (k : Record) (r : Recording) (h : StandsFor k r) where
   unfolding keptByte
   last-byte j l a m = rw (le-ltb j 501 l, h .long, le-leb (lastFrom (length body)) j a) (h .last j a m)
 
-  pub stands-alike : Alike (recordingOf k .wish) (r .wish)
+  pub stands-alike : SameRequest (recordingOf k .request) (r .request)
   unfolding recordingOf
   stands-alike = record {
     kind = h .kind;
     page = h .page;
     offset = h .offset;
-    name = ap padded (h .name) ∙ padded-twice (r .wish .name) (usable-is (r .wish .name) (h .usable) .1);
-    usable = ap usable (h .name) ∙ usable-padded (r .wish .name) (h .usable) ∙ sym (h .usable);
+    name = ap padded (h .name) ∙ padded-twice (r .request .name) (usable-is (r .request .name) (h .usable) .1);
+    usable = ap usable (h .name) ∙ usable-padded (r .request .name) (h .usable) ∙ sym (h .usable);
     exec = h .exec;
     info = h .info;
     long = length-tab (k .long) (keptByte k) ∙ h .long;
@@ -111,30 +111,30 @@ module _ (k : Record) (r : Recording) (h : StandsFor k r) where
         (below-or-not j 501));
   }
 
-  same-as : recordingOf k ≡ record { wish = recordingOf k .wish; used = r .used; tracks = r .tracks }
+  same-as : recordingOf k ≡ record { request = recordingOf k .request; used = r .used; tracks = r .tracks }
   unfolding recordingOf
-  same-as = ap₂ {C = Recording} (λ (u : List ℕ) (t : ℕ). record { wish = recordingOf k .wish; used = u; tracks = t }) (h .used) (h .tracks)
+  same-as = ap₂ {C = Recording} (λ (u : List ℕ) (t : ℕ). record { request = recordingOf k .request; used = u; tracks = t }) (h .used) (h .tracks)
 
   -- a piece and a close
-  pub held-adds : (x d : List ℕ) (room : ℕ) → adding (recordingOf k) x d room ≡ adding r x d room
-  unfolding adding
+  pub held-adds : (x d : List ℕ) (room : ℕ) → addPiece (recordingOf k) x d room ≡ addPiece r x d room
+  unfolding addPiece
   held-adds x d room =
-      ap (λ (p : Plan). checked (checkDisk d) (settle d room p))
-      (ap (λ (q : Recording). piecePlan d q x) same-as ∙ piece-alike (recordingOf k .wish) (r .wish) stands-alike (r .used) (r .tracks) x d)
+      ap (λ (p : Plan). checkedResult (checkDisk d) (planResult d room p))
+      (ap (λ (q : Recording). piecePlan d q x) same-as ∙ piece-alike (recordingOf k .request) (r .request) stands-alike (r .used) (r .tracks) x d)
 
-  pub held-closes : (d : List ℕ) (room : ℕ) → closing (recordingOf k) d room ≡ closing r d room
-  unfolding closing
+  pub held-closes : (d : List ℕ) (room : ℕ) → closeRecording (recordingOf k) d room ≡ closeRecording r d room
+  unfolding closeRecording
   held-closes d room = by (checkDisk d) refl
     where
-      by : (o : Reply) → checkDisk d ≡ o → checked o (settle d room (closePlan d (recordingOf k))) ≡ checked o (settle d room (closePlan d r))
+      by : (o : Reply) → checkDisk d ≡ o → checkedResult o (planResult d room (closePlan d (recordingOf k))) ≡ checkedResult o (planResult d room (closePlan d r))
       by (some n) e = refl
-      by none e = ap (settle d room) (ap (closePlan d) same-as ∙ close-alike (recordingOf k .wish) (r .wish) stands-alike (r .used) (r .tracks) d e)
+      by none e = ap (planResult d room) (ap (closePlan d) same-as ∙ close-alike (recordingOf k .request) (r .request) stands-alike (r .used) (r .tracks) d e)
 
   -- ---- with a piece more
 
   module _ (x : List ℕ) where
     abbrev joined : List ℕ
-    joined = r .wish .body ++ x
+    joined = r .request .body ++ x
 
     joined-long : length joined ≡ length body + length x
     joined-long = length-append body x
@@ -189,8 +189,8 @@ module _ (k : Record) (r : Recording) (h : StandsFor k r) where
         put-front (zeros 510) (drop (a - length body) x) (j - a) (omega (arith, length-drop (a - length body) x, joined-long)) (omega arith)
         ∙ getD-drop (a - length body) x (j - a) 0 ∙ ap (λ (i : ℕ). getD x i 0) q ∙ sym (new-byte j (omega arith))
 
-    grown-last : (j : ℕ) → to ≤ j → j < length joined → getD (grownLast k x) (j - to) 0 ≡ getD joined j 0
-    unfolding grownLast
+    grown-last : (j : ℕ) → to ≤ j → j < length joined → getD (lastWith k x) (j - to) 0 ≡ getD joined j 0
+    unfolding lastWith
     grown-last j l m = rw (h .long) (by (eqb (sectorsFor (length body + length x)) (sectorsFor (length body))) refl)
       where
         near : j - to < 510
@@ -208,16 +208,16 @@ module _ (k : Record) (r : Recording) (h : StandsFor k r) where
             ap (λ (f : ℕ). getD (put (zeros 510) 0 (drop (f - length body) x)) (j - to) 0) same-to
             ∙ begins to (past (eqb-false (sectorsFor (length body + length x)) (sectorsFor (length body)) q)) j l m near
 
-    last-room : length (grownLast k x) ≡ 510
-    unfolding grownLast
+    last-room : length (lastWith k x) ≡ 510
+    unfolding lastWith
     last-room = by (eqb (sectorsFor (k .long + length x)) (sectorsFor (k .long)))
       where
         by : (t : Bool) → length (cond t (put (k .last) (k .long - lastFrom (k .long)) x) (put (zeros 510) 0 (drop (lastFrom (k .long + length x) - k .long) x))) ≡ 510
         by true = length-put (k .last) (k .long - lastFrom (k .long)) x ∙ h .room .1
         by false = length-put (zeros 510) 0 (drop (lastFrom (k .long + length x) - k .long) x) ∙ length-replicate {A = ℕ} 510 0
 
-    pub held-more : StandsFor (grown k x) (more r x)
-    unfolding grown
+    pub held-more : RecordOf (recordWith k x) (withPiece r x)
+    unfolding recordWith
     held-more = record {
       kind = h .kind;
       name = h .name;
@@ -236,7 +236,7 @@ module _ (k : Record) (r : Recording) (h : StandsFor k r) where
 
 -- ---- every recording of our calls
 
-pub opened-held : (w : Wish) (d : List ℕ) → usable (w .name) ≡ true → StandsFor (freshRecord w (look d)) (begin w (look d))
+pub opened-held : (w : SaveRequest) (d : List ℕ) → usable (w .name) ≡ true → RecordOf (freshRecord w (view d)) (freshRecording w (view d))
 unfolding freshRecord
 opened-held w d u = record {
   kind = refl;
@@ -255,9 +255,9 @@ opened-held w d u = record {
 }
 
 -- a record for each: what the calls hold after them
-pub kept : (r : Recording) → Recorded r → (k : Record) × StandsFor k r
-kept _ (opened w d r e) =
+pub kept : (r : Recording) → Recorded r → (k : Record) × RecordOf k r
+kept _ (byOpening w d r e) =
     let o = open-of w d r e in
-    let s = save-tested (extra (look d)) (slotsOf (look d)) (withBody w []) (o .1) in
-    (freshRecord w (look d), subst (StandsFor (freshRecord w (look d))) (o .2) (opened-held w d (s .usable-name)))
-kept _ (added r x d room new ss p e) = let t = kept r p in (grown (t .0) x, held-more (t .0) r (t .1) x)
+    let s = save-tested (viewTracks (view d)) (viewSlots (view d)) (withBody w []) (o .1) in
+    (freshRecord w (view d), subst (RecordOf (freshRecord w (view d))) (o .2) (opened-held w d (s .usable-name)))
+kept _ (byPiece r x d room new ss p e) = let t = kept r p in (recordWith (t .0) x, held-more (t .0) r (t .1) x)

@@ -1,8 +1,8 @@
 pub mod Piece
 pub mod Close
 pub mod Closing
-pub mod Straight
+pub mod Uninterrupted
 pub mod Whole
-pub mod Alike
+pub mod SameRequest
 pub mod Kept
 pub mod Refused

@@ -4,17 +4,17 @@ use mathlib.Core.List.{List}
 use mathlib.Core.Option.{none, some}
 use lib.ListN.{length}
 use Rattle.refusals.specs.Order.{Reply, _else_}
-use Rattle.disk.specs.Look.{look}
+use Rattle.disk.specs.View.{view}
 use Rattle.disk.specs.Check.{checkDisk}
-use Rattle.plans.specs.Change.{Wish}
+use Rattle.plans.specs.Change.{SaveRequest}
 use Rattle.plans.specs.Plan.{Changed, changedBy}
-use Rattle.recordings.specs.Recording.{openReply, adding, closing}
+use Rattle.recordings.specs.Recording.{recordingReply, addPiece, closeRecording}
 use Rattle.recordings.specs.Record.{recordingOf, zeros, freshRecord, recordBy}
 use Rattle.recordings.specs.declared.Record.{Record}
 
 -- opening: what is refused, and the record, which is blank where it is
-abbrev pub openingReply : Wish → List ℕ → Reply
-openingReply w d = checkDisk d else openReply w (look d)
+abbrev pub openRecordingReply : SaveRequest → List ℕ → Reply
+openRecordingReply w d = checkDisk d else recordingReply w (view d)
 
 unfoldable pub blankRecord : Record
 blankRecord = record {
@@ -35,16 +35,16 @@ abbrev pub recordOr : Reply → Record → Record
 recordOr (some r) k = blankRecord
 recordOr none k = k
 
-unfoldable pub openedRecord : Wish → List ℕ → Record
-openedRecord w d = recordOr (openingReply w d) (freshRecord w (look d))
+unfoldable pub openedRecord : SaveRequest → List ℕ → Record
+openedRecord w d = recordOr (openRecordingReply w d) (freshRecord w (view d))
 
 -- a piece: "Each call lists what it wrote."
-unfoldable pub added : Record → List ℕ → List ℕ → List ℕ → Changed
-added k x d buf = changedBy (adding (recordingOf k) x d (length buf)) d buf
+unfoldable pub addPieceCall : Record → List ℕ → List ℕ → List ℕ → Changed
+addPieceCall k x d buf = changedBy (addPiece (recordingOf k) x d (length buf)) d buf
 
 unfoldable pub addedRecord : Record → List ℕ → List ℕ → ℕ → Record
-addedRecord k x d room = recordBy k x (adding (recordingOf k) x d room)
+addedRecord k x d room = recordBy k x (addPiece (recordingOf k) x d room)
 
 -- the close, which leaves the record as it is
-unfoldable pub closed : Record → List ℕ → List ℕ → Changed
-closed k d buf = changedBy (closing (recordingOf k) d (length buf)) d buf
+unfoldable pub closeCall : Record → List ℕ → List ℕ → Changed
+closeCall k d buf = changedBy (closeRecording (recordingOf k) d (length buf)) d buf

@@ -8,9 +8,9 @@ use lib.ListN.{length, getD, drop, replicate}
 use Rattle.buffers.specs.Bytes.{put, tab}
 use Rattle.slots.specs.Slot.{sectorsFor}
 use Rattle.names.specs.Name.{padded}
-use Rattle.disk.specs.Look.{Look, extra}
-use Rattle.plans.specs.Change.{Wish, usable}
-use Rattle.plans.specs.Plan.{Result, stopped, made}
+use Rattle.disk.specs.View.{View, viewTracks}
+use Rattle.plans.specs.Change.{SaveRequest, usable}
+use Rattle.plans.specs.Plan.{Result, refusedResult, newDisk}
 use Rattle.recordings.specs.Recording.{Recording, usedOf}
 use Rattle.recordings.specs.declared.Record.{Record}
 
@@ -27,7 +27,7 @@ keptByte k j =
 
 unfoldable pub recordingOf : Record → Recording
 recordingOf k = record {
-  wish = record { kind = k .kind; name = k .name; page = k .page; offset = k .offset; exec = k .exec; info = k .info; body = tab (k .long) (keptByte k) };
+  request = record { kind = k .kind; name = k .name; page = k .page; offset = k .offset; exec = k .exec; info = k .info; body = tab (k .long) (keptByte k) };
   used = k .used;
   tracks = k .tracks;
 }
@@ -39,7 +39,7 @@ abbrev pub zeros : ℕ → List ℕ
 zeros n = replicate n 0
 
 -- at opening: nothing came yet
-unfoldable pub freshRecord : Wish → Look → Record
+unfoldable pub freshRecord : SaveRequest → View → Record
 freshRecord w l = record {
   kind = w .kind;
   name = padded (w .name);
@@ -48,21 +48,21 @@ freshRecord w l = record {
   exec = put (zeros 3) 0 (w .exec);
   info = put (zeros 11) 0 (w .info);
   used = usedOf l;
-  tracks = extra l;
+  tracks = viewTracks l;
   long = 0;
   first = zeros 501;
   last = zeros 510;
 }
 
 -- the bytes of the last sector after a piece x: where it begins no new sector it goes on in it, else a new one begins
-unfoldable pub grownLast : Record → List ℕ → List ℕ
-grownLast k x =
+unfoldable pub lastWith : Record → List ℕ → List ℕ
+lastWith k x =
     cond (eqb (sectorsFor (k .long + length x)) (sectorsFor (k .long))) (put (k .last) (k .long - lastFrom (k .long)) x)
     (put (zeros 510) 0 (drop (lastFrom (k .long + length x) - k .long) x))
 
 -- with a piece x more
-unfoldable pub grown : Record → List ℕ → Record
-grown k x = record {
+unfoldable pub recordWith : Record → List ℕ → Record
+recordWith k x = record {
   kind = k .kind;
   name = k .name;
   page = k .page;
@@ -73,29 +73,29 @@ grown k x = record {
   tracks = k .tracks;
   long = k .long + length x;
   first = put (k .first) (k .long) x;
-  last = grownLast k x;
+  last = lastWith k x;
 }
 
 -- "Refusals, the recording then as before"
 abbrev pub recordBy : Record → List ℕ → Result → Record
-recordBy k x (stopped n) = k
-recordBy k x (made new ss) = grown k x
+recordBy k x (refusedResult n) = k
+recordBy k x (newDisk new ss) = recordWith k x
 
 -- ---- a record that stands for a recording
 
-pub record StandsFor (k : Record) (r : Recording) : Type 0 where
-  pub kind : k .kind ≡ r .wish .kind
-  pub name : k .name ≡ padded (r .wish .name)
-  pub usable : usable (r .wish .name) ≡ true
-  pub page : k .page ≡ r .wish .page
-  pub offset : k .offset ≡ r .wish .offset
-  pub exec : (j : ℕ) → j < 3 → getD (k .exec) j 0 ≡ getD (r .wish .exec) j 0
-  pub info : (j : ℕ) → j < 11 → getD (k .info) j 0 ≡ getD (r .wish .info) j 0
+pub record RecordOf (k : Record) (r : Recording) : Type 0 where
+  pub kind : k .kind ≡ r .request .kind
+  pub name : k .name ≡ padded (r .request .name)
+  pub usable : usable (r .request .name) ≡ true
+  pub page : k .page ≡ r .request .page
+  pub offset : k .offset ≡ r .request .offset
+  pub exec : (j : ℕ) → j < 3 → getD (k .exec) j 0 ≡ getD (r .request .exec) j 0
+  pub info : (j : ℕ) → j < 11 → getD (k .info) j 0 ≡ getD (r .request .info) j 0
   pub used : k .used ≡ r .used
   pub tracks : k .tracks ≡ r .tracks
-  pub long : k .long ≡ length (r .wish .body)
+  pub long : k .long ≡ length (r .request .body)
   pub room : (length (k .first) ≡ 501) × (length (k .last) ≡ 510)
   -- the first sector's body bytes, and the last's
-  pub first : (j : ℕ) → j < 501 → j < length (r .wish .body) → getD (k .first) j 0 ≡ getD (r .wish .body) j 0
-  pub last : (j : ℕ) → lastFrom (length (r .wish .body)) ≤ j → j < length (r .wish .body)
-      → getD (k .last) (j - lastFrom (length (r .wish .body))) 0 ≡ getD (r .wish .body) j 0
+  pub first : (j : ℕ) → j < 501 → j < length (r .request .body) → getD (k .first) j 0 ≡ getD (r .request .body) j 0
+  pub last : (j : ℕ) → lastFrom (length (r .request .body)) ≤ j → j < length (r .request .body)
+      → getD (k .last) (j - lastFrom (length (r .request .body))) 0 ≡ getD (r .request .body) j 0

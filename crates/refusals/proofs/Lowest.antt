@@ -8,8 +8,8 @@ use native.Mathlib.Omega.{arith}
 use borrow.Author.Tests.{ltb-true, eqb-false, not-true}
 use lib.Dec.{eqb, ltb}
 use Rattle.buffers.proofs.Tests.{and-both}
-use Rattle.refusals.specs.Order.{Refusal, Row, FirstRow, SlotRow, FirstOf, bare, risesFrom, rises, Applies, Lowest}
-use Rattle.refusals.specs.Answers.{numberOf}
+use Rattle.refusals.specs.Order.{Refusal, Row, FirstRow, SlotRow, FirstSlotRow, withoutSlots, risesFrom, rises, Applies, LowestRow}
+use Rattle.refusals.specs.Answers.{refusalNumber}
 use Rattle.refusals.specs.declared.Reason.{Reason}
 use Rattle.refusals.specs.declared.Reason.the-variants.{NotAnImage, KindUnknown, NameMissing, CountOutOfRange, BitsDiffer, FirstNotOwn, LengthTooGreat, SectorShared, NameTwice, ChainBroken, HeaderDiffers, NameNotUsable, WrongKind, StartOutOfRange, NameNotFound, NameTaken, FileProtected, NoFreeSlot, TooFewSectors, BufferTooShort, NoSuchSector, WasteSectors, NamesNotTens, TracksOutOfRange, BodyTooLong, CodeNotOwn, NoSuchDirectory, InsideItself, DirectoryNotEmpty, RecordingMoved, ReportFull, NoFreeRun}
 
@@ -47,24 +47,24 @@ least-first (r ∷ rs) k n e a l = by (r .holds) refl (least-first rs (r .number
         inl (q, ⊎-elim (λ w. w .1) (λ w. absurd (omega (arith, applies-above rs (r .number) n (c .1) w, l (r .number) (inl (q, refl))))) a)
     by false q k = inr (q, k (⊎-elim (λ w. absurd (true≢false (sym (w .0) ∙ q))) (λ w. w) a) (λ m w. l m (inr w)))
 
-pub lowest-first : (rs : List Row) (n : ℕ) → rises rs ≡ true → FirstRow n rs ↔ Lowest n rs
+pub lowest-first : (rs : List Row) (n : ℕ) → rises rs ≡ true → FirstRow n rs ↔ LowestRow n rs
 lowest-first rs n e = (
   λ f. record { applies = first-applies rs n f; least = first-least rs 0 n e f },
   λ w. least-first rs 0 n e (w .applies) (w .least),
 )
 
 -- the same of rows with their slots
-pub first-bare : (rs : List SlotRow) (x : Refusal) → FirstOf x rs → FirstRow (x .number) (bare rs)
+pub first-bare : (rs : List SlotRow) (x : Refusal) → FirstSlotRow x rs → FirstRow (x .number) (withoutSlots rs)
 first-bare [] x f = f
 first-bare (r ∷ rs) x f =
     ⊎-elim (λ a. inl (a .0, ap (λ (y : Refusal). y .number) (a .1))) (λ a. inr (a .0, first-bare rs x (a .1))) f
 
-pub slot-lowest : (rs : List SlotRow) (x : Refusal) → rises (bare rs) ≡ true → FirstOf x rs → Lowest (x .number) (bare rs)
-slot-lowest rs x e f = lowest-first (bare rs) (x .number) e .0 (first-bare rs x f)
+pub slot-lowest : (rs : List SlotRow) (x : Refusal) → rises (withoutSlots rs) ≡ true → FirstSlotRow x rs → LowestRow (x .number) (withoutSlots rs)
+slot-lowest rs x e f = lowest-first (withoutSlots rs) (x .number) e .0 (first-bare rs x f)
 
 -- ---- no refusal has the number 0
 
-pub positive : (r : Reason) → numberOf r ≢ 0
+pub positive : (r : Reason) → refusalNumber r ≢ 0
 positive NotAnImage = λ e. omega arith
 positive KindUnknown = λ e. omega arith
 positive NameMissing = λ e. omega arith
@@ -113,5 +113,5 @@ first-lacks m (r ∷ rs) n e f =
 pub first-positive : (rs : List Row) (n : ℕ) → rises rs ≡ true → FirstRow n rs → n ≢ 0
 first-positive rs n e f z = let h : 0 < n = applies-above rs 0 n e (first-applies rs n f) in omega arith
 
-pub slot-positive : (rs : List SlotRow) (x : Refusal) → rises (bare rs) ≡ true → FirstOf x rs → x .number ≢ 0
-slot-positive rs x e f = first-positive (bare rs) (x .number) e (first-bare rs x f)
+pub slot-positive : (rs : List SlotRow) (x : Refusal) → rises (withoutSlots rs) ≡ true → FirstSlotRow x rs → x .number ≢ 0
+slot-positive rs x e f = first-positive (withoutSlots rs) (x .number) e (first-bare rs x f)

@@ -8,88 +8,88 @@ use Rattle.refusals.specs.declared.Reason.{Reason}
 use Rattle.refusals.specs.declared.Reason.the-variants.{NotAnImage, KindUnknown, NameMissing, CountOutOfRange, BitsDiffer, FirstNotOwn, LengthTooGreat, SectorShared, NameTwice, ChainBroken, HeaderDiffers, NameNotUsable, WrongKind, StartOutOfRange, NameNotFound, NameTaken, FileProtected, NoFreeSlot, TooFewSectors, BufferTooShort, NoSuchSector, WasteSectors, NamesNotTens, TracksOutOfRange, BodyTooLong, CodeNotOwn, NoSuchDirectory, InsideItself, DirectoryNotEmpty, RecordingMoved, ReportFull, NoFreeRun}
 use Rattle.refusals.specs.declared.Refused.{Refused}
 use Rattle.refusals.specs.declared.Verdict.{Verdict}
-use Rattle.refusals.specs.declared.Verdict.the-variants.{Sound, Unsound}
+use Rattle.refusals.specs.declared.Verdict.the-variants.{Accepted, Err}
 use Rattle.refusals.specs.declared.Answer.{Answer}
-use Rattle.refusals.specs.declared.Answer.the-variants.{Done, No}
+use Rattle.refusals.specs.declared.Answer.the-variants.{Done, Err}
 
 -- "Numbers of refusal"
-abbrev pub numberOf : Reason → ℕ
+abbrev pub refusalNumber : Reason → ℕ
 -- the image is not 819,200 bytes
-numberOf NotAnImage = 1
+refusalNumber NotAnImage = 1
 -- the kind is not known
-numberOf KindUnknown = 2
+refusalNumber KindUnknown = 2
 -- "3 is given no more": the number stays taken
-numberOf NameMissing = 3
+refusalNumber NameMissing = 3
 -- the count is not 1 to the number of data sectors
-numberOf CountOutOfRange = 4
+refusalNumber CountOutOfRange = 4
 -- the map's set bits are not as many as the count
-numberOf BitsDiffer = 5
+refusalNumber BitsDiffer = 5
 -- the first address is not a data sector, or its bit is clear, or a map bit is inside the directory
-numberOf FirstNotOwn = 6
+refusalNumber FirstNotOwn = 6
 -- carried kind, and 510 × count is below 9 + length
-numberOf LengthTooGreat = 7
+refusalNumber LengthTooGreat = 7
 -- the map shares a bit with an earlier live slot
-numberOf SectorShared = 8
+refusalNumber SectorShared = 8
 -- the name is an earlier live slot's
-numberOf NameTwice = 9
+refusalNumber NameTwice = 9
 -- the chain is broken
-numberOf ChainBroken = 10
+refusalNumber ChainBroken = 10
 -- carried kind, and the header differs from the slot
-numberOf HeaderDiffers = 11
+refusalNumber HeaderDiffers = 11
 -- the name is not usable
-numberOf NameNotUsable = 12
+refusalNumber NameNotUsable = 12
 -- the kind asked for, or found, is not one that the call takes
-numberOf WrongKind = 13
+refusalNumber WrongKind = 13
 -- start page above 31, or offset outside 32,768 to 49,151
-numberOf StartOutOfRange = 14
+refusalNumber StartOutOfRange = 14
 -- no live slot has the name
-numberOf NameNotFound = 15
+refusalNumber NameNotFound = 15
 -- a live slot has the new name
-numberOf NameTaken = 16
+refusalNumber NameTaken = 16
 -- protected
-numberOf FileProtected = 17
+refusalNumber FileProtected = 17
 -- no slot has byte 0 zero
-numberOf NoFreeSlot = 18
+refusalNumber NoFreeSlot = 18
 -- fewer free sectors than the save takes
-numberOf TooFewSectors = 19
+refusalNumber TooFewSectors = 19
 -- a lent output buffer is too short
-numberOf BufferTooShort = 20
+refusalNumber BufferTooShort = 20
 -- no such drive, track or sector
-numberOf NoSuchSector = 21
+refusalNumber NoSuchSector = 21
 -- a carried kind whose count is above the least that its length needs (the release check alone)
-numberOf WasteSectors = 22
+refusalNumber WasteSectors = 22
 -- names laid end to end that are not a whole number of tens (erase many)
-numberOf NamesNotTens = 23
+refusalNumber NamesNotTens = 23
 -- the number of directory tracks beyond four is 36 to 254 (in the listing program above 0)
-numberOf TracksOutOfRange = 24
+refusalNumber TracksOutOfRange = 24
 -- kind 1 to 4, and 510 × count is below 9 + length
-numberOf BodyTooLong = 25
+refusalNumber BodyTooLong = 25
 -- a directory with code 0 or an earlier directory's code (the listing of a directory alone, as 27 and 28)
-numberOf CodeNotOwn = 26
+refusalNumber CodeNotOwn = 26
 -- a live slot's byte 254 is not 0 and no directory's code
-numberOf NoSuchDirectory = 27
+refusalNumber NoSuchDirectory = 27
 -- a directory lies inside itself at some depth
-numberOf InsideItself = 28
+refusalNumber InsideItself = 28
 -- a directory whose code, not 0, is another live slot's byte 254 (erase)
-numberOf DirectoryNotEmpty = 29
+refusalNumber DirectoryNotEmpty = 29
 -- the used map or n is not what it was at opening, or a sector that a recording's pieces listed lacks its link (a piece, a close)
-numberOf RecordingMoved = 30
+refusalNumber RecordingMoved = 30
 -- a disk or join that would pass 65,535 disks
-numberOf ReportFull = 31
+refusalNumber ReportFull = 31
 -- no run of consecutive free sectors as long as the file that is to be gathered
-numberOf NoFreeRun = 32
+refusalNumber NoFreeRun = 32
 
 -- the last number of the table: document 01 ends at 21, document 02 at 32
 abbrev pub lastNumber : ℕ
 lastNumber = 32
 
 abbrev pub refusalOf : Refused → Refusal
-refusalOf r = refuse (numberOf (r .reason)) (r .slot)
+refusalOf r = refuse (refusalNumber (r .reason)) (r .slot)
 
 -- what a check replies
 abbrev pub replyOf : Verdict → Reply
-replyOf Sound = none
-replyOf (Unsound r) = some (refusalOf r)
+replyOf Accepted = none
+replyOf (Err r) = some (refusalOf r)
 
 -- what a call gives: its value and the free sectors, or a refusal
 pub data Outcome : Type 0 where
@@ -98,7 +98,7 @@ pub data Outcome : Type 0 where
 
 abbrev pub outcomeOf : Answer → Outcome
 outcomeOf (Done v f) = done v f
-outcomeOf (No r) = refused (refusalOf r)
+outcomeOf (Err r) = refused (refusalOf r)
 
 -- an outcome, unless there is a refusal
 abbrev pub unless : Reply → Outcome → Outcome

@@ -46,20 +46,20 @@ row n s t = rows s ((n when t) ∷ [])
 
 -- the first answer among n numbers from i on
 module _ {A : Type 0} where
-  unfoldable pub sweepFrom : ℕ → ℕ → (ℕ → Option A) → Option A
-  sweepFrom zero i f = none
-  sweepFrom (suc n) i f = f i else sweepFrom n (suc i) f
+  unfoldable pub scanFrom : ℕ → ℕ → (ℕ → Option A) → Option A
+  scanFrom zero i f = none
+  scanFrom (suc n) i f = f i else scanFrom n (suc i) f
 
   -- the first answer among the numbers below n
-  unfoldable pub sweep : ℕ → (ℕ → Option A) → Option A
-  sweep n f = sweepFrom n 0 f
+  unfoldable pub scan : ℕ → (ℕ → Option A) → Option A
+  scan n f = scanFrom n 0 f
 
 -- ---- what it means to be the first
 
 -- no row holds
-abbrev pub Clear : List Row → Type 0
-Clear [] = Unit {0}
-Clear (r ∷ rs) = (r .holds ≡ false) × Clear rs
+abbrev pub RowsClear : List Row → Type 0
+RowsClear [] = Unit {0}
+RowsClear (r ∷ rs) = (r .holds ≡ false) × RowsClear rs
 
 -- a number whose row holds, and no row before it does
 abbrev pub FirstRow : ℕ → List Row → Type 0
@@ -90,13 +90,13 @@ NoRow [] = Unit {0}
 NoRow (r ∷ rs) = (r .holds ≡ false) × NoRow rs
 
 -- a refusal whose row holds, and no row before it does
-abbrev pub FirstOf : Refusal → List SlotRow → Type 0
-FirstOf x [] = ⊥
-FirstOf x (r ∷ rs) = ((r .holds ≡ true) × (refuse (r .number) (r .slot) ≡ x)) ⊎ ((r .holds ≡ false) × FirstOf x rs)
+abbrev pub FirstSlotRow : Refusal → List SlotRow → Type 0
+FirstSlotRow x [] = ⊥
+FirstSlotRow x (r ∷ rs) = ((r .holds ≡ true) × (refuse (r .number) (r .slot) ≡ x)) ⊎ ((r .holds ≡ false) × FirstSlotRow x rs)
 
 -- the same rows without their slots
-abbrev pub bare : List SlotRow → List Row
-bare rs = map (λ (r : SlotRow). r .number when r .holds) rs
+abbrev pub withoutSlots : List SlotRow → List Row
+withoutSlots rs = map (λ (r : SlotRow). r .number when r .holds) rs
 
 -- ---- the lowest number
 
@@ -115,6 +115,6 @@ Applies n [] = ⊥
 Applies n (r ∷ rs) = ((r .holds ≡ true) × (r .number ≡ n)) ⊎ Applies n rs
 
 -- "the lowest that applies"
-pub record Lowest (n : ℕ) (rs : List Row) : Type 0 where
+pub record LowestRow (n : ℕ) (rs : List Row) : Type 0 where
   pub applies : Applies n rs
   pub least : (m : ℕ) → Applies m rs → n ≤ m

@@ -3,7 +3,7 @@ ghost use mathlib.Core.Path.{_≡_};
 ghost use Prim.Native.Nat.{_≤_};
 ghost use mathlib.Core.Option.{some};
 ghost use Rattle.refusals.specs.Order.{refuse};
-ghost use Rattle.refusals.specs.Answers.{numberOf, lastNumber, replyOf, outcomeOf, refused};
+ghost use Rattle.refusals.specs.Answers.{refusalNumber, lastNumber, replyOf, outcomeOf, refused};
 
 // The rows of the table. `NameMissing` is given no more; its number stays its own.
 pub enum Reason {
@@ -49,19 +49,19 @@ pub struct Refused {
 
 // What a check finds.
 pub enum Verdict {
-    Sound,
-    Unsound(Refused),
+    Accepted,
+    Err(Refused),
 }
 
 // What a call answers: a value (how many, a length, an address) with the free sectors of a listing, or a refusal.
 pub enum Answer {
     Done(usize, usize),
-    No(Refused),
+    Err(Refused),
 }
 
 // The number of a reason in the table.
-pub fn number_of(reason: Reason) -> usize
-    ensures { λ r. ⌜ (r ≡ numberOf reason) × (r ≤ lastNumber) ⌝ }
+pub fn refusal_number(reason: Reason) -> usize
+    ensures { λ r. ⌜ (r ≡ refusalNumber reason) × (r ≤ lastNumber) ⌝ }
 {
     match reason {
         Reason::NotAnImage => 1,
@@ -100,15 +100,15 @@ pub fn number_of(reason: Reason) -> usize
 }
 
 // An answer that refuses.
-pub fn no(reason: Reason, slot: usize) -> Answer
-    ensures { λ r. ⌜ outcomeOf r ≡ refused (refuse (numberOf reason) slot) ⌝ }
+pub fn refused_answer(reason: Reason, slot: usize) -> Answer
+    ensures { λ r. ⌜ outcomeOf r ≡ refused (refuse (refusalNumber reason) slot) ⌝ }
 {
-    Answer::No(Refused { reason, slot })
+    Answer::Err(Refused { reason, slot })
 }
 
 // A verdict that refuses.
-pub fn unsound(reason: Reason, slot: usize) -> Verdict
-    ensures { λ r. ⌜ replyOf r ≡ some (refuse (numberOf reason) slot) ⌝ }
+pub fn refused_verdict(reason: Reason, slot: usize) -> Verdict
+    ensures { λ r. ⌜ replyOf r ≡ some (refuse (refusalNumber reason) slot) ⌝ }
 {
-    Verdict::Unsound(Refused { reason, slot })
+    Verdict::Err(Refused { reason, slot })
 }

@@ -17,15 +17,15 @@ use Rattle.refusals.specs.Order.{Refusal, Reply, Row, FirstRow}
 use Rattle.slots.specs.Slot.{kindOf, countOf}
 use Rattle.slots.proofs.Tracks.{tracks-few}
 use Rattle.directory.specs.Places.{slots}
-use Rattle.directory.specs.Directory.{held, Directory, liveAmong}
+use Rattle.directory.specs.Directory.{foldOption, Directory, liveAmong}
 use Rattle.surveys.specs.Survey.{union, usedMap, counted, free, freeOf}
 use Rattle.surveys.proofs.Pass.{used-few}
-use Rattle.disk.specs.Look.{Look, look, slotsOf, extra}
-use Rattle.disk.specs.Check.{checkLook, checkDisk}
-use Rattle.disk.specs.Given.{rows9, rows11, Given, by-length, by-tracks, by-slot, by-chain}
-use Rattle.disk.proofs.Order.{given, rows-by-kind, chain-by-kind, check-positive}
+use Rattle.disk.specs.View.{View, view, viewSlots, viewTracks}
+use Rattle.disk.specs.Check.{checkView, checkDisk}
+use Rattle.disk.specs.Given.{rows9, rows11, CheckGives, by-length, by-tracks, by-slot, by-chain}
+use Rattle.disk.proofs.Order.{check-given, rows-by-kind, chain-by-kind, check-positive}
 use Rattle.reports.specs.Numbers.{Numbers, inClass, filesAmong, filesReport, acceptedReport, refusedReport, empty, plus, over, reportOf}
-use Rattle.reports.specs.Shelf.{Disks, ofAccepted, total, filesOf, dataOf, AddsUp}
+use Rattle.reports.specs.Totals.{Disks, ofAccepted, totalOver, filesOf, dataSectorsOf, AddsUp}
 use Rattle.reports.proofs.Classes.{class-only, class-some}
 use Rattle.reports.proofs.Places.{only-from}
 use Rattle.reports.proofs.Disk.{used-sectors, survey-accepts, report-accepted, report-refused}
@@ -37,9 +37,9 @@ module _ (v : Directory) (m : ℕ) (p : ℕ → List ℕ → Bool) (one : (s : L
   unfolding filesAmong liveAmong count
   parted zero = sum-zero m
   parted (suc i) =
-      sum-plus m (λ k. count i (λ j. held false (p k) (v j))) (λ k. cond (held false (p k) (v i)) 1 0) ∙ ap₂ _+_ (parted i) (by (v i))
+      sum-plus m (λ k. count i (λ j. foldOption false (p k) (v j))) (λ k. cond (foldOption false (p k) (v i)) 1 0) ∙ ap₂ _+_ (parted i) (by (v i))
     where
-      by : (o : Option (List ℕ)) → sum m (λ k. cond (held false (p k) o) 1 0) ≡ cond (held false (λ s. true) o) 1 0
+      by : (o : Option (List ℕ)) → sum m (λ k. cond (foldOption false (p k) o) 1 0) ≡ cond (foldOption false (λ s. true) o) 1 0
       by none = sum-zero m
       by (some s) = one s
 
@@ -64,11 +64,11 @@ first-low (r ∷ rs) n e f =
     let w = and-both (leb (r .number) 32) (low rs) e in
     ⊎-elim (λ a. let z : r .number ≡ n = a .1 in omega (arith, leb-true (r .number) 32 (w .0))) (λ a. first-low rs n (w .1) (a .1)) f
 
-check-low : (l : Look) (r : Refusal) → checkLook l ≡ some r → r .number ≤ 32
+check-low : (l : View) (r : Refusal) → checkView l ≡ some r → r .number ≤ 32
 unfolding low
-check-low l r e = by (given l r e)
+check-low l r e = by (check-given l r e)
   where
-    by : Given l r → r .number ≤ 32
+    by : CheckGives l r → r .number ≤ 32
     by (by-length n q) = omega (arith, ap (λ (x : Refusal). x .number) q)
     by (by-tracks n a b q) = omega (arith, ap (λ (x : Refusal). x .number) q)
     by (by-slot n t w) = first-low (rows9 l (w .at) (w .file)) (r .number) (rows-by-kind (λ rs. low rs ≡ true) false l (w .at) (w .file) refl refl) (w .number)
@@ -89,52 +89,52 @@ record One (d : List ℕ) (r : Numbers) : Type 0 where
   disks : r .accepted + sum 32 (λ n. r .refused (suc n)) ≡ 1
   classes : sum 12 (r .classes) ≡ ofAccepted filesOf d
   kinds : sum 64 (r .kinds) ≡ ofAccepted filesOf d
-  sectors : r .sectors + r .free ≡ ofAccepted dataOf d
+  sectors : r .sectors + r .free ≡ ofAccepted dataSectorsOf d
 
 -- "file and free sectors": of an accepted disk they add up to its data sectors
-pub sectors-data : (l : Look) → checkLook l ≡ none → reportOf l .sectors + reportOf l .free ≡ dataOf l
-unfolding acceptedReport free freeOf usedMap counted extra
+pub sectors-data : (l : View) → checkView l ≡ none → reportOf l .sectors + reportOf l .free ≡ dataSectorsOf l
+unfolding acceptedReport free freeOf usedMap counted viewTracks
 sectors-data l e =
     ap (λ (r : Numbers). r .sectors + r .free) (report-accepted l e)
-    ∙ omega (arith, used-sectors (extra l) (slotsOf l) (survey-accepts l e) slots (omega arith), used-few (extra l) (slotsOf l) (tracks-few (l .label 255)) (survey-accepts l e))
+    ∙ omega (arith, used-sectors (viewTracks l) (viewSlots l) (survey-accepts l e) slots (omega arith), used-few (viewTracks l) (viewSlots l) (tracks-few (l .label 255)) (survey-accepts l e))
 
-one : (d : List ℕ) → One d (reportOf (look d))
+one : (d : List ℕ) → One d (reportOf (view d))
 unfolding checkDisk acceptedReport filesReport refusedReport
-one d = by (checkLook (look d)) refl
+one d = by (checkView (view d)) refl
   where
-    l : Look
-    l = look d
+    l : View
+    l = view d
 
     v : Directory
-    v = slotsOf l
+    v = viewSlots l
 
-    by : (q : Reply) → checkLook l ≡ q → One d (reportOf l)
+    by : (q : Reply) → checkView l ≡ q → One d (reportOf l)
     by none e =
         let a = report-accepted l e in
         record {
           disks = ap (λ (r : Numbers). r .accepted + sum 32 (λ n. r .refused (suc n))) a ∙ ap (λ (n : ℕ). 1 + n) (sum-zero 32);
-          classes = ap (λ (r : Numbers). sum 12 (r .classes)) a ∙ parted v 12 (λ c s. inClass c (countOf s)) one-class slots ∙ sym (ap (held (filesOf l) (λ r. 0)) e);
-          kinds = ap (λ (r : Numbers). sum 64 (r .kinds)) a ∙ parted v 64 (λ k s. eqb k (kindOf s)) one-kind slots ∙ sym (ap (held (filesOf l) (λ r. 0)) e);
-          sectors = sectors-data l e ∙ sym (ap (held (dataOf l) (λ r. 0)) e);
+          classes = ap (λ (r : Numbers). sum 12 (r .classes)) a ∙ parted v 12 (λ c s. inClass c (countOf s)) one-class slots ∙ sym (ap (foldOption (filesOf l) (λ r. 0)) e);
+          kinds = ap (λ (r : Numbers). sum 64 (r .kinds)) a ∙ parted v 64 (λ k s. eqb k (kindOf s)) one-kind slots ∙ sym (ap (foldOption (filesOf l) (λ r. 0)) e);
+          sectors = sectors-data l e ∙ sym (ap (foldOption (dataSectorsOf l) (λ r. 0)) e);
         }
     by (some r) e =
         let a = report-refused l r e in
         record {
           disks = ap (λ (r : Numbers). r .accepted + sum 32 (λ n. r .refused (suc n))) a ∙ ap (λ (n : ℕ). 0 + n) (one-refused (r .number) (check-positive d r e) (check-low l r e));
-          classes = ap (λ (r : Numbers). sum 12 (r .classes)) a ∙ sum-zero 12 ∙ sym (ap (held (filesOf l) (λ r. 0)) e);
-          kinds = ap (λ (r : Numbers). sum 64 (r .kinds)) a ∙ sum-zero 64 ∙ sym (ap (held (filesOf l) (λ r. 0)) e);
-          sectors = ap (λ (r : Numbers). r .sectors + r .free) a ∙ sym (ap (held (dataOf l) (λ r. 0)) e);
+          classes = ap (λ (r : Numbers). sum 12 (r .classes)) a ∙ sum-zero 12 ∙ sym (ap (foldOption (filesOf l) (λ r. 0)) e);
+          kinds = ap (λ (r : Numbers). sum 64 (r .kinds)) a ∙ sum-zero 64 ∙ sym (ap (foldOption (filesOf l) (λ r. 0)) e);
+          sectors = ap (λ (r : Numbers). r .sectors + r .free) a ∙ sym (ap (foldOption (dataSectorsOf l) (λ r. 0)) e);
         }
 
 -- ---- a list of disks
 
 pub adds-up : (ds : Disks) → AddsUp ds (over ds)
-unfolding over empty plus total
+unfolding over empty plus totalOver
 adds-up [] = record { disks = omega (arith, sum-zero 32); classes = sum-zero 12; kinds = sum-zero 64; sectors = refl }
 adds-up (d ∷ ds) =
     let a = one d in
     let b = adds-up ds in
-    let x = reportOf (look d) in
+    let x = reportOf (view d) in
     let y = over ds in
     record {
       disks = omega (arith, sum-plus 32 (λ n. x .refused (suc n)) (λ n. y .refused (suc n)), a .disks, b .disks);

@@ -10,7 +10,7 @@ use Rattle.buffers.specs.Bytes.{put}
 use Rattle.buffers.proofs.Lists.{length-tab, length-put, take-put}
 use Rattle.refusals.specs.Order.{refuse}
 use Rattle.refusals.specs.Answers.{Outcome, done, refused, out, filled}
-use Rattle.reports.specs.Calls.{raised, full}
+use Rattle.reports.specs.Calls.{raised, reportFull}
 
 pub length-raised : (r : List ℕ) (f : ℕ → ℕ) → length (raised r f) ≡ 111
 unfolding raised
@@ -21,8 +21,8 @@ pub put-whole : (r x : List ℕ) → length x ≡ length r → put r 0 x ≡ x
 put-whole r x h = sym (take-all (length x) (put r 0 x) (omega (arith, length-put r 0 x))) ∙ take-put r x (put r 0 x) refl (omega arith)
 
 module _ (r : List ℕ) (n : ℕ) (f : ℕ → ℕ) where
-  pub full-refused : 65535 < n → {o : Outcome} → o ≡ refused (refuse 31 0) → out o r ≡ filled (full n) (done n 0) (raised r f) r
+  pub full-refused : 65535 < n → {o : Outcome} → o ≡ refused (refuse 31 0) → out o r ≡ filled (reportFull n) (done n 0) (raised r f) r
   full-refused h e = ap (λ (o : Outcome). out o r) e ∙ rw (lt-ltb 65535 n h)
 
-  pub full-done : n ≤ 65535 → length r ≡ 111 → {l : List ℕ} → l ≡ raised r f → out (done n 0) l ≡ filled (full n) (done n 0) (raised r f) r
+  pub full-done : n ≤ 65535 → length r ≡ 111 → {l : List ℕ} → l ≡ raised r f → out (done n 0) l ≡ filled (reportFull n) (done n 0) (raised r f) r
   full-done h k e = ap (out (done n 0)) (e ∙ sym (put-whole r (raised r f) (length-raised r f ∙ sym k))) ∙ rw (le-ltb 65535 n h)

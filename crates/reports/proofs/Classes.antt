@@ -60,50 +60,50 @@ class-only a b n h l p = by (inClass b n) (eqb b a) refl refl
 
 -- ---- as the code looks for it: `next` is the least of the class after c
 
-pub record Sought (n c next : ℕ) : Type 0 where
+pub record ClassLoop (n c next : ℕ) : Type 0 where
   pub few : c ≤ 11
   pub next-is : next ≡ 2 ^ c
   pub least : leastOf c ≤ n
 
-pub sought-start : (n : ℕ) → Sought n 0 1
+pub lookup-start : (n : ℕ) → ClassLoop n 0 1
 unfolding leastOf
-sought-start n = record { few = omega arith; next-is = refl; least = omega arith }
+lookup-start n = record { few = omega arith; next-is = refl; least = omega arith }
 
-pub sought-small : (n c next : ℕ) → Sought n c next → next ≤ 2048
-sought-small n c next w =
+pub lookup-small : (n c next : ℕ) → ClassLoop n c next → next ≤ 2048
+lookup-small n c next w =
     let e : c + (11 - c) ≡ 11 = omega (arith, w .few) in
     omega (arith, w .next-is, pow-rises c (11 - c), ap (λ (x : ℕ). 2 ^ x) e)
 
-pub sought-more : (n c next : ℕ) → Sought n c next → c < 11 → next ≤ n → Sought n (c + 1) (2 * next)
+pub lookup-more : (n c next : ℕ) → ClassLoop n c next → c < 11 → next ≤ n → ClassLoop n (c + 1) (2 * next)
 unfolding leastOf
-sought-more n c next w h l = record {
+lookup-more n c next w h l = record {
   few = omega arith;
   next-is = ap (λ (x : ℕ). 2 * x) (w .next-is) ∙ sym (pow-more c);
   least = rw (add-one c) (omega (arith, w .next-is));
 }
 
-pub sought-here : (n c next : ℕ) → Sought n c next → n < next → inClass c n ≡ true
+pub lookup-here : (n c next : ℕ) → ClassLoop n c next → n < next → inClass c n ≡ true
 unfolding inClass leastOf
-sought-here n c next w h =
+lookup-here n c next w h =
     both-and (leb (leastOf c) n) (eqb c 11 || ltb n (2 ^ c)) (le-leb (leastOf c) n (w .least))
     (or-right (eqb c 11) (ltb n (2 ^ c)) (lt-ltb n (2 ^ c) (omega (arith, w .next-is))))
 
-pub sought-last : (n c next : ℕ) → Sought n c next → 11 ≤ c → inClass c n ≡ true
+pub lookup-last : (n c next : ℕ) → ClassLoop n c next → 11 ≤ c → inClass c n ≡ true
 unfolding inClass
-sought-last n c next w h =
+lookup-last n c next w h =
     let e : c ≡ 11 = omega (arith, w .few) in
     both-and (leb (leastOf c) n) (eqb c 11 || ltb n (leastOf (suc c))) (le-leb (leastOf c) n (w .least))
     (or-left (eqb c 11) (ltb n (leastOf (suc c))) (eq-eqb c 11 e))
 
-pub sought-few : (n c next : ℕ) → Sought n c next → c < 12
-sought-few n c next w = omega (arith, w .few)
+pub lookup-few : (n c next : ℕ) → ClassLoop n c next → c < 12
+lookup-few n c next w = omega (arith, w .few)
 
 -- every count is in one
 pub class-some : (n : ℕ) → (c : ℕ) × (c < 12) × (inClass c n ≡ true)
-class-some n = from 11 0 1 refl (sought-start n)
+class-some n = from 11 0 1 refl (lookup-start n)
   where
-    from : (m c next : ℕ) → c + m ≡ 11 → Sought n c next → (c : ℕ) × (c < 12) × (inClass c n ≡ true)
-    from zero c next e w = (c, omega arith, sought-last n c next w (omega arith))
+    from : (m c next : ℕ) → c + m ≡ 11 → ClassLoop n c next → (c : ℕ) × (c < 12) × (inClass c n ≡ true)
+    from zero c next e w = (c, omega arith, lookup-last n c next w (omega arith))
     from (suc m) c next e w =
-        ⊎-elim (λ (l : n < next). (c, omega arith, sought-here n c next w l))
-        (λ (l : next ≤ n). from m (c + 1) (2 * next) (omega arith) (sought-more n c next w (omega arith) l)) (below-or-not n next)
+        ⊎-elim (λ (l : n < next). (c, omega arith, lookup-here n c next w l))
+        (λ (l : next ≤ n). from m (c + 1) (2 * next) (omega arith) (lookup-more n c next w (omega arith) l)) (below-or-not n next)

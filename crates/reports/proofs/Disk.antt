@@ -12,28 +12,28 @@ use Rattle.geometry.specs.Disk.{imageSize}
 use Rattle.maps.specs.Bits.{bitsOf, join}
 use Rattle.maps.proofs.Laws.{bits-clear, bits-le, bits-join}
 use Rattle.buffers.specs.Sums.{sum}
-use Rattle.refusals.specs.Order.{Refusal, _else_, row, sweep}
-use Rattle.refusals.specs.Answers.{numberOf, lastNumber, replyOf, refusalOf}
+use Rattle.refusals.specs.Order.{Refusal, _else_, row, scan}
+use Rattle.refusals.specs.Answers.{refusalNumber, lastNumber, replyOf, refusalOf}
 use Rattle.refusals.specs.declared.Refused.{Refused}
-use Rattle.refusals.specs.declared.Verdict.the-variants.{Sound, Unsound}
+use Rattle.refusals.specs.declared.Verdict.the-variants.{Accepted, Err}
 use Rattle.refusals.proofs.First.{else-none}
 use Rattle.refusals.proofs.Lowest.{positive}
 use Rattle.slots.specs.Tracks.{badTracks}
 use Rattle.slots.proofs.Tracks.{data-few}
 use Rattle.slots.specs.Slot.{countOf, mapOf}
 use Rattle.directory.specs.Places.{slots}
-use Rattle.directory.specs.Directory.{tracksOf, held, Directory, directory, liveAmong}
+use Rattle.directory.specs.Directory.{tracksOf, foldOption, Directory, directory, liveAmong}
 use Rattle.surveys.specs.Survey.{survey, union, counted, usedMap, freeOf, free}
 use Rattle.surveys.specs.declared.Survey.{Survey}
 use Rattle.surveys.specs.declared.UsedMap.{UsedMap}
 use Rattle.surveys.proofs.Union.{length-union, share-union}
 use Rattle.surveys.proofs.Pass.{survey-passed}
-use Rattle.disk.specs.Look.{Look, look, slotsOf, extra}
-use Rattle.disk.specs.Check.{chainAt, checkBy, checkLook, checkDisk, Examined}
-use Rattle.disk.proofs.Look.{look-slots, look-extra}
+use Rattle.disk.specs.View.{View, view, viewSlots, viewTracks}
+use Rattle.disk.specs.Check.{chainAt, checkBy, checkView, checkDisk, Examined}
+use Rattle.disk.proofs.View.{view-slots, view-extra}
 use Rattle.reports.specs.Numbers.{Numbers, sectorsAmong, filesReport, acceptedReport, refusedReport, reportOf, numberAt}
 use Rattle.reports.specs.Calls.{raisedAt, raised}
-use Rattle.reports.proofs.Places.{Place, at-accepted, at-refused, at-kind, at-sectors, at-free, at-class, placed, number-accepted, number-refused, number-kind, number-sectors, number-free, number-class, only, only-there, only-elsewhere}
+use Rattle.reports.proofs.Places.{NumberPlace, at-accepted, at-refused, at-kind, at-sectors, at-free, at-class, place-of-number, number-accepted, number-refused, number-kind, number-sectors, number-free, number-class, only, only-there, only-elsewhere}
 use Rattle.reports.proofs.Raised.{Raised, raised-none, raised-more, raised-same, raised-is, raised-twice}
 
 -- ---- file sectors: no two files share one, so the used map has as many as the counts add up to
@@ -43,44 +43,44 @@ unfolding union sectorsAmong sum
 used-sectors n v e zero h = bits-clear
 used-sectors n v e (suc k) h = by (v k) refl (used-sectors n v e k (omega arith))
   where
-    by : (o : Option (List ℕ)) → v k ≡ o → bitsOf (union v k) ≡ sum k (λ i. held 0 countOf (v i))
-        → bitsOf (held (union v k) (λ s. join (union v k) (mapOf s)) o) ≡ sum k (λ i. held 0 countOf (v i)) + held 0 countOf o
+    by : (o : Option (List ℕ)) → v k ≡ o → bitsOf (union v k) ≡ sum k (λ i. foldOption 0 countOf (v i))
+        → bitsOf (foldOption (union v k) (λ s. join (union v k) (mapOf s)) o) ≡ sum k (λ i. foldOption 0 countOf (v i)) + foldOption 0 countOf o
     by none p q = q ∙ omega arith
     by (some s) p q =
         let w = survey-passed n v e k s (omega arith) p in
         bits-join (union v k) (mapOf s) (length-union v k) (share-union v k (mapOf s) ∙ w .unshared) ∙ ap₂ _+_ q (w .bits)
 
--- what the check says where it accepts a look
-pub survey-accepts : (l : Look) → checkLook l ≡ none → survey (extra l) (slotsOf l) ≡ none
+-- what the check says where it accepts a view
+pub survey-accepts : (l : View) → checkView l ≡ none → survey (viewTracks l) (viewSlots l) ≡ none
 unfolding checkBy
 survey-accepts l e =
-    let a = else-none (row 1 0 (not (eqb (l .long) imageSize))) (row 24 0 (badTracks (l .label 255)) else survey (extra l) (slotsOf l) else sweep slots (chainAt l)) e in
-    let b = else-none (row 24 0 (badTracks (l .label 255))) (survey (extra l) (slotsOf l) else sweep slots (chainAt l)) (a .1) in
-    else-none (survey (extra l) (slotsOf l)) (sweep slots (chainAt l)) (b .1) .0
+    let a = else-none (row 1 0 (not (eqb (l .long) imageSize))) (row 24 0 (badTracks (l .label 255)) else survey (viewTracks l) (viewSlots l) else scan slots (chainAt l)) e in
+    let b = else-none (row 24 0 (badTracks (l .label 255))) (survey (viewTracks l) (viewSlots l) else scan slots (chainAt l)) (a .1) in
+    else-none (survey (viewTracks l) (viewSlots l)) (scan slots (chainAt l)) (b .1) .0
 
-pub report-accepted : (l : Look) → checkLook l ≡ none → reportOf l ≡ acceptedReport (extra l) (slotsOf l)
+pub report-accepted : (l : View) → checkView l ≡ none → reportOf l ≡ acceptedReport (viewTracks l) (viewSlots l)
 unfolding reportOf
-report-accepted l e = ap (held (acceptedReport (extra l) (slotsOf l)) refusedReport) e
+report-accepted l e = ap (foldOption (acceptedReport (viewTracks l) (viewSlots l)) refusedReport) e
 
-pub report-refused : (l : Look) (r : Refusal) → checkLook l ≡ some r → reportOf l ≡ refusedReport r
+pub report-refused : (l : View) (r : Refusal) → checkView l ≡ some r → reportOf l ≡ refusedReport r
 unfolding reportOf
-report-refused l r e = ap (held (acceptedReport (extra l) (slotsOf l)) refusedReport) e
+report-refused l r e = ap (foldOption (acceptedReport (viewTracks l) (viewSlots l)) refusedReport) e
 
 -- the numbers that are raised fit
-pub free-small : (u : UsedMap) {f : ℕ} → f ≡ freeOf u → f < 2 ^ 32
+pub free-fits : (u : UsedMap) {f : ℕ} → f ≡ freeOf u → f < 2 ^ 32
 unfolding freeOf
-free-small u e = omega (arith, data-few (u .tracks))
+free-fits u e = omega (arith, data-few (u .tracks))
 
 -- ---- a refused disk is one number more
 
 number-of-refused : (r : Refusal) → r .number ≢ 0 → r .number ≤ 32 → (k : ℕ) → only (r .number) 1 k ≡ numberAt (refusedReport r) k
 unfolding refusedReport
-number-of-refused r p h k = by (placed k)
+number-of-refused r p h k = by (place-of-number k)
   where
     a : Numbers
     a = refusedReport r
 
-    by : Place k → only (r .number) 1 k ≡ numberAt a k
+    by : NumberPlace k → only (r .number) 1 k ≡ numberAt a k
     by (at-accepted x) = only-elsewhere (r .number) 1 k (λ q. p (omega arith)) ∙ sym (number-accepted a k x)
     by (at-refused x y) = sym (number-refused a k x y)
     by (at-kind x y) = only-elsewhere (r .number) 1 k (λ q. omega arith) ∙ sym (number-kind a k x y)
@@ -93,7 +93,7 @@ number-of-refused r p h k = by (placed k)
 number-of-accepted : (n : ℕ) (v : Directory) (k : ℕ)
     → only 0 1 k + only 97 (sectorsAmong v slots) k + only 98 (free n v) k + numberAt (filesReport v slots) k ≡ numberAt (acceptedReport n v) k
 unfolding acceptedReport filesReport
-number-of-accepted n v k = by (placed k)
+number-of-accepted n v k = by (place-of-number k)
   where
     a : Numbers
     a = acceptedReport n v
@@ -113,7 +113,7 @@ number-of-accepted n v k = by (placed k)
     no98 : (k ≡ 98 → ⊥) → only 98 (free n v) k ≡ 0
     no98 h = only-elsewhere 98 (free n v) k h
 
-    by : Place k → only 0 1 k + only 97 sectors k + only 98 (free n v) k + numberAt b k ≡ numberAt a k
+    by : NumberPlace k → only 0 1 k + only 97 sectors k + only 98 (free n v) k + numberAt b k ≡ numberAt a k
     by (at-accepted x) = rw (only-there 0 1 k x, no97 (λ q. omega arith), no98 (λ q. omega arith), number-accepted b k x, number-accepted a k x)
     by (at-refused x y) = rw (no0 (λ q. omega arith), no97 (λ q. omega arith), no98 (λ q. omega arith), number-refused b k x y, number-refused a k x y)
     by (at-kind x y) = rw (no0 (λ q. omega arith), no97 (λ q. omega arith), no98 (λ q. omega arith), number-kind b k x y, number-kind a k x y) (omega arith)
@@ -126,19 +126,19 @@ number-of-accepted n v k = by (placed k)
 module _ (d : List ℕ) (x : Survey) (w : Examined d x) where
   -- what is known of an accepted one
   pub record Taken : Type 0 where
-    pub fine : checkLook (look d) ≡ none
+    pub fine : checkView (view d) ≡ none
     pub sectors : x .used .count ≡ sectorsAmong (directory d) slots
     pub few : x .used .count ≤ 1560
     pub files : x .files ≡ liveAmong (directory d) slots
     pub used : x .used ≡ usedMap (tracksOf d) (directory d)
 
-  pub taken : x .verdict ≡ Sound → Taken
+  pub taken : x .verdict ≡ Accepted → Taken
   unfolding checkDisk usedMap counted
   taken e =
-      let z : checkLook (look d) ≡ none = sym (w .reply) ∙ ap replyOf e in
+      let z : checkView (view d) ≡ none = sym (w .reply) ∙ ap replyOf e in
       let u : x .used ≡ usedMap (tracksOf d) (directory d) = w .used ∙ rw z in
       let b : x .used .count ≡ bitsOf (union (directory d) slots) = ap (λ (m : UsedMap). m .count) u in
-      let s : survey (tracksOf d) (directory d) ≡ none = ap₂ survey (sym (look-extra d)) (sym (look-slots d)) ∙ survey-accepts (look d) z in
+      let s : survey (tracksOf d) (directory d) ≡ none = ap₂ survey (sym (view-extra d)) (sym (view-slots d)) ∙ survey-accepts (view d) z in
       record {
         fine = z;
         sectors = b ∙ used-sectors (tracksOf d) (directory d) s slots (omega arith);
@@ -148,24 +148,24 @@ module _ (d : List ℕ) (x : Survey) (w : Examined d x) where
       }
 
   module _ (l : List ℕ) (long : length l ≡ 111) (bound : (k : ℕ) → getD l k 0 < 2 ^ 32) where
-    pub counts-refused : (r : Refused) → x .verdict ≡ Unsound r → {n : ℕ} → n ≡ numberOf (r .reason) → n ≤ lastNumber
-        → {l′ : List ℕ} → l′ ≡ raisedAt l n 1 → l′ ≡ raised l (numberAt (reportOf (look d)))
+    pub counts-refused : (r : Refused) → x .verdict ≡ Err r → {n : ℕ} → n ≡ refusalNumber (r .reason) → n ≤ lastNumber
+        → {l′ : List ℕ} → l′ ≡ raisedAt l n 1 → l′ ≡ raised l (numberAt (reportOf (view d)))
     unfolding checkDisk
     counts-refused r e {n} p h {l′} q =
-        let z : checkLook (look d) ≡ some (refusalOf r) = sym (w .reply) ∙ ap replyOf e in
-        let one = raised-more l (λ k. 0) l (raised-none l long bound) (numberOf (r .reason)) 1 (omega arith) (q ∙ ap (λ (j : ℕ). raisedAt l j 1) p) in
-        raised-is l (numberAt (reportOf (look d))) l′
-        (raised-same l (λ k. 0 + only (numberOf (r .reason)) 1 k) (numberAt (reportOf (look d))) l′ one
-        (λ k m. zero-plus _ ∙ number-of-refused (refusalOf r) (positive (r .reason)) (omega arith) k ∙ ap (λ (a : Numbers). numberAt a k) (sym (report-refused (look d) (refusalOf r) z))))
+        let z : checkView (view d) ≡ some (refusalOf r) = sym (w .reply) ∙ ap replyOf e in
+        let one = raised-more l (λ k. 0) l (raised-none l long bound) (refusalNumber (r .reason)) 1 (omega arith) (q ∙ ap (λ (j : ℕ). raisedAt l j 1) p) in
+        raised-is l (numberAt (reportOf (view d))) l′
+        (raised-same l (λ k. 0 + only (refusalNumber (r .reason)) 1 k) (numberAt (reportOf (view d))) l′ one
+        (λ k m. zero-plus _ ∙ number-of-refused (refusalOf r) (positive (r .reason)) (omega arith) k ∙ ap (λ (a : Numbers). numberAt a k) (sym (report-refused (view d) (refusalOf r) z))))
       where
         zero-plus : (a : ℕ) → 0 + a ≡ a
         zero-plus a = omega arith
 
     pub counts-accepted : Taken → {f : ℕ} → f ≡ freeOf (x .used) → {l′ l″ : List ℕ}
-        → l′ ≡ raisedAt (raisedAt (raisedAt l 0 1) 97 (x .used .count)) 98 f → l″ ≡ raised l′ (numberAt (filesReport (directory d) slots)) → l″ ≡ raised l (numberAt (reportOf (look d)))
+        → l′ ≡ raisedAt (raisedAt (raisedAt l 0 1) 97 (x .used .count)) 98 f → l″ ≡ raised l′ (numberAt (filesReport (directory d) slots)) → l″ ≡ raised l (numberAt (reportOf (view d)))
     unfolding free
     counts-accepted t {f} p {l′} {l″} q o =
-        raised-is l (numberAt (reportOf (look d))) l″ (raised-same l _ (numberAt (reportOf (look d))) l″ (raised-twice l _ _ l′ l″ third o) same)
+        raised-is l (numberAt (reportOf (view d))) l″ (raised-same l _ (numberAt (reportOf (view d))) l″ (raised-twice l _ _ l′ l″ third o) same)
       where
         v : Directory
         v = directory d
@@ -185,13 +185,13 @@ module _ (d : List ℕ) (x : Survey) (w : Examined d x) where
         is-free : f ≡ free (tracksOf d) v
         is-free = p ∙ ap freeOf (t .used)
 
-        same : (k : ℕ) → k < 111 → 0 + only 0 1 k + only 97 sectors k + only 98 f k + numberAt (filesReport v slots) k ≡ numberAt (reportOf (look d)) k
+        same : (k : ℕ) → k < 111 → 0 + only 0 1 k + only 97 sectors k + only 98 f k + numberAt (filesReport v slots) k ≡ numberAt (reportOf (view d)) k
         same k m =
             ap (λ (a : ℕ). a + only 97 sectors k + only 98 f k + numberAt (filesReport v slots) k) (zero-plus (only 0 1 k))
             ∙ ap₂ (λ (a b : ℕ). only 0 1 k + only 97 a k + only 98 b k + numberAt (filesReport v slots) k) (t .sectors) is-free
             ∙ number-of-accepted (tracksOf d) v k
-            ∙ ap₂ (λ (n : ℕ) (v : Directory). numberAt (acceptedReport n v) k) (sym (look-extra d)) (sym (look-slots d))
-            ∙ ap (λ (a : Numbers). numberAt a k) (sym (report-accepted (look d) (t .fine)))
+            ∙ ap₂ (λ (n : ℕ) (v : Directory). numberAt (acceptedReport n v) k) (sym (view-extra d)) (sym (view-slots d))
+            ∙ ap (λ (a : Numbers). numberAt a k) (sym (report-accepted (view d) (t .fine)))
           where
             zero-plus : (a : ℕ) → 0 + a ≡ a
             zero-plus a = omega arith

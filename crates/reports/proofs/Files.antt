@@ -13,27 +13,27 @@ use Rattle.buffers.specs.Bytes.{count}
 use Rattle.buffers.proofs.Counts.{count-more}
 use Rattle.slots.specs.Slot.{kindOf, countOf}
 use Rattle.directory.specs.Places.{slots}
-use Rattle.directory.specs.Directory.{held, Directory, liveAmong}
+use Rattle.directory.specs.Directory.{foldOption, Directory, liveAmong}
 use Rattle.directory.proofs.Live.{among-none, among-dead, among-live, among-rest}
 use Rattle.reports.specs.Numbers.{inClass, filesAmong, filesReport, Numbers, numberAt}
 use Rattle.reports.proofs.Classes.{class-only}
-use Rattle.reports.proofs.Places.{Place, at-accepted, at-refused, at-kind, at-sectors, at-free, at-class, placed, number-accepted, number-refused, number-kind, number-sectors, number-free, number-class, only, only-elsewhere, only-from}
+use Rattle.reports.proofs.Places.{NumberPlace, at-accepted, at-refused, at-kind, at-sectors, at-free, at-class, place-of-number, number-accepted, number-refused, number-kind, number-sectors, number-free, number-class, only, only-elsewhere, only-from}
 use Rattle.reports.specs.Calls.{raisedAt, raised}
 use Rattle.reports.proofs.Raised.{Raised, raised-none, raised-more, raised-same, raised-is}
 
 module _ (v : Directory) (i : ℕ) where
   pub files-none : (p : List ℕ → Bool) → v i ≡ none → filesAmong v (i + 1) p ≡ filesAmong v i p
   unfolding filesAmong
-  files-none p e = count-more i (λ i. held false p (v i)) ∙ rw e (omega arith)
+  files-none p e = count-more i (λ i. foldOption false p (v i)) ∙ rw e (omega arith)
 
   pub files-one : (p : List ℕ → Bool) (s : List ℕ) → v i ≡ some s → filesAmong v (i + 1) p ≡ filesAmong v i p + cond (p s) 1 0
   unfolding filesAmong
-  files-one p s e = count-more i (λ i. held false p (v i)) ∙ rw e
+  files-one p s e = count-more i (λ i. foldOption false p (v i)) ∙ rw e
 
   -- a slot that holds no file changes no number
   pub number-dead : v i ≡ none → (k : ℕ) → numberAt (filesReport v (i + 1)) k ≡ numberAt (filesReport v i) k
   unfolding filesReport
-  number-dead e k = by (placed k)
+  number-dead e k = by (place-of-number k)
     where
       a : Numbers
       a = filesReport v (i + 1)
@@ -41,7 +41,7 @@ module _ (v : Directory) (i : ℕ) where
       b : Numbers
       b = filesReport v i
 
-      by : Place k → numberAt a k ≡ numberAt b k
+      by : NumberPlace k → numberAt a k ≡ numberAt b k
       by (at-accepted h) = number-accepted a k h ∙ sym (number-accepted b k h)
       by (at-refused h l) = number-refused a k h l ∙ sym (number-refused b k h l)
       by (at-kind h l) = number-kind a k h l ∙ files-none (λ s. eqb (k - 33) (kindOf s)) e ∙ sym (number-kind b k h l)
@@ -53,7 +53,7 @@ module _ (v : Directory) (i : ℕ) where
   pub number-live : (s : List ℕ) → v i ≡ some s → (c : ℕ) → inClass c (countOf s) ≡ true → c < 12 → (k : ℕ) → k < 111
       → numberAt (filesReport v (i + 1)) k ≡ numberAt (filesReport v i) k + only (33 + kindOf s) 1 k + only (99 + c) 1 k
   unfolding filesReport
-  number-live s e c p h k m = by (placed k)
+  number-live s e c p h k m = by (place-of-number k)
     where
       a : Numbers
       a = filesReport v (i + 1)
@@ -71,7 +71,7 @@ module _ (v : Directory) (i : ℕ) where
       other : numberAt a k ≡ numberAt b k → (k ≡ 33 + kind → ⊥) → (k ≡ 99 + c → ⊥) → numberAt a k ≡ numberAt b k + only (33 + kind) 1 k + only (99 + c) 1 k
       other w x y = rw (only-elsewhere (33 + kind) 1 k x, only-elsewhere (99 + c) 1 k y) (omega arith)
 
-      by : Place k → numberAt a k ≡ numberAt b k + only (33 + kind) 1 k + only (99 + c) 1 k
+      by : NumberPlace k → numberAt a k ≡ numberAt b k + only (33 + kind) 1 k + only (99 + c) 1 k
       by (at-accepted x) = other (number-accepted a k x ∙ sym (number-accepted b k x)) (λ q. omega arith) (λ q. omega arith)
       by (at-refused x y) = other (number-refused a k x y ∙ sym (number-refused b k x y)) (λ q. omega arith) (λ q. omega arith)
       by (at-sectors x) = other (number-sectors a k x ∙ sym (number-sectors b k x)) (λ q. omega (arith, few)) (λ q. omega arith)
@@ -89,19 +89,19 @@ module _ (v : Directory) (i : ℕ) where
 
 -- ---- as the code counts them: l is the report r with the files of the first i slots
 
-pub record Tallied (v : Directory) (r l : List ℕ) (seen i : ℕ) : Type 0 where
+pub record FilesLoop (v : Directory) (r l : List ℕ) (seen i : ℕ) : Type 0 where
   pub few : i ≤ slots
   pub live : seen ≡ liveAmong v i
   pub numbers : Raised r (numberAt (filesReport v i)) l
 
 number-none : (v : Directory) (k : ℕ) → numberAt (filesReport v 0) k ≡ 0
 unfolding filesReport filesAmong count
-number-none v k = by (placed k)
+number-none v k = by (place-of-number k)
   where
     a : Numbers
     a = filesReport v 0
 
-    by : Place k → numberAt a k ≡ 0
+    by : NumberPlace k → numberAt a k ≡ 0
     by (at-accepted h) = number-accepted a k h
     by (at-refused h l) = number-refused a k h l
     by (at-kind h l) = number-kind a k h l
@@ -109,15 +109,15 @@ number-none v k = by (placed k)
     by (at-free h) = number-free a k h
     by (at-class h) = number-class a k h
 
-pub tallied-none : (v : Directory) (r : List ℕ) → length r ≡ 111 → ((k : ℕ) → getD r k 0 < 2 ^ 32) → Tallied v r r 0 0
+pub tallied-none : (v : Directory) (r : List ℕ) → length r ≡ 111 → ((k : ℕ) → getD r k 0 < 2 ^ 32) → FilesLoop v r r 0 0
 tallied-none v r l h = record {
   few = omega arith;
   live = sym (among-none v);
   numbers = raised-same r (λ k. 0) (numberAt (filesReport v 0)) r (raised-none r l h) (λ k m. sym (number-none v k));
 }
 
-module _ (v : Directory) (r l : List ℕ) (seen i : ℕ) (w : Tallied v r l seen i) (more : i < slots) where
-  pub tallied-dead : v i ≡ none → Tallied v r l seen (i + 1)
+module _ (v : Directory) (r l : List ℕ) (seen i : ℕ) (w : FilesLoop v r l seen i) (more : i < slots) where
+  pub tallied-dead : v i ≡ none → FilesLoop v r l seen (i + 1)
   tallied-dead e = record {
     few = omega arith;
     live = w .live ∙ sym (among-dead v i e);
@@ -125,7 +125,7 @@ module _ (v : Directory) (r l : List ℕ) (seen i : ℕ) (w : Tallied v r l seen
   }
 
   pub tallied-live : (s : List ℕ) → v i ≡ some s → {kind n c : ℕ} → kind ≡ kindOf s → n ≡ countOf s → inClass c n ≡ true → c < 12
-      → {l′ l″ : List ℕ} → l′ ≡ raisedAt l (33 + kind) 1 → l″ ≡ raisedAt l′ (99 + c) 1 → Tallied v r l″ (seen + 1) (i + 1)
+      → {l′ l″ : List ℕ} → l′ ≡ raisedAt l (33 + kind) 1 → l″ ≡ raisedAt l′ (99 + c) 1 → FilesLoop v r l″ (seen + 1) (i + 1)
   tallied-live s e {kind} {n} {c} p q t h {l′} {l″} x y = record {
     few = omega arith;
     live = ap (λ (n : ℕ). n + 1) (w .live) ∙ sym (among-live v i s e);
@@ -165,7 +165,7 @@ report-rest v i h dead =
         let e : i + (slots - i) ≡ slots = omega arith in
         sym (files-rest v p i (slots - i) (λ j a b. dead j a (omega arith))) ∙ ap (λ (n : ℕ). filesAmong v n p) e
 
-pub tallied-all : (v : Directory) (r l : List ℕ) (seen i files : ℕ) → Tallied v r l seen i → files ≡ liveAmong v slots → files ≤ seen
+pub tallied-all : (v : Directory) (r l : List ℕ) (seen i files : ℕ) → FilesLoop v r l seen i → files ≡ liveAmong v slots → files ≤ seen
     → l ≡ raised r (numberAt (filesReport v slots))
 tallied-all v r l seen i files w e h =
     raised-is r (numberAt (filesReport v i)) l (w .numbers)

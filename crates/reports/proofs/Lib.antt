@@ -6,4 +6,4 @@ pub mod Disk
 pub mod Called
 pub mod Sums
 pub mod AddsUp
-pub mod Shelf
+pub mod Totals

@@ -9,16 +9,16 @@ use lib.Dec.{eqb, ltb}
 use Rattle.buffers.proofs.Lists.{below-or-not}
 use Rattle.reports.specs.Numbers.{Numbers, numberAt, plus}
 
-pub data Place (k : ℕ) : Type 0 where
-  at-accepted : k ≡ 0 → Place k
-  at-refused : 1 ≤ k → k < 33 → Place k
-  at-kind : 33 ≤ k → k < 97 → Place k
-  at-sectors : k ≡ 97 → Place k
-  at-free : k ≡ 98 → Place k
-  at-class : 99 ≤ k → Place k
+pub data NumberPlace (k : ℕ) : Type 0 where
+  at-accepted : k ≡ 0 → NumberPlace k
+  at-refused : 1 ≤ k → k < 33 → NumberPlace k
+  at-kind : 33 ≤ k → k < 97 → NumberPlace k
+  at-sectors : k ≡ 97 → NumberPlace k
+  at-free : k ≡ 98 → NumberPlace k
+  at-class : 99 ≤ k → NumberPlace k
 
-pub placed : (k : ℕ) → Place k
-placed k =
+pub place-of-number : (k : ℕ) → NumberPlace k
+place-of-number k =
     ⊎-elim (λ (h : k < 1). at-accepted (omega arith))
     (λ (a : 1 ≤ k).
     ⊎-elim (λ (h : k < 33). at-refused a h)

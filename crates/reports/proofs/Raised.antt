@@ -67,14 +67,14 @@ raised-twice r f g l l′ w e = record { long = ap length e ∙ length-tab 111 _
 
 -- ---- as the code adds another report: the numbers before place k are added
 
-pub record Added (r other : List ℕ) (l : List ℕ) (k : ℕ) : Type 0 where
+pub record AddLoop (r other : List ℕ) (l : List ℕ) (k : ℕ) : Type 0 where
   pub few : k ≤ 111
   pub numbers : Raised r (λ j. cond (ltb j k) (getD other j 0) 0) l
 
-pub added-none : (r other : List ℕ) → length r ≡ 111 → ((k : ℕ) → getD r k 0 < 2 ^ 32) → Added r other r 0
+pub added-none : (r other : List ℕ) → length r ≡ 111 → ((k : ℕ) → getD r k 0 < 2 ^ 32) → AddLoop r other r 0
 added-none r other l h = record { few = omega arith; numbers = raised-same r (λ j. 0) _ r (raised-none r l h) (λ j m. rw (le-ltb j 0 (omega arith))) }
 
-pub added-more : (r other l : List ℕ) (k : ℕ) → Added r other l k → k < 111 → {x : ℕ} → x ≡ getD other k 0 → {l′ : List ℕ} → l′ ≡ raisedAt l k x → Added r other l′ (k + 1)
+pub added-more : (r other l : List ℕ) (k : ℕ) → AddLoop r other l k → k < 111 → {x : ℕ} → x ≡ getD other k 0 → {l′ : List ℕ} → l′ ≡ raisedAt l k x → AddLoop r other l′ (k + 1)
 added-more r other l k w h {x} e p = record { few = omega arith; numbers = raised-same r _ _ _ (raised-more r _ l (w .numbers) k x h p) (λ j m. same j) }
   where
     same : (j : ℕ) → cond (ltb j k) (getD other j 0) 0 + only k x j ≡ cond (ltb j (k + 1)) (getD other j 0) 0
@@ -86,27 +86,27 @@ added-more r other l k w h {x} e p = record { few = omega arith; numbers = raise
         let z : j ≡ k = omega arith in
         rw (le-ltb j k a, only-there k x j z, lt-ltb j (k + 1) (omega arith), z) (omega arith)) (below-or-not k j)) (below-or-not j k)
 
-pub added-all : (r other l : List ℕ) (k : ℕ) → Added r other l k → 111 ≤ k → l ≡ raised r (λ j. getD other j 0)
+pub added-all : (r other l : List ℕ) (k : ℕ) → AddLoop r other l k → 111 ≤ k → l ≡ raised r (λ j. getD other j 0)
 added-all r other l k w h =
     raised-is r (λ j. getD other j 0) l (raised-same r _ (λ j. getD other j 0) l (w .numbers) (λ j m. rw (lt-ltb j k (omega arith))))
 
 -- ---- the disks in a report, counted one number after the other
 
-pub record Summed (r : List ℕ) (disks k : ℕ) : Type 0 where
+pub record SumLoop (r : List ℕ) (disks k : ℕ) : Type 0 where
   pub few : k ≤ 33
   pub is : disks ≡ sum k (λ j. getD r j 0)
   pub small : disks ≤ k * 2 ^ 32
 
-pub summed-none : (r : List ℕ) → Summed r 0 0
+pub summed-none : (r : List ℕ) → SumLoop r 0 0
 unfolding sum
 summed-none r = record { few = omega arith; is = refl; small = omega arith }
 
-pub summed-more : (r : List ℕ) (disks k : ℕ) → Summed r disks k → k < 33 → {x : ℕ} → x ≡ getD r k 0 → x < 2 ^ 32 → Summed r (disks + x) (k + 1)
+pub summed-more : (r : List ℕ) (disks k : ℕ) → SumLoop r disks k → k < 33 → {x : ℕ} → x ≡ getD r k 0 → x < 2 ^ 32 → SumLoop r (disks + x) (k + 1)
 summed-more r disks k w h {x} e l = record { few = omega arith; is = omega (arith, w .is, sum-more k (λ j. getD r j 0)); small = omega (arith, w .small) }
 
-pub summed-few : (r : List ℕ) (disks k : ℕ) → Summed r disks k → disks ≤ 33 * 2 ^ 32
+pub summed-few : (r : List ℕ) (disks k : ℕ) → SumLoop r disks k → disks ≤ 33 * 2 ^ 32
 summed-few r disks k w = omega (arith, w .small, w .few)
 
-pub summed-all : (r : List ℕ) (disks k : ℕ) → Summed r disks k → 33 ≤ k → disks ≡ disksIn r
+pub summed-all : (r : List ℕ) (disks k : ℕ) → SumLoop r disks k → 33 ≤ k → disks ≡ disksIn r
 unfolding disksIn
 summed-all r disks k w h = let e : k ≡ 33 = omega (arith, w .few) in w .is ∙ ap (λ (n : ℕ). sum n (λ j. getD r j 0)) e

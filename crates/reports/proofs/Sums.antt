@@ -4,9 +4,9 @@ use mathlib.Core.Path.{_≡_, refl, sym, ap, _∙_}
 use mathlib.Core.List.{List, [], _∷_, _++_}
 use native.Mathlib.Nat.{add-comm}
 use native.Mathlib.Omega.{arith}
-use Rattle.disk.specs.Look.{look}
+use Rattle.disk.specs.View.{view}
 use Rattle.reports.specs.Numbers.{Numbers, empty, plus, over, reportOf}
-use Rattle.reports.specs.Shelf.{Disks, Reordered, none-left, same-first, swapped, then-again}
+use Rattle.reports.specs.Totals.{Disks, Reordered, none-left, same-first, swapped, then-again}
 
 -- ---- reports add up in any order
 
@@ -53,7 +53,7 @@ plus-empty a = λ q. record {
 pub over-both : (ds es : Disks) → over (ds ++ es) ≡ plus (over ds) (over es)
 unfolding over
 over-both [] es = sym (plus-empty (over es))
-over-both (d ∷ ds) es = ap (plus (reportOf (look d))) (over-both ds es) ∙ sym (plus-assoc (reportOf (look d)) (over ds) (over es))
+over-both (d ∷ ds) es = ap (plus (reportOf (view d))) (over-both ds es) ∙ sym (plus-assoc (reportOf (view d)) (over ds) (over es))
 
 -- "in either order"
 pub over-either : (ds es : Disks) → over (ds ++ es) ≡ over (es ++ ds)
@@ -63,14 +63,14 @@ over-either ds es = over-both ds es ∙ plus-comm (over ds) (over es) ∙ sym (o
 pub over-reordered : {ds es : Disks} → Reordered ds es → over ds ≡ over es
 unfolding over
 over-reordered none-left = refl
-over-reordered (same-first d ds es w) = ap (plus (reportOf (look d))) (over-reordered w)
+over-reordered (same-first d ds es w) = ap (plus (reportOf (view d))) (over-reordered w)
 over-reordered (swapped d e ds) =
-    sym (plus-assoc (reportOf (look d)) (reportOf (look e)) (over ds))
-    ∙ ap (λ (a : Numbers). plus a (over ds)) (plus-comm (reportOf (look d)) (reportOf (look e)))
-    ∙ plus-assoc (reportOf (look e)) (reportOf (look d)) (over ds)
+    sym (plus-assoc (reportOf (view d)) (reportOf (view e)) (over ds))
+    ∙ ap (λ (a : Numbers). plus a (over ds)) (plus-comm (reportOf (view d)) (reportOf (view e)))
+    ∙ plus-assoc (reportOf (view e)) (reportOf (view d)) (over ds)
 over-reordered (then-again ds es fs v w) = over-reordered v ∙ over-reordered w
 
 -- one disk more
-pub over-one : (ds : Disks) (d : List ℕ) → over (ds ++ (d ∷ [])) ≡ plus (over ds) (reportOf (look d))
+pub over-one : (ds : Disks) (d : List ℕ) → over (ds ++ (d ∷ [])) ≡ plus (over ds) (reportOf (view d))
 unfolding over
-over-one ds d = over-both ds (d ∷ []) ∙ ap (plus (over ds)) (plus-comm (reportOf (look d)) empty ∙ plus-empty (reportOf (look d)))
+over-one ds d = over-both ds (d ∷ []) ∙ ap (plus (over ds)) (plus-comm (reportOf (view d)) empty ∙ plus-empty (reportOf (view d)))

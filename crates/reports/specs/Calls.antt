@@ -7,7 +7,7 @@ use Rattle.buffers.specs.Bytes.{tab}
 use Rattle.buffers.specs.Sums.{sum}
 use Rattle.refusals.specs.Order.{Reply, row}
 use Rattle.refusals.specs.Answers.{done, Out, filled}
-use Rattle.disk.specs.Look.{look}
+use Rattle.disk.specs.View.{view}
 use Rattle.reports.specs.Numbers.{numberAt, reportOf}
 
 -- the disks in a report: accepted, and refused by each number
@@ -23,13 +23,13 @@ unfoldable pub raised : List ℕ → (ℕ → ℕ) → List ℕ
 raised r f = tab 111 (λ k. (getD r k 0 + f k) % 2 ^ 32)
 
 -- "31, a disk or join that would pass 65,535 disks, the report unchanged."
-abbrev pub full : ℕ → Reply
-full disks = row 31 0 (ltb 65535 disks)
+abbrev pub reportFull : ℕ → Reply
+reportFull disks = row 31 0 (ltb 65535 disks)
 
 -- "Add disks one at a time to a report": its value is the disks in the report after it
-unfoldable pub adding : List ℕ → List ℕ → Out
-adding r d = filled (full (disksIn r + 1)) (done (disksIn r + 1) 0) (raised r (numberAt (reportOf (look d)))) r
+unfoldable pub addDisk : List ℕ → List ℕ → Out
+addDisk r d = filled (reportFull (disksIn r + 1)) (done (disksIn r + 1) 0) (raised r (numberAt (reportOf (view d)))) r
 
 -- "Two reports join"
-unfoldable pub joining : List ℕ → List ℕ → Out
-joining r other = filled (full (disksIn r + disksIn other)) (done (disksIn r + disksIn other) 0) (raised r (λ k. getD other k 0)) r
+unfoldable pub joinReports : List ℕ → List ℕ → Out
+joinReports r other = filled (reportFull (disksIn r + disksIn other)) (done (disksIn r + disksIn other) 0) (raised r (λ k. getD other k 0)) r

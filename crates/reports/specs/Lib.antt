@@ -1,3 +1,3 @@
 pub mod Numbers
 pub mod Calls
-pub mod Shelf
+pub mod Totals

@@ -8,10 +8,10 @@ use Rattle.buffers.specs.Sums.{sum}
 use Rattle.refusals.specs.Order.{Refusal}
 use Rattle.slots.specs.Slot.{kindOf, countOf}
 use Rattle.directory.specs.Places.{slots}
-use Rattle.directory.specs.Directory.{held, Directory}
+use Rattle.directory.specs.Directory.{foldOption, Directory}
 use Rattle.surveys.specs.Survey.{free}
-use Rattle.disk.specs.Look.{Look, look, slotsOf, extra}
-use Rattle.disk.specs.Check.{checkLook}
+use Rattle.disk.specs.View.{View, view, viewSlots, viewTracks}
+use Rattle.disk.specs.Check.{checkView}
 
 -- "accepted, refused by number and, over the accepted, live files by kind, file and free sectors, and files by sector count in classes"
 pub record Numbers : Type 0 where
@@ -37,11 +37,11 @@ inClass c n = leb (leastOf c) n && (eqb c 11 || ltb n (leastOf (suc c)))
 
 -- how many of the first k slots are live and pass a test
 unfoldable pub filesAmong : Directory → ℕ → (List ℕ → Bool) → ℕ
-filesAmong v k p = count k (λ i. held false p (v i))
+filesAmong v k p = count k (λ i. foldOption false p (v i))
 
 -- the sector counts of the live ones among them, in all
 unfoldable pub sectorsAmong : Directory → ℕ → ℕ
-sectorsAmong v k = sum k (λ i. held 0 countOf (v i))
+sectorsAmong v k = sum k (λ i. foldOption 0 countOf (v i))
 
 -- files by kind and by class, of the first k slots
 unfoldable pub filesReport : Directory → ℕ → Numbers
@@ -77,8 +77,8 @@ refusedReport r = record {
 }
 
 -- the report looks at a disk by the check
-unfoldable pub reportOf : Look → Numbers
-reportOf l = held (acceptedReport (extra l) (slotsOf l)) refusedReport (checkLook l)
+unfoldable pub reportOf : View → Numbers
+reportOf l = foldOption (acceptedReport (viewTracks l) (viewSlots l)) refusedReport (checkView l)
 
 -- ---- a list of disks
 
@@ -98,7 +98,7 @@ plus a b = record {
 -- "the report over" a list of disks
 unfoldable pub over : List (List ℕ) → Numbers
 over [] = empty
-over (d ∷ ds) = plus (reportOf (look d)) (over ds)
+over (d ∷ ds) = plus (reportOf (view d)) (over ds)
 
 -- ---- where each number stands: 0 accepted disks; 1 to 32 refused by that number; 33 to 96 live files of kind 0 to 63;
 -- 97 file sectors; 98 free sectors; 99 to 110 files by class
@@ -108,5 +108,5 @@ numberAt r k =
     cond (ltb k 1) (r .accepted)
     (cond (ltb k 33) (r .refused k) (cond (ltb k 97) (r .kinds (k - 33)) (cond (ltb k 98) (r .sectors) (cond (ltb k 99) (r .free) (r .classes (k - 99))))))
 
-unfoldable pub listed : Numbers → List ℕ
-listed r = tab 111 (numberAt r)
+unfoldable pub reportNumbers : Numbers → List ℕ
+reportNumbers r = tab 111 (numberAt r)

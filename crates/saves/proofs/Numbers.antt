@@ -19,15 +19,15 @@ place-number b h p e =
     (omega arith, omega (arith, number-small b h))
 
 -- the first j of a list's n map bits are turned
-pub record Numbered (l : List ℕ) (n : ℕ) (l′ : List ℕ) (j : ℕ) : Type 0 where
+pub record NumbersLoop (l : List ℕ) (n : ℕ) (l′ : List ℕ) (j : ℕ) : Type 0 where
   pub far : j ≤ n
   pub room : n ≤ length l
   pub is : l′ ≡ put l 0 (map bitNumber (take j l))
 
-pub numbered-none : (l : List ℕ) (n : ℕ) → n ≤ length l → Numbered l n l 0
+pub numbered-none : (l : List ℕ) (n : ℕ) → n ≤ length l → NumbersLoop l n l 0
 numbered-none l n h = record { far = omega arith; room = h; is = put-none l 0 [] }
 
-module _ (l : List ℕ) (n : ℕ) (l′ : List ℕ) (j : ℕ) (w : Numbered l n l′ j) where
+module _ (l : List ℕ) (n : ℕ) (l′ : List ℕ) (j : ℕ) (w : NumbersLoop l n l′ j) where
   long : length (map bitNumber (take j l)) ≡ j
   long = length-map (take j l) bitNumber ∙ length-take-le j l (omega (arith, w .far, w .room))
 
@@ -44,7 +44,7 @@ module _ (l : List ℕ) (n : ℕ) (l′ : List ℕ) (j : ℕ) (w : Numbered l n 
     pub numbered-place : (p : ℕ) → p ≡ placeOrEnd (getD l′ j 0) → (p / 512 ≡ bitNumber (getD l′ j 0)) × (p / 512 < 1600)
     numbered-place p e = place-number (getD l′ j 0) numbered-small p e
 
-    pub numbered-more : (p : ℕ) → p ≡ placeOrEnd (getD l′ j 0) → Numbered l n (set l′ j (p / 512)) (j + 1)
+    pub numbered-more : (p : ℕ) → p ≡ placeOrEnd (getD l′ j 0) → NumbersLoop l n (set l′ j (p / 512)) (j + 1)
     numbered-more p e = record {
       far = omega arith;
       room = w .room;

@@ -5,26 +5,26 @@ ghost use Prim.Native.Nat.{_+_, _≤_};
 ghost use lib.ListN.{length, drop, take};
 ghost use Rattle.buffers.specs.Bytes.{put};
 ghost use Rattle.geometry.specs.Disk.{bitNumber};
-ghost use Rattle.disk.specs.Look.{look};
-ghost use Rattle.steps.specs.Steps.{enact};
+ghost use Rattle.disk.specs.View.{view};
+ghost use Rattle.steps.specs.Steps.{apply};
 ghost use Rattle.plans.specs.Change.{save};
 ghost use Rattle.plans.specs.Plan.{dataSteps, dirSectors, saveSteps};
-ghost use Rattle.changes.specs.Settled.{Returns, Made};
-ghost use Rattle.taking.specs.Taken.{lowest};
-ghost use Rattle.payloads.specs.Sector.{linkTo};
-ghost use Rattle.saves.specs.Write.{wish, wishFor, Bits, Writable, Savable, Open};
+ghost use Rattle.changes.specs.ChangeCalls.{ReturnsChange, Applied};
+ghost use Rattle.allocation.specs.Taken.{lowestClearBits};
+ghost use Rattle.sector_writes.specs.Sector.{linkToNext};
+ghost use Rattle.saves.specs.Write.{saveRequest, saveRequestFor, Bits, Writable, SaveReady, SaveSlot};
 use files::Lookup;
-use payloads::Link;
+use sector_writes::Link;
 use refusals::Answer;
 use refusals::Reason;
 use refusals::Verdict;
 use surveys::UsedMap;
-use taking::Start;
+use allocation::HeaderFields;
 
 // The link to the sector `j` of a chain; past its end there is none.
 fn link_to(bits: &[u16], j: usize) -> Link
     requires { ⌜ Bits (now bits) ⌝ }
-    ensures { λ r. ⌜ r ≡ linkTo (drop j (now (bits .entry))) ⌝ }
+    ensures { λ r. ⌜ r ≡ linkToNext (drop j (now (bits .entry))) ⌝ }
 {
     if bits.len() <= j {
         return Link {
@@ -32,18 +32,18 @@ fn link_to(bits: &[u16], j: usize) -> Link
             sector: 0,
         };
     }
-    payloads::link_of(bits[j] as usize)
+    sector_writes::link_of(bits[j] as usize)
 }
 
 // Writes the data sectors of a chain.
 fn write_chain(image: &mut [u8], head: &[u8], body: &[u8], bits: &[u16])
     requires { ⌜ Bits (now bits) ⌝ }
-    ensures { λ _. ⌜ now (image .exit) ≡ enact (now (image .entry)) (dataSteps (now (head .entry) ++ now (body .entry)) 0 (now (bits .entry))) ⌝ }
+    ensures { λ _. ⌜ now (image .exit) ≡ apply (now (image .entry)) (dataSteps (now (head .entry) ++ now (body .entry)) 0 (now (bits .entry))) ⌝ }
 {
     let mut k: usize = 0;
     while k < bits.len() {
         let link = link_to(bits, k + 1);
-        payloads::write_sector(image, bits[k] as usize, head, body, 510 * k, link);
+        sector_writes::write_sector(image, bits[k] as usize, head, body, 510 * k, link);
         k += 1;
     }
 }
@@ -65,7 +65,7 @@ fn write_file(
     image: &mut [u8],
     i: usize,
     old: bool,
-    start: Start,
+    start: HeaderFields,
     name: &[u8],
     exec: &[u8],
     info: &[u8],
@@ -73,11 +73,11 @@ fn write_file(
     bits: &[u16],
 )
     requires { ⌜ Writable i old start (now body) (now bits) × (256 ≤ length (now image)) ⌝ }
-    ensures { λ _. ⌜ now (image .exit) ≡ enact (now (image .entry)) (saveSteps old (look (now (image .entry))) i (wishFor start (now (name .entry)) (now (exec .entry)) (now (info .entry)) (now (body .entry))) (now (bits .entry))) ⌝ }
+    ensures { λ _. ⌜ now (image .exit) ≡ apply (now (image .entry)) (saveSteps old (view (now (image .entry))) i (saveRequestFor start (now (name .entry)) (now (exec .entry)) (now (info .entry)) (now (body .entry))) (now (bits .entry))) ⌝ }
 {
-    let map = filing::map_with(bits);
+    let map = slot_writes::map_with(bits);
     let first = link_to(bits, 0);
-    let slot = filing::slot_of(
+    let slot = slot_writes::slot_of(
         image,
         i,
         start,
@@ -89,9 +89,9 @@ fn write_file(
         first,
         &map,
     );
-    let head = payloads::header_of(start, body.len());
+    let head = sector_writes::header_of(start, body.len());
     write_chain(image, &head, body, bits);
-    filing::put_slot(image, i, old, &slot);
+    slot_writes::put_slot(image, i, old, &slot);
 }
 
 // Writes a file of `n` sectors into slot `i` of a disk: the lowest clear bits of `map` are its chain, and the
@@ -102,21 +102,21 @@ fn write_save(
     n: usize,
     i: usize,
     old: bool,
-    start: Start,
+    start: HeaderFields,
     name: &[u8],
     exec: &[u8],
     info: &[u8],
     body: &[u8],
     list: &mut [u16],
 )
-    requires { ⌜ Savable (now map) n i old start (now body) (now list) × (256 ≤ length (now image)) ⌝ }
-    ensures { λ _. ⌜ Made (saveSteps old (look (now (image .entry))) i (wishFor start (now (name .entry)) (now (exec .entry)) (now (info .entry)) (now (body .entry))) (lowest (now (map .entry)) n)) (now (image .entry)) (now (list .entry)) (now (image .exit)) (now (list .exit)) (n + length (dirSectors old i)) ⌝ }
+    requires { ⌜ SaveReady (now map) n i old start (now body) (now list) × (256 ≤ length (now image)) ⌝ }
+    ensures { λ _. ⌜ Applied (saveSteps old (view (now (image .entry))) i (saveRequestFor start (now (name .entry)) (now (exec .entry)) (now (info .entry)) (now (body .entry))) (lowestClearBits (now (map .entry)) n)) (now (image .entry)) (now (list .entry)) (now (image .exit)) (now (list .exit)) (n + length (dirSectors old i)) ⌝ }
 {
-    taking::pick_bits(map, n, list);
+    allocation::pick_bits(map, n, list);
     write_file(image, i, old, start, name, exec, info, body, &list[..n]);
     to_numbers(list, n);
     let last = n;
-    filing::put_dirs(list, last, i, old);
+    slot_writes::put_dirs(list, last, i, old);
 }
 
 // Saves into the free slot `i` of an accepted disk whose used map is `used`, where the sectors and the list suffice.
@@ -124,30 +124,30 @@ fn save_at(
     image: &mut [u8],
     used: UsedMap,
     i: usize,
-    start: Start,
+    start: HeaderFields,
     name: &[u8],
     exec: &[u8],
     info: &[u8],
     body: &[u8],
     list: &mut [u16],
 ) -> Answer
-    requires { ⌜ Open (now image) used i start (now name) ⌝ }
-    ensures { λ r. ⌜ Returns (save (wishFor start (now (name .entry)) (now (exec .entry)) (now (info .entry)) (now (body .entry)))) (now (image .entry)) (now (list .entry)) r (now (image .exit)) (now (list .exit)) ⌝ }
+    requires { ⌜ SaveSlot (now image) used i start (now name) ⌝ }
+    ensures { λ r. ⌜ ReturnsChange (save (saveRequestFor start (now (name .entry)) (now (exec .entry)) (now (info .entry)) (now (body .entry)))) (now (image .entry)) (now (list .entry)) r (now (image .exit)) (now (list .exit)) ⌝ }
 {
     // No disk holds more, and past the largest number the sectors could not be counted.
     if 795591 < body.len() {
-        return refusals::no(Reason::TooFewSectors, 0);
+        return refusals::refused_answer(Reason::TooFewSectors, 0);
     }
     let n = (body.len() + 518) / 510;
     if surveys::free_of(used) < n {
-        return refusals::no(Reason::TooFewSectors, 0);
+        return refusals::refused_answer(Reason::TooFewSectors, 0);
     }
-    let old = filing::has_old_name(image, i);
-    let named = n + filing::dir_count(i, old);
+    let old = slot_writes::has_old_name(image, i);
+    let named = n + slot_writes::dir_count(i, old);
     if list.len() < named {
-        return refusals::no(Reason::BufferTooShort, 0);
+        return refusals::refused_answer(Reason::BufferTooShort, 0);
     }
-    let map = taking::shut_bits(used);
+    let map = allocation::unavailable_bits(used);
     write_save(image, &map, n, i, old, start, name, exec, info, body, list);
     Answer::Done(named, 0)
 }
@@ -165,17 +165,17 @@ pub fn save(
     body: &[u8],
     list: &mut [u16],
 ) -> Answer
-    ensures { λ r. ⌜ Returns (save (wish kind (now (name .entry)) page offset (now (exec .entry)) (now (info .entry)) (now (body .entry)))) (now (image .entry)) (now (list .entry)) r (now (image .exit)) (now (list .exit)) ⌝ }
+    ensures { λ r. ⌜ ReturnsChange (save (saveRequest kind (now (name .entry)) page offset (now (exec .entry)) (now (info .entry)) (now (body .entry)))) (now (image .entry)) (now (list .entry)) r (now (image .exit)) (now (list .exit)) ⌝ }
 {
     let found = disk::examine(image);
     let verdict = found.verdict;
     match verdict {
-        Verdict::Unsound(r) => Answer::No(r),
-        Verdict::Sound => {
+        Verdict::Err(r) => Answer::Err(r),
+        Verdict::Accepted => {
             let used = found.used;
-            let start = Start { kind, page, offset };
-            match taking::slot_for(image, start, name) {
-                Lookup::Barred(r) => Answer::No(r),
+            let start = HeaderFields { kind, page, offset };
+            match allocation::slot_for(image, start, name) {
+                Lookup::Err(r) => Answer::Err(r),
                 Lookup::At(i) => save_at(image, used, i, start, name, exec, info, body, list),
             }
         }

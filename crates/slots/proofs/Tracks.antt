@@ -14,7 +14,7 @@ use lib.ListN.{length, getD, length-replicate}
 use Rattle.buffers.specs.Bytes.{count, any, word, wordOr}
 use Rattle.buffers.proofs.Lists.{below-or-not, word-there}
 use Rattle.buffers.proofs.Counts.{count-add, count-all, count-none, any-none, none-any, none-count, any-some}
-use Rattle.maps.specs.Bits.{has, clear, marked, bitsOf}
+use Rattle.maps.specs.Bits.{has, clearMap, withBit, bitsOf}
 use Rattle.maps.proofs.Laws.{has-clear, length-marked, has-marked}
 use Rattle.slots.specs.Tracks.{isLabel, tracksBy, badTracks, dataCount, dataBit, inDirectory, clearAt, pastFirst, innerTo, innerMap}
 
@@ -229,7 +229,7 @@ unfolding innerTo
 length-inner n zero = length-replicate {A = ℕ} 195 0
 length-inner n (suc k) = by (dataBit n k) (length-inner n k)
   where
-    by : (t : Bool) → length (innerTo n k) ≡ 195 → length (cond t (innerTo n k) (marked (innerTo n k) k)) ≡ 195
+    by : (t : Bool) → length (innerTo n k) ≡ 195 → length (cond t (innerTo n k) (withBit (innerTo n k) k)) ≡ 195
     by true h = h
     by false h = length-marked (innerTo n k) k ∙ h
 
@@ -245,7 +245,7 @@ inner-bits n b (suc k) h = by (inner-bits n b k (omega arith)) (dataBit n k) ref
         (λ (u : k ≤ b). rw (le-ltb b k u, le-ltb b (suc k) (omega arith))) (below-or-not b k)
 
     by : has (innerTo n k) b ≡ (ltb b k && not (dataBit n b)) → (t : Bool) → dataBit n k ≡ t → (u : Bool) → eqb b k ≡ u
-        → has (cond t (innerTo n k) (marked (innerTo n k) k)) b ≡ (ltb b (suc k) && not (dataBit n b))
+        → has (cond t (innerTo n k) (withBit (innerTo n k) k)) b ≡ (ltb b (suc k) && not (dataBit n b))
     by w true e true q =
         let z : b ≡ k = eqb-true b k q in
         w ∙ rw (le-ltb b k (omega arith), ap (dataBit n) z ∙ e) (sym (and-false (ltb b (suc k))))
@@ -262,7 +262,7 @@ pub has-inner : (n b : ℕ) → b < 1560 → has (innerMap n) b ≡ not (dataBit
 has-inner n b h = inner-bits n b 1560 (omega arith) ∙ ap (λ (t : Bool). t && not (dataBit n b)) (lt-ltb b 1560 h)
 
 -- as a loop makes it: bit 0 is data, the next are not, and those from its end on are
-pub inner-first : (n : ℕ) → clear ≡ innerTo n 1
+pub inner-first : (n : ℕ) → clearMap ≡ innerTo n 1
 unfolding innerTo dataBit
 inner-first n = refl
 
@@ -281,7 +281,7 @@ pub record InnerLoop (n end b : ℕ) (m : List ℕ) : Type 0 where
   pub long : length m ≡ 195
   pub made : m ≡ innerTo n b
 
-pub inner-turn : (n end b : ℕ) (m x : List ℕ) → InnerLoop n end b m → b < end → x ≡ marked m b → InnerLoop n end (b + 1) x
+pub inner-turn : (n end b : ℕ) (m x : List ℕ) → InnerLoop n end b m → b < end → x ≡ withBit m b → InnerLoop n end (b + 1) x
 unfolding innerTo
 inner-turn n end b m x w h q =
     let e = w .ends in
@@ -306,18 +306,18 @@ inner-done n end b m w h =
 
 -- ---- the byte
 
-pub tracks-good : (b : ℕ) → badTracks b ≡ false → (b ≤ 35) ⊎ (b ≡ 255)
+pub tracks-accepted : (b : ℕ) → badTracks b ≡ false → (b ≤ 35) ⊎ (b ≡ 255)
 unfolding badTracks
-tracks-good b e = by (ltb 35 b) refl (eqb b 255) refl e
+tracks-accepted b e = by (ltb 35 b) refl (eqb b 255) refl e
   where
     by : (t : Bool) → ltb 35 b ≡ t → (u : Bool) → eqb b 255 ≡ u → (t && not u) ≡ false → (b ≤ 35) ⊎ (b ≡ 255)
     by false p u q w = inl (ltb-false 35 b p)
     by true p true q w = inr (eqb-true b 255 q)
     by true p false q w = absurd (true≢false w)
 
-pub good-tracks : (b : ℕ) → (b ≤ 35) ⊎ (b ≡ 255) → badTracks b ≡ false
+pub accepted-tracks : (b : ℕ) → (b ≤ 35) ⊎ (b ≡ 255) → badTracks b ≡ false
 unfolding badTracks
-good-tracks b h = ⊎-elim (λ l. rw (le-ltb 35 b l)) (λ e. rw (eq-eqb b 255 e) (by (ltb 35 b))) h
+accepted-tracks b h = ⊎-elim (λ l. rw (le-ltb 35 b l)) (λ e. rw (eq-eqb b 255 e) (by (ltb 35 b))) h
   where
     by : (t : Bool) → (t && false) ≡ false
     by true = refl

@@ -6,7 +6,7 @@ use mathlib.Core.List.{List}
 use lib.Dec.{eqb, leb, ltb}
 use lib.ListN.{length}
 use Rattle.buffers.specs.Bytes.{any, wordOr}
-use Rattle.maps.specs.Bits.{has, clear, marked}
+use Rattle.maps.specs.Bits.{has, clearMap, withBit}
 
 -- "a save into slot 1 now keeps bytes 210 to 219, 252, 253 and 255": they are the disk's, and no file's
 unfoldable pub isLabel : ℕ → Bool
@@ -43,8 +43,8 @@ pastFirst m = cond (leb 8 (length m) && leb (wordOr m 0) 1) 64 1
 
 -- the map of the bits inside the directory: of those below k, and of all
 unfoldable pub innerTo : ℕ → ℕ → List ℕ
-innerTo n zero = clear
-innerTo n (suc b) = cond (dataBit n b) (innerTo n b) (marked (innerTo n b) b)
+innerTo n zero = clearMap
+innerTo n (suc b) = cond (dataBit n b) (innerTo n b) (withBit (innerTo n b) b)
 
 abbrev pub innerMap : ℕ → List ℕ
 innerMap n = innerTo n 1560

@@ -3,7 +3,7 @@
 ghost use mathlib.Core.Path.{_≡_};
 ghost use Prim.Native.Nat.{_+_, _*_, _≤_, _<_};
 ghost use Rattle.refusals.specs.Answers.{replyOf};
-ghost use Rattle.slots.specs.Slot.{isLive, isNameless, hidden, protected, kindOf, known, carried, spectrum, readable, isDirectory, codeOf, parentOf, nameOf, isNamed, countOf, firstOf, mapOf, pageOf, offsetOf, pagesOf, remainderOf, facts, lengthOf};
+ghost use Rattle.slots.specs.Slot.{isLive, isNameless, hidden, protected, kindOf, known, carried, spectrum, readable, isDirectory, codeOf, parentOf, nameOf, isNamed, countOf, firstOf, mapOf, pageOf, offsetOf, pagesOf, remainderOf, slotFields, lengthOf};
 ghost use Rattle.slots.specs.Tracks.{dataCount, innerMap, inDirectory, clearAt, pastFirst};
 ghost use Rattle.slots.specs.Rows.{directoryReply, fileReplyBy, ownReplyBy, wasteful};
 use refusals::Reason;
@@ -166,7 +166,7 @@ pub fn remainder_of(s: &[u8]) -> usize
 
 // The length of a carried kind's body, as the slot has it.
 pub fn length_of(s: &[u8]) -> usize
-    ensures { λ r. ⌜ (r ≡ lengthOf (facts (now (s .entry)))) × (r < 4194304) ⌝ }
+    ensures { λ r. ⌜ (r ≡ lengthOf (slotFields (now (s .entry)))) × (r < 4194304) ⌝ }
 {
     pages_of(s) * 16384 + remainder_of(s)
 }
@@ -240,7 +240,7 @@ pub fn inner_map(tracks: usize) -> [u8; 195]
     let mut map = [0u8; 195];
     let mut b: usize = 1;
     while b < end {
-        maps::mark(&mut map, b);
+        maps::set_bit(&mut map, b);
         b += 1;
     }
     map
@@ -251,12 +251,12 @@ fn directory_rows(s: &[u8], slot: usize) -> Verdict
     ensures { λ r. ⌜ replyOf r ≡ directoryReply slot (now (s .entry)) ⌝ }
 {
     if count_of(s) != 0 {
-        return refusals::unsound(Reason::CountOutOfRange, slot);
+        return refusals::refused_verdict(Reason::CountOutOfRange, slot);
     }
     if maps::bits_of(map_of(s)) == 0 {
-        return Verdict::Sound;
+        return Verdict::Accepted;
     }
-    refusals::unsound(Reason::BitsDiffer, slot)
+    refusals::refused_verdict(Reason::BitsDiffer, slot)
 }
 
 // Rows 2 and 4 to 7 at the slot of any other file.
@@ -265,31 +265,31 @@ fn file_rows(s: &[u8], slot: usize, most: usize, inside: bool) -> Verdict
 {
     let kind = kind_of(s);
     if !is_known(kind) {
-        return refusals::unsound(Reason::KindUnknown, slot);
+        return refusals::refused_verdict(Reason::KindUnknown, slot);
     }
     let count = count_of(s);
     if count < 1 {
-        return refusals::unsound(Reason::CountOutOfRange, slot);
+        return refusals::refused_verdict(Reason::CountOutOfRange, slot);
     }
     if most < count {
-        return refusals::unsound(Reason::CountOutOfRange, slot);
+        return refusals::refused_verdict(Reason::CountOutOfRange, slot);
     }
     let map = map_of(s);
     if maps::bits_of(map) != count {
-        return refusals::unsound(Reason::BitsDiffer, slot);
+        return refusals::refused_verdict(Reason::BitsDiffer, slot);
     }
     if !maps::has_bit(map, first_of(s)) {
-        return refusals::unsound(Reason::FirstNotOwn, slot);
+        return refusals::refused_verdict(Reason::FirstNotOwn, slot);
     }
     if inside {
-        return refusals::unsound(Reason::FirstNotOwn, slot);
+        return refusals::refused_verdict(Reason::FirstNotOwn, slot);
     }
     if is_carried(kind) {
         if 510 * count < 9 + length_of(s) {
-            return refusals::unsound(Reason::LengthTooGreat, slot);
+            return refusals::refused_verdict(Reason::LengthTooGreat, slot);
         }
     }
-    Verdict::Sound
+    Verdict::Accepted
 }
 
 // Rows 2 and 4 to 7 at a live slot: `most` is the number of data sectors, and `inside` says whether its map has a bit inside
@@ -305,7 +305,7 @@ pub fn own_rows(s: &[u8], slot: usize, most: usize, inside: bool) -> Verdict
 
 // Row 22, which the release check alone asks for: a carried kind, and more sectors than its length needs.
 pub fn is_wasteful(s: &[u8]) -> bool
-    ensures { λ r. ⌜ r ≡ wasteful (facts (now (s .entry))) ⌝ }
+    ensures { λ r. ⌜ r ≡ wasteful (slotFields (now (s .entry))) ⌝ }
 {
     if is_carried(kind_of(s)) {
         return (length_of(s) + 518) / 510 < count_of(s);

@@ -12,8 +12,8 @@ use lib.ListN.{length, take, drop, length-append, take-append-drop}
 use lib.Seq.{take-nil, take-append-le, take-append-seam}
 use Rattle.buffers.specs.Bytes.{put}
 use Rattle.buffers.proofs.Lists.{below-or-not, length-put, part-put-before, part-put-after}
-use Rattle.steps.specs.Sectors.{sector, listed, Once, cut}
-use Rattle.steps.specs.Steps.{Put, putAll, Step, Inside, AllInside, enact, numbers, orStay, more, commits, lastOf, Goes}
+use Rattle.steps.specs.Sectors.{sector, isListed, Once, cut}
+use Rattle.steps.specs.Steps.{Put, putAll, Step, InsideSector, AllInsideSector, apply, numbers, viewAfter, andThen, commits, lastView, StepsHold}
 use Rattle.steps.proofs.Sectors.{listed-no, once-apart, sectors-ext, length-cut, cut-old, cut-new, cut-all}
 
 -- ---- puts
@@ -24,14 +24,14 @@ putAll-long [] d = refl
 putAll-long (p ∷ ps) d = putAll-long ps (put d (p .place) (p .bytes)) ∙ length-put d (p .place) (p .bytes)
 
 -- what lies inside one sector leaves another as it was
-pub put-other : (s : ℕ) (p : Put) (d : List ℕ) → Inside s p → (t : ℕ) → t ≢ s → sector (put d (p .place) (p .bytes)) t ≡ sector d t
+pub put-other : (s : ℕ) (p : Put) (d : List ℕ) → InsideSector s p → (t : ℕ) → t ≢ s → sector (put d (p .place) (p .bytes)) t ≡ sector d t
 put-other s p d w t q =
     ⊎-elim (λ (l : t < s). part-put-before d (p .place) (p .bytes) (t * 512) 512 (omega arith))
     (λ (l : s ≤ t).
     let m : s < t = omega arith in
     part-put-after d (p .place) (p .bytes) (t * 512) 512 (omega arith)) (below-or-not t s)
 
-pub putAll-other : (s : ℕ) (ps : List Put) (d : List ℕ) → AllInside s ps → (t : ℕ) → t ≢ s → sector (putAll d ps) t ≡ sector d t
+pub putAll-other : (s : ℕ) (ps : List Put) (d : List ℕ) → AllInsideSector s ps → (t : ℕ) → t ≢ s → sector (putAll d ps) t ≡ sector d t
 unfolding putAll
 putAll-other s [] d w t q = refl
 putAll-other s (p ∷ ps) d w t q = putAll-other s ps (put d (p .place) (p .bytes)) (w .1) t q ∙ put-other s p d (w .0) t q
@@ -61,22 +61,22 @@ module _ {S : Type 0} where
   length-numbers [] = refl
   length-numbers (st ∷ sts) = ap suc (length-numbers sts)
 
-  pub enact-append : (xs ys : List (Step S)) (d : List ℕ) → enact d (xs ++ ys) ≡ enact (enact d xs) ys
-  unfolding enact
-  enact-append [] ys d = refl
-  enact-append (x ∷ xs) ys d = enact-append xs ys (putAll d (x .puts))
+  pub apply-append : (xs ys : List (Step S)) (d : List ℕ) → apply d (xs ++ ys) ≡ apply (apply d xs) ys
+  unfolding apply
+  apply-append [] ys d = refl
+  apply-append (x ∷ xs) ys d = apply-append xs ys (putAll d (x .puts))
 
-  pub enact-split : (k : ℕ) (sts : List (Step S)) (d : List ℕ) → enact d sts ≡ enact (enact d (take k sts)) (drop k sts)
-  enact-split k sts d = ap (enact d) (sym (take-append-drop k sts)) ∙ enact-append (take k sts) (drop k sts) d
+  pub apply-split : (k : ℕ) (sts : List (Step S)) (d : List ℕ) → apply d sts ≡ apply (apply d (take k sts)) (drop k sts)
+  apply-split k sts d = ap (apply d) (sym (take-append-drop k sts)) ∙ apply-append (take k sts) (drop k sts) d
 
-  more-append : (o : Option S) (ts us : List S) → more o (ts ++ us) ≡ more o ts ++ us
+  more-append : (o : Option S) (ts us : List S) → andThen o (ts ++ us) ≡ andThen o ts ++ us
   more-append none ts us = refl
   more-append (some t) ts us = refl
 
   pub commits-join : (xs ys : List (Step S)) → commits (xs ++ ys) ≡ commits xs ++ commits ys
   unfolding commits
   commits-join [] ys = refl
-  commits-join (x ∷ xs) ys = ap (more (x .left)) (commits-join xs ys) ∙ more-append (x .left) (commits xs) (commits ys)
+  commits-join (x ∷ xs) ys = ap (andThen (x .left)) (commits-join xs ys) ∙ more-append (x .left) (commits xs) (commits ys)
 
   -- after quiet steps
   pub commits-append : (xs ys : List (Step S)) → commits xs ≡ [] → commits (xs ++ ys) ≡ commits ys
@@ -95,97 +95,97 @@ module _ {S : Type 0} where
       let m : k ≤ length qs = omega (arith, length-append qs (st ∷ [])) in
       ap commits (take-append-le k qs (st ∷ []) m) ∙ commits-take k qs ∙ ap (take (length (commits (take k qs)))) e ∙ take-nil (length (commits (take k qs)))
 
-  lastOf-more : (s : S) (o : Option S) (ts : List S) → lastOf (orStay s o) ts ≡ lastOf s (more o ts)
-  unfolding lastOf
+  lastOf-more : (s : S) (o : Option S) (ts : List S) → lastView (viewAfter s o) ts ≡ lastView s (andThen o ts)
+  unfolding lastView
   lastOf-more s none ts = refl
   lastOf-more s (some t) ts = refl
 
-  pub goes-long : (sts : List (Step S)) (d : List ℕ) → length (enact d sts) ≡ length d
-  unfolding enact
+  pub goes-long : (sts : List (Step S)) (d : List ℕ) → length (apply d sts) ≡ length d
+  unfolding apply
   goes-long [] d = refl
   goes-long (st ∷ sts) d = goes-long sts (putAll d (st .puts)) ∙ putAll-long (st .puts) d
 
 -- ---- steps that do to a disk what they say
 
-module _ {S : Type 0} (look : List ℕ → S) (Ok : S → Type 0) where
-  pub goes-append : (xs ys : List (Step S)) (d : List ℕ) → Goes look Ok d xs → Goes look Ok (enact d xs) ys → Goes look Ok d (xs ++ ys)
-  unfolding enact
+module _ {S : Type 0} (view : List ℕ → S) (Ok : S → Type 0) where
+  pub goes-append : (xs ys : List (Step S)) (d : List ℕ) → StepsHold view Ok d xs → StepsHold view Ok (apply d xs) ys → StepsHold view Ok d (xs ++ ys)
+  unfolding apply
   goes-append [] ys d g h = h
   goes-append (x ∷ xs) ys d g h = (g .0, goes-append xs ys (putAll d (x .puts)) (g .1) h)
 
-  pub goes-take : (k : ℕ) (sts : List (Step S)) (d : List ℕ) → Goes look Ok d sts → Goes look Ok d (take k sts)
+  pub goes-take : (k : ℕ) (sts : List (Step S)) (d : List ℕ) → StepsHold view Ok d sts → StepsHold view Ok d (take k sts)
   goes-take zero sts d g = tt
   goes-take (suc k) [] d g = tt
   goes-take (suc k) (st ∷ sts) d g = (g .0, goes-take k sts (putAll d (st .puts)) (g .1))
 
-  pub goes-drop : (k : ℕ) (sts : List (Step S)) (d : List ℕ) → Goes look Ok d sts → Goes look Ok (enact d (take k sts)) (drop k sts)
-  unfolding enact
+  pub goes-drop : (k : ℕ) (sts : List (Step S)) (d : List ℕ) → StepsHold view Ok d sts → StepsHold view Ok (apply d (take k sts)) (drop k sts)
+  unfolding apply
   goes-drop zero sts d g = g
   goes-drop (suc k) [] d g = tt
   goes-drop (suc k) (st ∷ sts) d g = goes-drop k sts (putAll d (st .puts)) (g .1)
 
   -- a sector that is not listed stays
-  pub goes-other : (sts : List (Step S)) (d : List ℕ) → Goes look Ok d sts → (s : ℕ) → listed s (numbers sts) ≡ false → sector (enact d sts) s ≡ sector d s
-  unfolding enact numbers
+  pub goes-other : (sts : List (Step S)) (d : List ℕ) → StepsHold view Ok d sts → (s : ℕ) → isListed s (numbers sts) ≡ false → sector (apply d sts) s ≡ sector d s
+  unfolding apply numbers
   goes-other [] d g s e = refl
   goes-other (st ∷ sts) d g s e =
       let c = listed-no s (st .at) (numbers sts) e in
       goes-other sts (putAll d (st .puts)) (g .1) s (c .1) ∙ putAll-other (st .at) (st .puts) d (g .0 .inside) s (c .0)
 
   -- a sector that is listed is one of the disk's
-  pub goes-there : (sts : List (Step S)) (d : List ℕ) → Goes look Ok d sts → (s : ℕ) → listed s (numbers sts) ≡ true → s * 512 + 512 ≤ length d
+  pub goes-there : (sts : List (Step S)) (d : List ℕ) → StepsHold view Ok d sts → (s : ℕ) → isListed s (numbers sts) ≡ true → s * 512 + 512 ≤ length d
   unfolding numbers
   goes-there [] d g s e = absurd (false≢true e)
   goes-there (st ∷ sts) d g s e = by (eqb s (st .at)) refl e (goes-there sts (putAll d (st .puts)) (g .1) s)
     where
-      by : (t : Bool) → eqb s (st .at) ≡ t → (t || listed s (numbers sts)) ≡ true
-          → (listed s (numbers sts) ≡ true → s * 512 + 512 ≤ length (putAll d (st .puts))) → s * 512 + 512 ≤ length d
+      by : (t : Bool) → eqb s (st .at) ≡ t → (t || isListed s (numbers sts)) ≡ true
+          → (isListed s (numbers sts) ≡ true → s * 512 + 512 ≤ length (putAll d (st .puts))) → s * 512 + 512 ≤ length d
       by true q w f = rw (eqb-true s (st .at) q) (g .0 .there)
       by false q w f = rw putAll-long at (f w)
 
   -- what is seen is the last commit, else what was seen before; and it is accepted
-  pub goes-look : (sts : List (Step S)) (d : List ℕ) → Goes look Ok d sts → look (enact d sts) ≡ lastOf (look d) (commits sts)
-  unfolding enact commits lastOf
-  goes-look [] d g = refl
-  goes-look (st ∷ sts) d g =
-      goes-look sts (putAll d (st .puts)) (g .1) ∙ ap (λ (s : S). lastOf s (commits sts)) (g .0 .sees) ∙ lastOf-more (look d) (st .left) (commits sts)
+  pub goes-view : (sts : List (Step S)) (d : List ℕ) → StepsHold view Ok d sts → view (apply d sts) ≡ lastView (view d) (commits sts)
+  unfolding apply commits lastView
+  goes-view [] d g = refl
+  goes-view (st ∷ sts) d g =
+      goes-view sts (putAll d (st .puts)) (g .1) ∙ ap (λ (s : S). lastView s (commits sts)) (g .0 .sees) ∙ lastOf-more (view d) (st .left) (commits sts)
 
-  pub goes-ok : (sts : List (Step S)) (d : List ℕ) → Goes look Ok d sts → Ok (look d) → Ok (look (enact d sts))
-  unfolding enact
+  pub goes-ok : (sts : List (Step S)) (d : List ℕ) → StepsHold view Ok d sts → Ok (view d) → Ok (view (apply d sts))
+  unfolding apply
   goes-ok [] d g o = o
   goes-ok (st ∷ sts) d g o = goes-ok sts (putAll d (st .puts)) (g .1) (rw (g .0 .sees) (g .0 .ok))
 
   -- THE LAW: a disk cut after k of the listed sectors is the disk after the first k steps
-  pub cut-is : (sts : List (Step S)) (d : List ℕ) (k : ℕ) → Goes look Ok d sts → Once (numbers sts)
-      → cut d (enact d sts) (numbers sts) k ≡ enact d (take k sts)
+  pub cut-is : (sts : List (Step S)) (d : List ℕ) (k : ℕ) → StepsHold view Ok d sts → Once (numbers sts)
+      → cut d (apply d sts) (numbers sts) k ≡ apply d (take k sts)
   cut-is sts d k g o =
-      sectors-ext (cut d (enact d sts) (numbers sts) k) (enact d (take k sts)) (length-cut d (enact d sts) (numbers sts) k ∙ sym (goes-long (take k sts) d))
-      (λ s. by s (listed s (take k (numbers sts))) refl)
+      sectors-ext (cut d (apply d sts) (numbers sts) k) (apply d (take k sts)) (length-cut d (apply d sts) (numbers sts) k ∙ sym (goes-long (take k sts) d))
+      (λ s. by s (isListed s (take k (numbers sts))) refl)
     where
-      by : (s : ℕ) (t : Bool) → listed s (take k (numbers sts)) ≡ t → sector (cut d (enact d sts) (numbers sts) k) s ≡ sector (enact d (take k sts)) s
+      by : (s : ℕ) (t : Bool) → isListed s (take k (numbers sts)) ≡ t → sector (cut d (apply d sts) (numbers sts) k) s ≡ sector (apply d (take k sts)) s
       by s true e =
-          cut-new d (enact d sts) (numbers sts) k (goes-long sts d) s e ∙ ap (λ (x : List ℕ). sector x s) (enact-split k sts d)
-          ∙ goes-other (drop k sts) (enact d (take k sts)) (goes-drop k sts d g) s (rw numbers-drop (once-apart (numbers sts) k s o e))
-      by s false e = cut-old d (enact d sts) (numbers sts) k s e ∙ sym (goes-other (take k sts) d (goes-take k sts d g) s (rw numbers-take e))
+          cut-new d (apply d sts) (numbers sts) k (goes-long sts d) s e ∙ ap (λ (x : List ℕ). sector x s) (apply-split k sts d)
+          ∙ goes-other (drop k sts) (apply d (take k sts)) (goes-drop k sts d g) s (rw numbers-drop (once-apart (numbers sts) k s o e))
+      by s false e = cut-old d (apply d sts) (numbers sts) k s e ∙ sym (goes-other (take k sts) d (goes-take k sts d g) s (rw numbers-take e))
 
   -- what a disk e is that was cut after k of the steps' sectors
   pub record Cut (d : List ℕ) (sts : List (Step S)) (k : ℕ) (e : List ℕ) : Type 0 where
     pub long : length e ≡ length d
-    pub sees : look e ≡ lastOf (look d) (commits (take k sts))
-    pub ok : Ok (look e)
-    pub unlisted : (s : ℕ) → listed s (take k (numbers sts)) ≡ false → sector e s ≡ sector d s
+    pub sees : view e ≡ lastView (view d) (commits (take k sts))
+    pub ok : Ok (view e)
+    pub unlisted : (s : ℕ) → isListed s (take k (numbers sts)) ≡ false → sector e s ≡ sector d s
 
-  pub cut-sees : (sts : List (Step S)) (d : List ℕ) (k : ℕ) → Goes look Ok d sts → Once (numbers sts) → Ok (look d)
-      → Cut d sts k (cut d (enact d sts) (numbers sts) k)
+  pub cut-sees : (sts : List (Step S)) (d : List ℕ) (k : ℕ) → StepsHold view Ok d sts → Once (numbers sts) → Ok (view d)
+      → Cut d sts k (cut d (apply d sts) (numbers sts) k)
   cut-sees sts d k g o a =
-      let h : Goes look Ok d (take k sts) = goes-take k sts d g in
+      let h : StepsHold view Ok d (take k sts) = goes-take k sts d g in
       record {
-        long = length-cut d (enact d sts) (numbers sts) k;
-        sees = rw (cut-is sts d k g o) (goes-look (take k sts) d h);
+        long = length-cut d (apply d sts) (numbers sts) k;
+        sees = rw (cut-is sts d k g o) (goes-view (take k sts) d h);
         ok = rw (cut-is sts d k g o) (goes-ok (take k sts) d h a);
-        unlisted = cut-old d (enact d sts) (numbers sts) k;
+        unlisted = cut-old d (apply d sts) (numbers sts) k;
       }
 
   -- cut after the last
-  pub cut-whole : (sts : List (Step S)) (d : List ℕ) → Goes look Ok d sts → cut d (enact d sts) (numbers sts) (length (numbers sts)) ≡ enact d sts
-  cut-whole sts d g = cut-all d (enact d sts) (numbers sts) (goes-long sts d) (goes-other sts d g)
+  pub cut-whole : (sts : List (Step S)) (d : List ℕ) → StepsHold view Ok d sts → cut d (apply d sts) (numbers sts) (length (numbers sts)) ≡ apply d sts
+  cut-whole sts d g = cut-all d (apply d sts) (numbers sts) (goes-long sts d) (goes-other sts d g)

@@ -8,8 +8,8 @@ use native.Mathlib.Omega.{arith}
 use lib.ListN.{length, getD}
 use Rattle.buffers.specs.Bytes.{put}
 use Rattle.buffers.proofs.Lists.{below-or-not, past-end, length-put, put-in, put-before, put-after, put-is}
-use Rattle.steps.specs.Sectors.{listed}
-use Rattle.steps.specs.Steps.{Put, putAll, Step, Inside, AllInside, enact, numbers, Goes}
+use Rattle.steps.specs.Sectors.{isListed}
+use Rattle.steps.specs.Steps.{Put, putAll, Step, InsideSector, AllInsideSector, apply, numbers, StepsHold}
 use Rattle.steps.proofs.Sectors.{listed-no}
 
 -- the same bytes put at the same place of two lists that agree at k
@@ -38,8 +38,8 @@ put-turn d a x b y h =
     tail : (k : ℕ) → length d ≤ k → k < b → getD (put (put d b y) a x) k 0 ≡ getD (put d a x) k 0
     tail k m p = past-end (put (put d b y) a x) k (omega (arith, length-put (put d b y) a x, length-put d b y)) ∙ sym (past-end (put d a x) k (omega (arith, length-put d a x)))
 
-module _ (s : ℕ) (p : Put) (w : Inside s p) where
-  put-swap : (t : ℕ) (q : Put) → Inside t q → t ≢ s → (d : List ℕ) → put (put d (p .place) (p .bytes)) (q .place) (q .bytes) ≡ put (put d (q .place) (q .bytes)) (p .place) (p .bytes)
+module _ (s : ℕ) (p : Put) (w : InsideSector s p) where
+  put-swap : (t : ℕ) (q : Put) → InsideSector t q → t ≢ s → (d : List ℕ) → put (put d (p .place) (p .bytes)) (q .place) (q .bytes) ≡ put (put d (q .place) (q .bytes)) (p .place) (p .bytes)
   put-swap t q v e d =
       ⊎-elim (λ (m : t < s). put-turn d (q .place) (q .bytes) (p .place) (p .bytes) (omega arith))
       (λ (m : s ≤ t).
@@ -47,18 +47,18 @@ module _ (s : ℕ) (p : Put) (w : Inside s p) where
       sym (put-turn d (p .place) (p .bytes) (q .place) (q .bytes) (omega arith)))
       (below-or-not t s)
 
-  putAll-swap : (t : ℕ) (qs : List Put) → AllInside t qs → t ≢ s → (d : List ℕ) → putAll (put d (p .place) (p .bytes)) qs ≡ put (putAll d qs) (p .place) (p .bytes)
+  putAll-swap : (t : ℕ) (qs : List Put) → AllInsideSector t qs → t ≢ s → (d : List ℕ) → putAll (put d (p .place) (p .bytes)) qs ≡ put (putAll d qs) (p .place) (p .bytes)
   unfolding putAll
   putAll-swap t [] v e d = refl
   putAll-swap t (q ∷ qs) v e d =
       ap (λ (x : List ℕ). putAll x qs) (put-swap t q (v .0) e d) ∙ putAll-swap t qs (v .1) e (put d (q .place) (q .bytes))
 
-module _ {S : Type 0} (look : List ℕ → S) (Ok : S → Type 0) where
-  pub enact-swap : (s : ℕ) (p : Put) (sts : List (Step S)) (d : List ℕ) → Inside s p → Goes look Ok d sts → listed s (numbers sts) ≡ false
-      → enact (put d (p .place) (p .bytes)) sts ≡ put (enact d sts) (p .place) (p .bytes)
-  unfolding enact numbers
-  enact-swap s p [] d w g e = refl
-  enact-swap s p (st ∷ sts) d w g e =
+module _ {S : Type 0} (view : List ℕ → S) (Ok : S → Type 0) where
+  pub apply-swap : (s : ℕ) (p : Put) (sts : List (Step S)) (d : List ℕ) → InsideSector s p → StepsHold view Ok d sts → isListed s (numbers sts) ≡ false
+      → apply (put d (p .place) (p .bytes)) sts ≡ put (apply d sts) (p .place) (p .bytes)
+  unfolding apply numbers
+  apply-swap s p [] d w g e = refl
+  apply-swap s p (st ∷ sts) d w g e =
       let c = listed-no s (st .at) (numbers sts) e in
-      ap (λ (x : List ℕ). enact x sts) (putAll-swap s p w (st .at) (st .puts) (g .0 .inside) (λ q. c .0 (sym q)) d)
-      ∙ enact-swap s p sts (putAll d (st .puts)) w (g .1) (c .1)
+      ap (λ (x : List ℕ). apply x sts) (putAll-swap s p w (st .at) (st .puts) (g .0 .inside) (λ q. c .0 (sym q)) d)
+      ∙ apply-swap s p sts (putAll d (st .puts)) w (g .1) (c .1)

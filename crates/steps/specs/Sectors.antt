@@ -12,15 +12,15 @@ abbrev pub sector : List ℕ → ℕ → List ℕ
 sector d s = part (s * 512) 512 d
 
 -- whether a number is listed
-abbrev pub listed : ℕ → List ℕ → Bool
-listed a [] = false
-listed a (x ∷ xs) = eqb a x || listed a xs
+abbrev pub isListed : ℕ → List ℕ → Bool
+isListed a [] = false
+isListed a (x ∷ xs) = eqb a x || isListed a xs
 
 -- "No number occurs twice"
 abbrev pub Once : List ℕ → Type 0
 Once [] = Unit {0}
-Once (x ∷ xs) = (listed x xs ≡ false) × Once xs
+Once (x ∷ xs) = (isListed x xs ≡ false) × Once xs
 
 -- "A disk cut after k writes .. is the old disk with the first k named sectors taken from the new one."
 unfoldable pub cut : List ℕ → List ℕ → List ℕ → ℕ → List ℕ
-cut old new named k = tab (length old) (λ i. cond (listed (i / 512) (take k named)) (getD new i 0) (getD old i 0))
+cut old new named k = tab (length old) (λ i. cond (isListed (i / 512) (take k named)) (getD new i 0) (getD old i 0))

@@ -23,19 +23,19 @@ pub record Step (S : Type 0) : Type 0 where
   pub left : Option S
 
 -- the bytes lie inside sector s
-pub record Inside (s : ℕ) (p : Put) : Type 0 where
+pub record InsideSector (s : ℕ) (p : Put) : Type 0 where
   pub low : s * 512 ≤ p .place
   pub high : p .place + length (p .bytes) ≤ s * 512 + 512
 
-abbrev pub AllInside : ℕ → List Put → Type 0
-AllInside s [] = Unit {0}
-AllInside s (p ∷ ps) = Inside s p × AllInside s ps
+abbrev pub AllInsideSector : ℕ → List Put → Type 0
+AllInsideSector s [] = Unit {0}
+AllInsideSector s (p ∷ ps) = InsideSector s p × AllInsideSector s ps
 
 module _ {S : Type 0} where
   -- the disk after the steps
-  unfoldable pub enact : List ℕ → List (Step S) → List ℕ
-  enact d [] = d
-  enact d (st ∷ sts) = enact (putAll d (st .puts)) sts
+  unfoldable pub apply : List ℕ → List (Step S) → List ℕ
+  apply d [] = d
+  apply d (st ∷ sts) = apply (putAll d (st .puts)) sts
 
   -- their sector numbers, in order
   unfoldable pub numbers : List (Step S) → List ℕ
@@ -43,34 +43,34 @@ module _ {S : Type 0} where
   numbers (st ∷ sts) = st .at ∷ numbers sts
 
   -- what is seen after a step
-  abbrev pub orStay : S → Option S → S
-  orStay s none = s
-  orStay s (some t) = t
+  abbrev pub viewAfter : S → Option S → S
+  viewAfter s none = s
+  viewAfter s (some t) = t
 
   -- what the steps commit, in order
-  abbrev pub more : Option S → List S → List S
-  more none ts = ts
-  more (some t) ts = t ∷ ts
+  abbrev pub andThen : Option S → List S → List S
+  andThen none ts = ts
+  andThen (some t) ts = t ∷ ts
 
   unfoldable pub commits : List (Step S) → List S
   commits [] = []
-  commits (st ∷ sts) = more (st .left) (commits sts)
+  commits (st ∷ sts) = andThen (st .left) (commits sts)
 
   -- the last of them, else what was seen before
-  unfoldable pub lastOf : S → List S → S
-  lastOf s [] = s
-  lastOf s (t ∷ ts) = lastOf t ts
+  unfoldable pub lastView : S → List S → S
+  lastView s [] = s
+  lastView s (t ∷ ts) = lastView t ts
 
-module _ {S : Type 0} (look : List ℕ → S) (Ok : S → Type 0) where
+module _ {S : Type 0} (view : List ℕ → S) (Ok : S → Type 0) where
   -- a step does to a disk what it says: its sector is one of the disk's, its bytes lie in it, what is seen after it is what it
   -- left, and that is accepted
-  pub record Does (d : List ℕ) (st : Step S) : Type 0 where
+  pub record StepHolds (d : List ℕ) (st : Step S) : Type 0 where
     pub there : st .at * 512 + 512 ≤ length d
-    pub inside : AllInside (st .at) (st .puts)
-    pub sees : look (putAll d (st .puts)) ≡ orStay (look d) (st .left)
-    pub ok : Ok (orStay (look d) (st .left))
+    pub inside : AllInsideSector (st .at) (st .puts)
+    pub sees : view (putAll d (st .puts)) ≡ viewAfter (view d) (st .left)
+    pub ok : Ok (viewAfter (view d) (st .left))
 
   -- each step in its turn
-  abbrev pub Goes : List ℕ → List (Step S) → Type 0
-  Goes d [] = Unit {0}
-  Goes d (st ∷ sts) = Does d st × Goes (putAll d (st .puts)) sts
+  abbrev pub StepsHold : List ℕ → List (Step S) → Type 0
+  StepsHold d [] = Unit {0}
+  StepsHold d (st ∷ sts) = StepHolds d st × StepsHold (putAll d (st .puts)) sts

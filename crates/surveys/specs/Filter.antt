@@ -7,7 +7,7 @@ use mathlib.Core.List.{List}
 use mathlib.Core.Option.{some}
 use lib.ListN.{length}
 use Rattle.buffers.specs.Bytes.{any}
-use Rattle.maps.specs.Bits.{has, marked}
+use Rattle.maps.specs.Bits.{has, withBit}
 use Rattle.slots.specs.Slot.{nameOf}
 use Rattle.names.specs.Name.{keyOf}
 use Rattle.directory.specs.Directory.{directory}
@@ -22,21 +22,21 @@ keyBit key zero = key % 8147
 keyBit key (suc j) = (keyBit key j + keyStep key) % 8192
 
 -- one of the first n bits of a key is clear; none of its four is
-unfoldable pub lacks : List ℕ → ℕ → ℕ → Bool
-lacks f key n = any n (λ j. not (has f (keyBit key j)))
+unfoldable pub lacksBit : List ℕ → ℕ → ℕ → Bool
+lacksBit f key n = any n (λ j. not (has f (keyBit key j)))
 
-unfoldable pub isNoted : List ℕ → ℕ → Bool
-isNoted f key = not (lacks f key 4)
+unfoldable pub mayContain : List ℕ → ℕ → Bool
+mayContain f key = not (lacksBit f key 4)
 
 -- the filter with the first n bits of a key set as well; with all four
-unfoldable pub notedTo : List ℕ → ℕ → ℕ → List ℕ
-notedTo f key zero = f
-notedTo f key (suc j) = marked (notedTo f key j) (keyBit key j)
+unfoldable pub insertedTo : List ℕ → ℕ → ℕ → List ℕ
+insertedTo f key zero = f
+insertedTo f key (suc j) = withBit (insertedTo f key j) (keyBit key j)
 
-abbrev pub noted : List ℕ → ℕ → List ℕ
-noted f key = notedTo f key 4
+abbrev pub inserted : List ℕ → ℕ → List ℕ
+inserted f key = insertedTo f key 4
 
 -- the bits of the live slots before slot i are set
 pub record Filtered (d : List ℕ) (i : ℕ) (f : List ℕ) : Type 0 where
   pub long : length f ≡ 1024
-  pub bits : (j : ℕ) (t : List ℕ) → j < i → directory d j ≡ some t → isNoted f (keyOf (nameOf t)) ≡ true
+  pub bits : (j : ℕ) (t : List ℕ) → j < i → directory d j ≡ some t → mayContain f (keyOf (nameOf t)) ≡ true

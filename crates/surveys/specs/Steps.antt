@@ -22,7 +22,7 @@ pub record Reached (d : List ℕ) (i : ℕ) (s u f : List ℕ) : Type 0 where
   pub filtered : Filtered d i f
 
 -- the counts are the maps' own, and no bit is in both
-pub record Apart (u : UsedMap) (m : List ℕ) (own : ℕ) : Type 0 where
+pub record DisjointMaps (u : UsedMap) (m : List ℕ) (own : ℕ) : Type 0 where
   pub long : length (u .bytes) ≡ 195
   pub count : u .count ≡ bitsOf (u .bytes)
   pub own-count : own ≡ bitsOf m

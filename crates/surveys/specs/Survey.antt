@@ -5,25 +5,25 @@ use mathlib.Core.Bool.{Bool, false}
 use mathlib.Core.List.{List, [], _∷_, _++_}
 use mathlib.Core.Option.{none, some}
 use Rattle.buffers.specs.Bytes.{any}
-use Rattle.maps.specs.Bits.{bitsOf, share, clear, join}
-use Rattle.refusals.specs.Order.{Row, _when_, Reply, rows, sweep}
-use Rattle.slots.specs.Slot.{nameOf, mapOf, facts}
+use Rattle.maps.specs.Bits.{bitsOf, share, clearMap, join}
+use Rattle.refusals.specs.Order.{Row, _when_, Reply, rows, scan}
+use Rattle.slots.specs.Slot.{nameOf, mapOf, slotFields}
 use Rattle.names.specs.Name.{sameName}
-use Rattle.slots.specs.Rows.{own, strict}
+use Rattle.slots.specs.Rows.{own, releaseRows}
 use Rattle.slots.specs.Tracks.{dataCount}
 use Rattle.directory.specs.Places.{slots}
-use Rattle.directory.specs.Directory.{held, Directory, liveAmong}
+use Rattle.directory.specs.Directory.{foldOption, Directory, liveAmong}
 use Rattle.refusals.specs.declared.Verdict.{Verdict}
 use Rattle.surveys.specs.declared.UsedMap.{UsedMap}
 use Rattle.surveys.specs.declared.Survey.{Survey}
 
 -- an earlier live slot to which a test applies
 unfoldable pub earlier : Directory → ℕ → (List ℕ → Bool) → Bool
-earlier v i t = any i (λ j. held false t (v j))
+earlier v i t = any i (λ j. foldOption false t (v j))
 
 -- rows 8 and 9 of the live slot i
-abbrev pub cross : Directory → ℕ → List ℕ → List Row
-cross v i s =
+abbrev pub sharedRows : Directory → ℕ → List ℕ → List Row
+sharedRows v i s =
     -- the map shares a bit with an earlier live slot
     (8 when earlier v i (λ t. share (mapOf t) (mapOf s)))
     -- the name is an earlier live slot's
@@ -32,15 +32,15 @@ cross v i s =
 
 -- rows 2 to 9 of the live slot i (3 is given no more), with n directory tracks beyond four, and 22 "directly after 7"
 abbrev pub rowsAt : Bool → ℕ → Directory → ℕ → List ℕ → List Row
-rowsAt release n v i s = own n (facts s) ++ (strict release (facts s) ++ cross v i s)
+rowsAt release n v i s = own n (slotFields s) ++ (releaseRows release (slotFields s) ++ sharedRows v i s)
 
 -- the first of them that holds; in the first check, where their numbers rise, "at a slot the lowest number"
 unfoldable pub surveyAt : Bool → ℕ → Directory → ℕ → Reply
-surveyAt release n v i = held none (λ s. rows (suc i) (rowsAt release n v i s)) (v i)
+surveyAt release n v i = foldOption none (λ s. rows (suc i) (rowsAt release n v i s)) (v i)
 
 -- "then all slots for 2 to 9, lowest slot first"
 unfoldable pub surveyBy : Bool → ℕ → Directory → Reply
-surveyBy release n v = sweep slots (surveyAt release n v)
+surveyBy release n v = scan slots (surveyAt release n v)
 
 abbrev pub survey : ℕ → Directory → Reply
 survey n v = surveyBy false n v
@@ -48,8 +48,8 @@ survey n v = surveyBy false n v
 -- "The used map is the bitwise or of all live maps": of those among the first k slots,
 -- starting from "a map with all 195 bytes clear"
 unfoldable pub union : Directory → ℕ → List ℕ
-union v zero = clear
-union v (suc k) = held (union v k) (λ s. join (union v k) (mapOf s)) (v k)
+union v zero = clearMap
+union v (suc k) = foldOption (union v k) (λ s. join (union v k) (mapOf s)) (v k)
 
 -- "one record of 195 map bytes together with their count"; "The used-map record carries n"
 unfoldable pub counted : ℕ → List ℕ → UsedMap
@@ -68,7 +68,7 @@ free n v = freeOf (usedMap n v)
 -- the used map of a directory that is not refused; a clear one of another
 abbrev pub usedOr : Reply → ℕ → Directory → UsedMap
 usedOr none n v = usedMap n v
-usedOr (some r) n v = counted 0 clear
+usedOr (some r) n v = counted 0 clearMap
 
 -- how many files such a directory has; 0 of another
 abbrev pub filesOr : Reply → Directory → ℕ
@@ -77,4 +77,4 @@ filesOr (some r) v = 0
 
 -- what a check hands on that refuses: its verdict, a clear map and no files
 unfoldable pub refusedWith : Verdict → Survey
-refusedWith v = record { verdict = v; used = counted 0 clear; files = 0 }
+refusedWith v = record { verdict = v; used = counted 0 clearMap; files = 0 }

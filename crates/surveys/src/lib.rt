@@ -2,15 +2,15 @@
 // alone, and answers for a slice of any length.
 ghost use mathlib.Core.Path.{_≡_};
 ghost use Prim.Native.Nat.{_≤_, _<_};
-ghost use Rattle.maps.specs.Bits.{clear, join};
+ghost use Rattle.maps.specs.Bits.{clearMap, join};
 ghost use Rattle.refusals.specs.Answers.{replyOf};
 ghost use Rattle.names.specs.Name.{sameName};
 ghost use Rattle.slots.specs.Slot.{nameOf};
 ghost use Rattle.slots.specs.Rows.{ownReply};
 ghost use Rattle.directory.specs.Directory.{tracksOf, slotsRead, directory};
 ghost use Rattle.surveys.specs.Survey.{earlier, surveyAt, surveyBy, counted, freeOf, refusedWith};
-ghost use Rattle.surveys.specs.Filter.{keyBit, keyStep, isNoted, noted, Filtered};
-ghost use Rattle.surveys.specs.Steps.{Apart, Reached, Surveyed};
+ghost use Rattle.surveys.specs.Filter.{keyBit, keyStep, mayContain, inserted, Filtered};
+ghost use Rattle.surveys.specs.Steps.{DisjointMaps, Reached, Surveyed};
 use refusals::Reason;
 use refusals::Verdict;
 
@@ -21,7 +21,7 @@ pub struct UsedMap {
     pub tracks: usize,
 }
 
-// What the pass over rows 2 to 9 gives: its verdict, and where that is sound the used map and how many slots are live
+// What the pass over rows 2 to 9 gives: its verdict, and where that is accepted the used map and how many slots are live
 // (else a clear map and 0).
 pub struct Survey {
     pub verdict: Verdict,
@@ -50,8 +50,8 @@ fn bit_step(key: u64) -> usize
 }
 
 // Whether the filter has all bits of a key.
-fn is_noted(filter: &[u8], key: u64) -> bool
-    ensures { λ r. ⌜ r ≡ isNoted (now (filter .entry)) key ⌝ }
+fn may_contain(filter: &[u8], key: u64) -> bool
+    ensures { λ r. ⌜ r ≡ mayContain (now (filter .entry)) key ⌝ }
 {
     let step = bit_step(key);
     let mut b = first_bit(key);
@@ -67,14 +67,14 @@ fn is_noted(filter: &[u8], key: u64) -> bool
 }
 
 // Sets the bits of a key in the filter.
-fn note(filter: &mut [u8], key: u64)
-    ensures { λ _. ⌜ now (filter .exit) ≡ noted (now (filter .entry)) key ⌝ }
+fn insert(filter: &mut [u8], key: u64)
+    ensures { λ _. ⌜ now (filter .exit) ≡ inserted (now (filter .entry)) key ⌝ }
 {
     let step = bit_step(key);
     let mut b = first_bit(key);
     let mut n: usize = 0;
     while n < KEY_BITS {
-        maps::mark(filter, b);
+        maps::set_bit(filter, b);
         b = (b + step) % FILTER_BITS;
         n += 1;
     }
@@ -87,7 +87,7 @@ fn named_before(dir: &[u8], i: usize, name: &[u8], filter: &[u8]) -> bool
     ensures { λ r. ⌜ r ≡ earlier (directory (now (dir .entry))) i (λ t. sameName (nameOf t) (now (name .entry))) ⌝ }
 {
     let key = names::key_of(name);
-    if !is_noted(filter, key) {
+    if !may_contain(filter, key) {
         return false;
     }
     let mut j: usize = 0;
@@ -127,25 +127,25 @@ fn live_rows(
 {
     let slot = i + 1;
     match own_at(s, slot, tracks) {
-        Verdict::Unsound(f) => Verdict::Unsound(f),
-        Verdict::Sound => {
+        Verdict::Err(f) => Verdict::Err(f),
+        Verdict::Accepted => {
             if release && slots::is_wasteful(s) {
-                return refusals::unsound(Reason::WasteSectors, slot);
+                return refusals::refused_verdict(Reason::WasteSectors, slot);
             }
             if maps::shares(used, slots::map_of(s)) {
-                return refusals::unsound(Reason::SectorShared, slot);
+                return refusals::refused_verdict(Reason::SectorShared, slot);
             }
             if named_before(dir, i, slots::name_of(s), filter) {
-                return refusals::unsound(Reason::NameTwice, slot);
+                return refusals::refused_verdict(Reason::NameTwice, slot);
             }
-            Verdict::Sound
+            Verdict::Accepted
         }
     }
 }
 
 // The used map of no slot.
 fn unused(tracks: usize) -> UsedMap
-    ensures { λ r. ⌜ r ≡ counted tracks clear ⌝ }
+    ensures { λ r. ⌜ r ≡ counted tracks clearMap ⌝ }
 {
     UsedMap {
         bytes: [0; 195],
@@ -168,7 +168,7 @@ pub fn refused(verdict: Verdict) -> Survey
 
 // The used map with one more map, of which it has no bit yet; `own` is that map's number of set bits, counted before.
 fn joined(used: UsedMap, map: &[u8], own: usize) -> UsedMap
-    requires { ⌜ Apart used (now map) own ⌝ }
+    requires { ⌜ DisjointMaps used (now map) own ⌝ }
     ensures { λ r. ⌜ r ≡ counted (used .tracks) (join (used .bytes) (now (map .entry))) ⌝ }
 {
     let mut bytes = used.bytes;
@@ -198,11 +198,11 @@ pub fn survey_slots(dir: &[u8], release: bool) -> Survey
         i += 1;
         if slots::is_live(s) {
             match live_rows(dir, k, s, &used.bytes, &filter, release, tracks) {
-                Verdict::Unsound(f) => {
-                    return refused(Verdict::Unsound(f));
+                Verdict::Err(f) => {
+                    return refused(Verdict::Err(f));
                 }
-                Verdict::Sound => {
-                    note(&mut filter, names::key_of(slots::name_of(s)));
+                Verdict::Accepted => {
+                    insert(&mut filter, names::key_of(slots::name_of(s)));
                     files += 1;
                     let next = joined(used, slots::map_of(s), slots::count_of(s));
                     used = next;
@@ -211,7 +211,7 @@ pub fn survey_slots(dir: &[u8], release: bool) -> Survey
         }
     }
     Survey {
-        verdict: Verdict::Sound,
+        verdict: Verdict::Accepted,
         used,
         files,
     }

@@ -12,14 +12,14 @@ use Rattle.buffers.proofs.Tests.{and-both, both-and}
 use Rattle.buffers.proofs.Counts.{any-some, some-any}
 use Rattle.slots.specs.Slot.{isDirectory, codeOf, parentOf}
 use Rattle.directory.specs.Places.{slots}
-use Rattle.directory.specs.Directory.{held, Directory}
+use Rattle.directory.specs.Directory.{foldOption, Directory}
 use Rattle.trees.specs.Tree.{occupied}
-use Rattle.trees.specs.Under.{Live, Occupied}
+use Rattle.trees.specs.Beneath.{LiveSlot, Occupied}
 
 module _ (v : Directory) (i : ℕ) (s : List ℕ) where
   -- slot j is another live slot that is in the directory
   abbrev inside : ℕ → Bool
-  inside j = not (eqb j i) && held false (λ t. eqb (parentOf t) (codeOf s)) (v j)
+  inside j = not (eqb j i) && foldOption false (λ t. eqb (parentOf t) (codeOf s)) (v j)
 
   is-occupied : occupied v i s ≡ true → Occupied v i s
   unfolding occupied
@@ -27,14 +27,14 @@ module _ (v : Directory) (i : ℕ) (s : List ℕ) where
       let a = and-both (isDirectory s) (not (eqb (codeOf s) 0) && any slots inside) e in
       let b = and-both (not (eqb (codeOf s) 0)) (any slots inside) (a .1) in
       let w = some-any slots inside (b .1) in
-      let c = and-both (not (eqb (w .0) i)) (held false (λ t. eqb (parentOf t) (codeOf s)) (v (w .0))) (w .2) in
+      let c = and-both (not (eqb (w .0) i)) (foldOption false (λ t. eqb (parentOf t) (codeOf s)) (v (w .0))) (w .2) in
       by (a .0) (eqb-false (codeOf s) 0 (not-true _ (b .0))) (w .0) (w .1) (eqb-false (w .0) i (not-true _ (c .0))) (v (w .0)) refl (c .1)
     where
       by : isDirectory s ≡ true → (codeOf s ≡ 0 → ⊥) → (j : ℕ) → j < slots → (j ≡ i → ⊥) → (o : Option (List ℕ)) → v j ≡ o
-          → held false (λ t. eqb (parentOf t) (codeOf s)) o ≡ true → Occupied v i s
+          → foldOption false (λ t. eqb (parentOf t) (codeOf s)) o ≡ true → Occupied v i s
       by f z j l n none p q = absurd (false≢true q)
       by f z j l n (some t) p q = record {
-        folder = f;
+        is-directory = f;
         nonzero = z;
         other = j;
         bytes = t;
@@ -46,11 +46,11 @@ module _ (v : Directory) (i : ℕ) (s : List ℕ) where
   occupied-is : Occupied v i s → occupied v i s ≡ true
   unfolding occupied
   occupied-is w =
-      both-and (isDirectory s) (not (eqb (codeOf s) 0) && any slots inside) (w .folder)
+      both-and (isDirectory s) (not (eqb (codeOf s) 0) && any slots inside) (w .is-directory)
       (both-and (not (eqb (codeOf s) 0)) (any slots inside) (ap not (ne-eqb (codeOf s) 0 (w .nonzero)))
       (any-some slots inside (w .other) (w .live .below)
-      (both-and (not (eqb (w .other) i)) (held false (λ t. eqb (parentOf t) (codeOf s)) (v (w .other))) (ap not (ne-eqb (w .other) i (w .elsewhere)))
-      (ap (held false (λ t. eqb (parentOf t) (codeOf s))) (w .live .here) ∙ eq-eqb (parentOf (w .bytes)) (codeOf s) (w .inside)))))
+      (both-and (not (eqb (w .other) i)) (foldOption false (λ t. eqb (parentOf t) (codeOf s)) (v (w .other))) (ap not (ne-eqb (w .other) i (w .elsewhere)))
+      (ap (foldOption false (λ t. eqb (parentOf t) (codeOf s))) (w .live .here) ∙ eq-eqb (parentOf (w .bytes)) (codeOf s) (w .inside)))))
 
   pub occupied-exactly : (occupied v i s ≡ true) ↔ Occupied v i s
   occupied-exactly = (is-occupied, occupied-is)

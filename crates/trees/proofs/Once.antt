@@ -11,16 +11,16 @@ use borrow.Author.Tests.{eqb-true, eqb-false, eq-eqb, ne-eqb}
 use lib.Dec.{eqb}
 use lib.ListN.{length}
 use Rattle.buffers.specs.Bytes.{count}
-use Rattle.buffers.specs.Sums.{gather, times, sum}
+use Rattle.buffers.specs.Sums.{concat, times, sum}
 use Rattle.buffers.proofs.Lists.{below-or-not}
 use Rattle.buffers.proofs.Counts.{count-le}
 use Rattle.buffers.proofs.Sums.{sum-cong, sum-plus, sum-none, sum-one, times-gather, times-same, few}
 use Rattle.slots.specs.Slot.{isDirectory, codeOf, parentOf}
 use Rattle.directory.specs.Places.{slots}
-use Rattle.directory.specs.Directory.{held, Directory}
-use Rattle.trees.specs.Tree.{coded, directories, up, upBy, levelAt, level, inside, beneath, tree}
-use Rattle.trees.specs.Under.{Live, Folder, Under, direct, deeper, Nested, Holds}
-use Rattle.trees.proofs.Up.{Apart, coded-is, is-coded, same-bytes, one-home, up-of, by-front, root-by}
+use Rattle.directory.specs.Directory.{foldOption, Directory}
+use Rattle.trees.specs.Tree.{coded, directories, parentCode, ancestorCode, levelAt, level, inside, beneath, tree}
+use Rattle.trees.specs.Beneath.{LiveSlot, DirectorySlot, Beneath, direct, deeper, WellNested, ListsEachOnce}
+use Rattle.trees.proofs.Up.{OwnCodes, coded-is, is-coded, same-bytes, one-home, up-of, by-front, root-by}
 use Rattle.trees.proofs.Enough.{own-codes, to-root, tree-more}
 
 eqb-swap : (a b : ℕ) → eqb a b ≡ eqb b a
@@ -33,13 +33,13 @@ eqb-swap a b = by (eqb b a) refl
 -- ---- a sum over the slots in a directory
 
 abbrev part : ℕ → (List ℕ → ℕ) → Option (List ℕ) → ℕ
-part c g o = held 0 (λ t. cond (eqb (parentOf t) c) (g t) 0) o
+part c g o = foldOption 0 (λ t. cond (eqb (parentOf t) c) (g t) 0) o
 
 unfoldable among : Directory → ℕ → (List ℕ → ℕ) → ℕ
 among v c g = sum slots (λ k. part c g (v k))
 
 module _ (v : Directory) where
-  among-cong : (c : ℕ) (g h : List ℕ → ℕ) → ((k : ℕ) (t : List ℕ) → Live v k t → g t ≡ h t) → among v c g ≡ among v c h
+  among-cong : (c : ℕ) (g h : List ℕ → ℕ) → ((k : ℕ) (t : List ℕ) → LiveSlot v k t → g t ≡ h t) → among v c g ≡ among v c h
   unfolding among
   among-cong c g h e = sum-cong slots _ _ (λ k l. at k l (v k) refl)
     where
@@ -59,7 +59,7 @@ module _ (v : Directory) where
       at none = refl
       at (some t) = in-c t (eqb (parentOf t) c)
 
-  among-zero : (c : ℕ) (g : List ℕ → ℕ) → ((k : ℕ) (t : List ℕ) → Live v k t → g t ≡ 0) → among v c g ≡ 0
+  among-zero : (c : ℕ) (g : List ℕ → ℕ) → ((k : ℕ) (t : List ℕ) → LiveSlot v k t → g t ≡ 0) → among v c g ≡ 0
   unfolding among
   among-zero c g e = sum-none slots _ (λ k l. at k l (v k) refl)
     where
@@ -86,12 +86,12 @@ module _ (v : Directory) where
       in-c k t true = refl
       in-c k t false = refl
 
-      at : (k : ℕ) (o : Option (List ℕ)) → times x (held [] (λ s. cond (eqb (parentOf s) c) (suc k ∷ f s) []) o) ≡ part c (λ t. cond (eqb x (suc k)) 1 0) o + part c (λ t. times x (f t)) o
+      at : (k : ℕ) (o : Option (List ℕ)) → times x (foldOption [] (λ s. cond (eqb (parentOf s) c) (suc k ∷ f s) []) o) ≡ part c (λ t. cond (eqb x (suc k)) 1 0) o + part c (λ t. times x (f t)) o
       at k none = refl
       at k (some t) = in-c k t (eqb (parentOf t) c)
 
   -- a live slot's number
-  level-live : (c i : ℕ) (s : List ℕ) (f : List ℕ → List ℕ) → Live v i s
+  level-live : (c i : ℕ) (s : List ℕ) (f : List ℕ → List ℕ) → LiveSlot v i s
       → times (suc i) (level v c f) ≡ cond (eqb (parentOf s) c) 1 0 + among v c (λ t. times (suc i) (f t))
   unfolding self
   level-live c i s f l = level-parts c (suc i) f ∙ ap (λ (x : ℕ). x + among v c (λ t. times (suc i) (f t))) (sum-one slots (self c (suc i)) i (l .below) other ∙ here)
@@ -111,7 +111,7 @@ module _ (v : Directory) where
       here = rw (l .here, eq-eqb (suc i) (suc i) refl)
 
   -- a number of no live slot
-  level-none : (c x : ℕ) (f : List ℕ → List ℕ) → ((k : ℕ) (t : List ℕ) → Live v k t → x ≡ suc k → ⊥) → times x (level v c f) ≡ among v c (λ t. times x (f t))
+  level-none : (c x : ℕ) (f : List ℕ → List ℕ) → ((k : ℕ) (t : List ℕ) → LiveSlot v k t → x ≡ suc k → ⊥) → times x (level v c f) ≡ among v c (λ t. times x (f t))
   unfolding self
   level-none c x f h = level-parts c x f ∙ ap (λ (y : ℕ). y + among v c (λ t. times x (f t))) (sum-none slots (self c x) (λ k l. at k l (v k) refl)) ∙ (omega arith)
     where
@@ -133,7 +133,7 @@ module _ (v : Directory) where
   cond-zero false n h = refl
 
   -- a number of no live slot is not listed
-  inside-none : (x : ℕ) → ((k : ℕ) (t : List ℕ) → Live v k t → x ≡ suc k → ⊥) → (n : ℕ) (t : List ℕ) → times x (inside n v t) ≡ 0
+  inside-none : (x : ℕ) → ((k : ℕ) (t : List ℕ) → LiveSlot v k t → x ≡ suc k → ⊥) → (n : ℕ) (t : List ℕ) → times x (inside n v t) ≡ 0
   unfolding inside times
   inside-none x h zero t = refl
   inside-none x h (suc n) t =
@@ -142,15 +142,15 @@ module _ (v : Directory) where
 
   -- ---- a slot that lies in the root
 
-  module _ (a : Apart v) (i : ℕ) (s : List ℕ) (l : Live v i s) where
-    root-inside : parentOf s ≡ 0 → (n k : ℕ) (t : List ℕ) → Live v k t → times (suc i) (inside n v t) ≡ 0
+  module _ (a : OwnCodes v) (i : ℕ) (s : List ℕ) (l : LiveSlot v i s) where
+    root-inside : parentOf s ≡ 0 → (n k : ℕ) (t : List ℕ) → LiveSlot v k t → times (suc i) (inside n v t) ≡ 0
     unfolding inside times
     root-inside e zero k t m = refl
     root-inside e (suc n) k t m =
         times-cond (suc i) (isDirectory t) (level v (codeOf t) (inside n v))
         ∙ cond-zero (isDirectory t) _ (λ q.
         level-live (codeOf t) i s (inside n v) l
-        ∙ ap₂ _+_ (ap (λ (b : Bool). cond b 1 0) (ne-eqb (parentOf s) (codeOf t) (λ w. a .own k t (record { live = m; folder = q }) (sym w ∙ e))))
+        ∙ ap₂ _+_ (ap (λ (b : Bool). cond b 1 0) (ne-eqb (parentOf s) (codeOf t) (λ w. a .own k t (record { live = m; is-directory = q }) (sym w ∙ e))))
         (among-zero (codeOf t) _ (λ j u p. root-inside e n j u p)))
 
     pub in-root : parentOf s ≡ 0 → (n c : ℕ) → times (suc i) (beneath n v c) ≡ cond (eqb (parentOf s) c) 1 0
@@ -160,7 +160,7 @@ module _ (v : Directory) where
 
     -- ---- a slot that lies in the directory in slot h
 
-    module _ (h : ℕ) (u : List ℕ) (f : Folder v h u) (e : codeOf u ≡ parentOf s) where
+    module _ (h : ℕ) (u : List ℕ) (f : DirectorySlot v h u) (e : codeOf u ≡ parentOf s) where
       -- that directory alone has the code
       among-coded : (c : ℕ) → among v c (λ t. cond (coded (parentOf s) t) 1 0) ≡ cond (eqb (parentOf u) c) 1 0
       unfolding among
@@ -170,18 +170,18 @@ module _ (v : Directory) where
           off t true w q = rw q
           off t false w q = refl
 
-          unlike : (k : ℕ) (t : List ℕ) → Live v k t → (k ≡ h → ⊥) → (w : Bool) → coded (parentOf s) t ≡ w → w ≡ false
+          unlike : (k : ℕ) (t : List ℕ) → LiveSlot v k t → (k ≡ h → ⊥) → (w : Bool) → coded (parentOf s) t ≡ w → w ≡ false
           unlike k t m n false q = refl
           unlike k t m n true q =
               let w = coded-is (parentOf s) t q in
-              absurd (n (one-home v a k h t u (record { live = m; folder = w .0 }) f (w .1 ∙ sym e)))
+              absurd (n (one-home v a k h t u (record { live = m; is-directory = w .0 }) f (w .1 ∙ sym e)))
 
           at : (k : ℕ) → k < slots → (k ≡ h → ⊥) → (o : Option (List ℕ)) → v k ≡ o → part c (λ t. cond (coded (parentOf s) t) 1 0) o ≡ 0
           at k q n none p = refl
           at k q n (some t) p = off t (eqb (parentOf t) c) (coded (parentOf s) t) (unlike k t (record { below = q; here = p }) n (coded (parentOf s) t) refl)
 
           here : part c (λ t. cond (coded (parentOf s) t) 1 0) (v h) ≡ cond (eqb (parentOf u) c) 1 0
-          here = rw (f .live .here, is-coded (parentOf s) u (f .folder) e)
+          here = rw (f .live .here, is-coded (parentOf s) u (f .is-directory) e)
 
       -- one level, where the shift is known beneath it
       one-level : (n c : ℕ) → ((t : List ℕ) → times (suc i) (inside (suc n) v t) ≡ cond (coded (parentOf s) t) 1 0 + times (suc h) (inside n v t))
@@ -213,33 +213,33 @@ module _ (v : Directory) where
           by false q = refl
 
       -- a slot is listed where it lies in the directory asked for, and wherever its own directory is listed
-      pub in-folder : (n c : ℕ) → times (suc i) (beneath (suc n) v c) ≡ cond (eqb (parentOf s) c) 1 0 + times (suc h) (beneath n v c)
+      pub in-directory : (n c : ℕ) → times (suc i) (beneath (suc n) v c) ≡ cond (eqb (parentOf s) c) 1 0 + times (suc h) (beneath n v c)
       unfolding beneath
-      in-folder n c = one-level n c (shift n)
+      in-directory n c = one-level n c (shift n)
 
 -- ---- the listing
 
-module _ (v : Directory) (n : Nested v) (c : ℕ) where
-  in-tree : (i : ℕ) (s : List ℕ) → Live v i s → (h : ℕ) (u : List ℕ) → Folder v h u → codeOf u ≡ parentOf s
+module _ (v : Directory) (n : WellNested v) (c : ℕ) where
+  in-tree : (i : ℕ) (s : List ℕ) → LiveSlot v i s → (h : ℕ) (u : List ℕ) → DirectorySlot v h u → codeOf u ≡ parentOf s
       → times (suc i) (tree v c) ≡ cond (eqb (parentOf s) c) 1 0 + times (suc h) (tree v c)
-  in-tree i s l h u f e = ap (times (suc i)) (tree-more v n c) ∙ in-folder v (own-codes v n) i s l h u f e (directories v) c
+  in-tree i s l h u f e = ap (times (suc i)) (tree-more v n c) ∙ in-directory v (own-codes v n) i s l h u f e (directories v) c
 
   at-least : (b : Bool) (x y : ℕ) → x ≡ cond b 1 0 + y → b ≡ true → 1 ≤ x
   at-least true x y e q = omega arith
   at-least false x y e q = absurd (true≢false (sym q))
 
-  under-listed : {i : ℕ} → Under v c i → 1 ≤ times (suc i) (tree v c)
+  under-listed : {i : ℕ} → Beneath v c i → 1 ≤ times (suc i) (tree v c)
   unfolding beneath
   under-listed (direct {i} {s} l e) = at-least (eqb (parentOf s) c) _ _ (level-live v c i s (inside (directories v) v) l) (eq-eqb (parentOf s) c e)
   under-listed (deeper {i} {j} {s} {t} u f l e) = omega (arith, under-listed u, in-tree i s l j t f (sym e))
 
   -- what is known of a slot m directories down
   record Known (i : ℕ) : Type 0 where
-    under : 1 ≤ times (suc i) (tree v c) → Under v c i
+    under : 1 ≤ times (suc i) (tree v c) → Beneath v c i
     once : times (suc i) (tree v c) ≤ 1
 
-  known : (m i : ℕ) (s : List ℕ) → Live v i s → upBy v m (parentOf s) ≡ 0 → Known i
-  unfolding upBy
+  known : (m i : ℕ) (s : List ℕ) → LiveSlot v i s → ancestorCode v m (parentOf s) ≡ 0 → Known i
+  unfolding ancestorCode
   known zero i s l e = top (eqb (parentOf s) c) refl (in-root v (own-codes v n) i s l e (directories v) c)
     where
       top : (b : Bool) → eqb (parentOf s) c ≡ b → times (suc i) (tree v c) ≡ cond b 1 0 → Known i
@@ -251,11 +251,11 @@ module _ (v : Directory) (n : Nested v) (c : ℕ) where
       top true q w = record { under = λ x. direct l (eqb-true (parentOf s) c q); once = omega arith }
       top false q w = record { under = λ x. absurd (omega arith); once = omega arith }
 
-      none-listed : (h : ℕ) (u : List ℕ) → Folder v h u → codeOf u ≡ c → Known h → (x : ℕ) → times (suc h) (tree v c) ≡ x → x ≡ 0
+      none-listed : (h : ℕ) (u : List ℕ) → DirectorySlot v h u → codeOf u ≡ c → Known h → (x : ℕ) → times (suc h) (tree v c) ≡ x → x ≡ 0
       none-listed h u f z k zero w = refl
       none-listed h u f z k (suc x) w = absurd (n .apart h u f (rw z (k .under (omega arith))))
 
-      deep : (h : ℕ) (u : List ℕ) → Folder v h u → codeOf u ≡ parentOf s → Known h → (b : Bool) → eqb (parentOf s) c ≡ b
+      deep : (h : ℕ) (u : List ℕ) → DirectorySlot v h u → codeOf u ≡ parentOf s → Known h → (b : Bool) → eqb (parentOf s) c ≡ b
           → times (suc i) (tree v c) ≡ cond b 1 0 + times (suc h) (tree v c) → Known i
       deep h u f z k true q w =
           let o : times (suc h) (tree v c) ≡ 0 = none-listed h u f (z ∙ eqb-true (parentOf s) c q) k (times (suc h) (tree v c)) refl in
@@ -263,35 +263,35 @@ module _ (v : Directory) (n : Nested v) (c : ℕ) where
       deep h u f z k false q w =
           record { under = λ (x : 1 ≤ times (suc i) (tree v c)). deeper (k .under (omega arith)) f l (sym z); once = omega (arith, k .once) }
 
-      by : (p : ℕ) → parentOf s ≡ p → ((j : ℕ) (t : List ℕ) → Live v j t → upBy v m (parentOf t) ≡ 0 → Known j) → Known i
+      by : (p : ℕ) → parentOf s ≡ p → ((j : ℕ) (t : List ℕ) → LiveSlot v j t → ancestorCode v m (parentOf t) ≡ 0 → Known j) → Known i
       by zero q r = top (eqb (parentOf s) c) refl (in-root v (own-codes v n) i s l q (directories v) c)
       by (suc p) q r =
           let w = n .placed i s l (λ z. omega arith) in
-          let z : up v (parentOf s) ≡ parentOf (w .1) = ap (up v) (sym (w .3)) ∙ up-of v (own-codes v n) (w .0) (w .1) (w .2) in
-          let k = r (w .0) (w .1) (w .2 .live) (ap (upBy v m) (sym z) ∙ sym (by-front v (own-codes v n) m (parentOf s)) ∙ e) in
+          let z : parentCode v (parentOf s) ≡ parentOf (w .1) = ap (parentCode v) (sym (w .3)) ∙ up-of v (own-codes v n) (w .0) (w .1) (w .2) in
+          let k = r (w .0) (w .1) (w .2 .live) (ap (ancestorCode v m) (sym z) ∙ sym (by-front v (own-codes v n) m (parentOf s)) ∙ e) in
           deep (w .0) (w .1) (w .2) (w .3) k (eqb (parentOf s) c) refl (in-tree i s l (w .0) (w .1) (w .2) (w .3))
 
-  known-live : (i : ℕ) (s : List ℕ) → Live v i s → Known i
+  known-live : (i : ℕ) (s : List ℕ) → LiveSlot v i s → Known i
   known-live i s l = known (directories v) i s l (by (parentOf s) refl)
     where
-      by : (p : ℕ) → parentOf s ≡ p → upBy v (directories v) (parentOf s) ≡ 0
-      by zero q = ap (upBy v (directories v)) q ∙ root-by v (own-codes v n) (directories v)
-      by (suc p) q = let w = n .placed i s l (λ z. omega arith) in ap (upBy v (directories v)) (sym (w .3)) ∙ to-root v n (w .0) (w .1) (w .2)
+      by : (p : ℕ) → parentOf s ≡ p → ancestorCode v (directories v) (parentOf s) ≡ 0
+      by zero q = ap (ancestorCode v (directories v)) q ∙ root-by v (own-codes v n) (directories v)
+      by (suc p) q = let w = n .placed i s l (λ z. omega arith) in ap (ancestorCode v (directories v)) (sym (w .3)) ∙ to-root v n (w .0) (w .1) (w .2)
 
-  under-live : {i : ℕ} → Under v c i → (s : List ℕ) × Live v i s
+  under-live : {i : ℕ} → Beneath v c i → (s : List ℕ) × LiveSlot v i s
   under-live (direct {i} {s} l e) = (s, l)
   under-live (deeper {i} {j} {s} {t} u f l e) = (s, l)
 
   -- a number that is listed is that of a live slot
-  listed-live : (x : ℕ) → 1 ≤ times x (tree v c) → (i : ℕ) × (s : List ℕ) × Live v i s × (x ≡ suc i)
+  listed-live : (x : ℕ) → 1 ≤ times x (tree v c) → (i : ℕ) × (s : List ℕ) × LiveSlot v i s × (x ≡ suc i)
   unfolding beneath
   listed-live zero h = absurd (omega (arith, level-none v c zero (inside (directories v) v) (λ k t l q. omega arith), among-zero v c _ (λ k t l. inside-none v zero (λ k t l q. omega arith) (directories v) t)))
   listed-live (suc i) h = ⊎-elim (λ (l : i < slots). at l (v i) refl) (λ (l : slots ≤ i). out (λ k t m q. omega (arith, m .below))) (below-or-not i slots)
     where
-      out : ((k : ℕ) (t : List ℕ) → Live v k t → suc i ≡ suc k → ⊥) → (j : ℕ) × (s : List ℕ) × Live v j s × (suc i ≡ suc j)
+      out : ((k : ℕ) (t : List ℕ) → LiveSlot v k t → suc i ≡ suc k → ⊥) → (j : ℕ) × (s : List ℕ) × LiveSlot v j s × (suc i ≡ suc j)
       out g = absurd (omega (arith, level-none v c (suc i) (inside (directories v) v) g, among-zero v c _ (λ k t l. inside-none v (suc i) g (directories v) t)))
 
-      at : i < slots → (o : Option (List ℕ)) → v i ≡ o → (j : ℕ) × (s : List ℕ) × Live v j s × (suc i ≡ suc j)
+      at : i < slots → (o : Option (List ℕ)) → v i ≡ o → (j : ℕ) × (s : List ℕ) × LiveSlot v j s × (suc i ≡ suc j)
       at l none q = out (λ k t m w. let z : k ≡ i = omega arith in Option·some-ne-none t (sym (m .here) ∙ ap v z ∙ q))
       at l (some s) q = (i, s, record { below = l; here = q }, refl)
 
@@ -306,10 +306,10 @@ module _ (v : Directory) (n : Nested v) (c : ℕ) where
           omega (arith, ap (λ (y : ℕ). times y (tree v c)) (w .3))
 
   -- each slot that lies beneath is listed once, and no other number is
-  pub tree-holds : Holds v c (tree v c)
+  pub tree-holds : ListsEachOnce v c (tree v c)
   tree-holds = record { each-once = λ i u. omega (arith, tree-once (suc i), under-listed u); no-other = λ x h. other x h (times x (tree v c)) refl }
     where
-      other : (x : ℕ) → ((i : ℕ) → x ≡ suc i → Under v c i → ⊥) → (m : ℕ) → times x (tree v c) ≡ m → m ≡ 0
+      other : (x : ℕ) → ((i : ℕ) → x ≡ suc i → Beneath v c i → ⊥) → (m : ℕ) → times x (tree v c) ≡ m → m ≡ 0
       other x h zero e = refl
       other x h (suc m) e =
           let w = listed-live x (omega arith) in

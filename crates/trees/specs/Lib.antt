@@ -1,2 +1,2 @@
 pub mod Tree
-pub mod Under
+pub mod Beneath

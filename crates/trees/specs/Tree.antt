@@ -6,11 +6,11 @@ use mathlib.Core.List.{List, [], _∷_}
 use mathlib.Core.Option.{none}
 use lib.Dec.{eqb}
 use Rattle.buffers.specs.Bytes.{count, any}
-use Rattle.buffers.specs.Sums.{gather}
-use Rattle.refusals.specs.Order.{Row, _when_, Reply, _else_, row, rows, sweep}
+use Rattle.buffers.specs.Sums.{concat}
+use Rattle.refusals.specs.Order.{Row, _when_, Reply, _else_, row, rows, scan}
 use Rattle.slots.specs.Slot.{isDirectory, codeOf, parentOf}
 use Rattle.directory.specs.Places.{slots}
-use Rattle.directory.specs.Directory.{held, Directory}
+use Rattle.directory.specs.Directory.{foldOption, Directory}
 use Rattle.surveys.specs.Survey.{earlier}
 
 -- ---- codes
@@ -21,7 +21,7 @@ coded c s = isDirectory s && eqb (codeOf s) c
 
 -- how many directories there are
 unfoldable pub directories : Directory → ℕ
-directories v = count slots (λ i. held false isDirectory (v i))
+directories v = count slots (λ i. foldOption false isDirectory (v i))
 
 -- a live slot, anywhere, to which a test applies
 abbrev pub anywhere : Directory → (List ℕ → Bool) → Bool
@@ -31,52 +31,52 @@ anywhere v t = earlier v slots t
 
 -- the directory that the directory with code c is in, by its code: among the first k slots (26 sees to it that there is one
 -- such directory at most); 0 where it is in the root, and where no directory has the code
-unfoldable pub upAmong : Directory → ℕ → ℕ → ℕ
-upAmong v zero c = 0
-upAmong v (suc k) c = held (upAmong v k c) (λ s. cond (coded c s) (parentOf s) (upAmong v k c)) (v k)
+unfoldable pub parentCodeAmong : Directory → ℕ → ℕ → ℕ
+parentCodeAmong v zero c = 0
+parentCodeAmong v (suc k) c = foldOption (parentCodeAmong v k c) (λ s. cond (coded c s) (parentOf s) (parentCodeAmong v k c)) (v k)
 
-abbrev pub up : Directory → ℕ → ℕ
-up v c = upAmong v slots c
+abbrev pub parentCode : Directory → ℕ → ℕ
+parentCode v c = parentCodeAmong v slots c
 
 -- the same, n times
-unfoldable pub upBy : Directory → ℕ → ℕ → ℕ
-upBy v zero c = c
-upBy v (suc n) c = up v (upBy v n c)
+unfoldable pub ancestorCode : Directory → ℕ → ℕ → ℕ
+ancestorCode v zero c = c
+ancestorCode v (suc n) c = parentCode v (ancestorCode v n c)
 
 -- going up from the directory with code c comes back to it; as many steps as there are directories are enough
-unfoldable pub inItself : Directory → ℕ → Bool
-inItself v c = any (directories v) (λ n. eqb (upBy v (suc n) c) c)
+unfoldable pub inCycle : Directory → ℕ → Bool
+inCycle v c = any (directories v) (λ n. eqb (ancestorCode v (suc n) c) c)
 
 -- ---- the numbers 26 to 28
 
 -- "26 .., a directory with code 0 or an earlier directory's code;" at slot i
 unfoldable pub codeAt : Directory → ℕ → Reply
-codeAt v i = held none (λ s. row 26 (suc i) (isDirectory s && (eqb (codeOf s) 0 || earlier v i (coded (codeOf s))))) (v i)
+codeAt v i = foldOption none (λ s. row 26 (suc i) (isDirectory s && (eqb (codeOf s) 0 || earlier v i (coded (codeOf s))))) (v i)
 
-abbrev pub placing : Directory → List ℕ → List Row
-placing v s =
+abbrev pub nestingRows : Directory → List ℕ → List Row
+nestingRows v s =
     -- "27, a live slot's byte 254 is not 0 and no directory's code;"
     (27 when not (eqb (parentOf s) 0) && not (anywhere v (coded (parentOf s))))
     -- "28, a directory lies inside itself at some depth."
-    ∷ (28 when isDirectory s && inItself v (codeOf s))
+    ∷ (28 when isDirectory s && inCycle v (codeOf s))
     ∷ []
 
 unfoldable pub placeAt : Directory → ℕ → Reply
-placeAt v i = held none (λ s. rows (suc i) (placing v s)) (v i)
+placeAt v i = foldOption none (λ s. rows (suc i) (nestingRows v s)) (v i)
 
 -- "26 over all slots first ..; then by lowest slot and there the lowest number 27 ..; 28"
 unfoldable pub treeReply : Directory → Reply
-treeReply v = sweep slots (codeAt v) else sweep slots (placeAt v)
+treeReply v = scan slots (codeAt v) else scan slots (placeAt v)
 
 -- ---- what lies beneath
 
 -- slot k in the listing of the directory with code c: its number, "directly followed by all that lies beneath it"
 unfoldable pub levelAt : Directory → ℕ → (List ℕ → List ℕ) → ℕ → List ℕ
-levelAt v c below k = held [] (λ s. cond (eqb (parentOf s) c) (suc k ∷ below s) []) (v k)
+levelAt v c below k = foldOption [] (λ s. cond (eqb (parentOf s) c) (suc k ∷ below s) []) (v k)
 
 -- "in slot order at each level"
 unfoldable pub level : Directory → ℕ → (List ℕ → List ℕ) → List ℕ
-level v c below = gather slots (levelAt v c below)
+level v c below = concat slots (levelAt v c below)
 
 -- all that lies beneath a slot, where n directories are not yet entered: nothing beneath a file
 unfoldable pub inside : ℕ → Directory → List ℕ → List ℕ
@@ -95,4 +95,4 @@ tree v c = beneath (directories v) v c
 -- "29, a directory whose code, not 0, is another live slot's byte 254": of slot i, whose bytes are s
 unfoldable pub occupied : Directory → ℕ → List ℕ → Bool
 occupied v i s =
-    isDirectory s && (not (eqb (codeOf s) 0) && any slots (λ j. not (eqb j i) && held false (λ t. eqb (parentOf t) (codeOf s)) (v j)))
+    isDirectory s && (not (eqb (codeOf s) 0) && any slots (λ j. not (eqb j i) && foldOption false (λ t. eqb (parentOf t) (codeOf s)) (v j)))

@@ -3,5 +3,5 @@ pub mod Replies
 pub mod Reading
 pub mod Reports
 pub mod Trees
-pub mod Handfuls
+pub mod EraseMany
 pub mod Records

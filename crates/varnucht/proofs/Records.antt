@@ -8,95 +8,95 @@ use lib.Dec.{ltb}
 use lib.ListN.{length}
 use Rattle.refusals.specs.Order.{Reply, _else_}
 use Rattle.refusals.specs.Answers.{Outcome, done, Out, out}
-use Rattle.disk.specs.Look.{look, slotsOf, extra}
+use Rattle.disk.specs.View.{view, viewSlots, viewTracks}
 use Rattle.disk.specs.Check.{checkDisk}
-use Rattle.plans.specs.Change.{Wish}
-use Rattle.plans.specs.Plan.{Result, stopped, made, checked, Changed, changed}
-use Rattle.packing.specs.Packed.{packed, clipped, Within, Told}
-use Rattle.packing.proofs.Parts.{within-fits, told}
-use Rattle.recordings.specs.Recording.{withBody, openReply, adding, closing}
+use Rattle.plans.specs.Change.{SaveRequest}
+use Rattle.plans.specs.Plan.{Result, refusedResult, newDisk, checkedResult, Changed, changed}
+use Rattle.packing.specs.Packed.{packed, clipped, Within, Unpacked}
+use Rattle.packing.proofs.Parts.{within-fits, unpacked}
+use Rattle.recordings.specs.Recording.{withBody, recordingReply, addPiece, closeRecording}
 use Rattle.recordings.specs.Record.{recordingOf, freshRecord}
-use Rattle.recordings.specs.Calls.{openingReply}
+use Rattle.recordings.specs.Calls.{openRecordingReply}
 use Rattle.record_bytes.specs.Layout.{recordBytes, recordIn, bytesOf}
-use Rattle.bytelists.specs.Lists.{changingBy}
-use Rattle.bytelists.proofs.Table.{Small, small-else, small-row, check-small}
-use Rattle.bytelists.proofs.Changing.{Settled, small-save}
-use Rattle.bytelists.proofs.Records.{mild-adding, mild-closing}
-use Rattle.record_calls.specs.Calls.{short, openingBytes, lent, Pieced, pieced, pieceBy, pieceBytes, closeBytes}
+use Rattle.byte_lists.specs.Lists.{changeBytesBy}
+use Rattle.byte_lists.proofs.Table.{Small, small-else, small-row, check-small}
+use Rattle.byte_lists.proofs.Bounds.{ResultBounded, small-save}
+use Rattle.byte_lists.proofs.Records.{bounded-adding, bounded-closing}
+use Rattle.record_calls.specs.Calls.{recordTooShort, openingBytes, lentResult, Pieced, pieced, pieceBy, addPieceBytes, closeBytes}
 use Rattle.varnucht.specs.Calls.{ReturnsPiece, ReturnsClose}
 use Rattle.varnucht.proofs.Bounds.{within-refused, within-unless, filled-outcome}
 use Rattle.varnucht.proofs.Replies.{packed-within}
 
-small-short : (b : List ℕ) → Small (short b)
+small-short : (b : List ℕ) → Small (recordTooShort b)
 small-short b = small-row 20 0 (ltb (length b) recordBytes) (omega arith) (omega arith)
 
 small-check : (d : List ℕ) → Small (checkDisk d)
 unfolding checkDisk
-small-check d = check-small (look d)
+small-check d = check-small (view d)
 
-small-opening : (w : Wish) (d : List ℕ) → Small (openingReply w d)
-small-opening w d = small-else (checkDisk d) (openReply w (look d)) (small-check d) (small-save (extra (look d)) (slotsOf (look d)) (withBody w []))
+small-opening : (w : SaveRequest) (d : List ℕ) → Small (openRecordingReply w d)
+small-opening w d = small-else (checkDisk d) (recordingReply w (view d)) (small-check d) (small-save (viewTracks (view d)) (viewSlots (view d)) (withBody w []))
 
-pub opening-within : (w : Wish) (d b : List ℕ) → Within (openingBytes w d b .outcome) 0 0
+pub opening-within : (w : SaveRequest) (d b : List ℕ) → Within (openingBytes w d b .outcome) 0 0
 unfolding openingBytes
 opening-within w d b =
-    let q = openingReply w d else short b in
-    subst (λ (o : Outcome). Within o 0 0) (sym (filled-outcome q (done 0 0) (bytesOf (freshRecord w (look d))) b))
-    (within-unless q 0 0 0 0 (small-else (openingReply w d) (short b) (small-opening w d) (small-short b)) (λ e. (omega arith, omega arith)))
+    let q = openRecordingReply w d else recordTooShort b in
+    subst (λ (o : Outcome). Within o 0 0) (sym (filled-outcome q (done 0 0) (bytesOf (freshRecord w (view d))) b))
+    (within-unless q 0 0 0 0 (small-else (openRecordingReply w d) (recordTooShort b) (small-opening w d) (small-short b)) (λ e. (omega arith, omega arith)))
 
 -- a call on a record that can be too short
-settled-lent : (m : ℕ) (d b : List ℕ) (y : Result) → Settled m y → Settled m (lent d b y)
-settled-lent m d b y w = by (checkDisk d else short b) (small-else (checkDisk d) (short b) (small-check d) (small-short b))
+settled-lent : (m : ℕ) (d b : List ℕ) (y : Result) → ResultBounded m y → ResultBounded m (lentResult d b y)
+settled-lent m d b y w = by (checkDisk d else recordTooShort b) (small-else (checkDisk d) (recordTooShort b) (small-check d) (small-short b))
   where
-    by : (q : Reply) → Small q → Settled m (checked q y)
+    by : (q : Reply) → Small q → ResultBounded m (checkedResult q y)
     by none a = w
     by (some r) a = a
 
 -- a piece: at most 1,558 sectors
-pub piece-within : (x d b l : List ℕ) → Within (pieceBytes x d b l .outcome) 1558 0
-unfolding pieceBytes
-piece-within x d b l = by (lent d b y) (settled-lent 1558 d b y (mild-adding (recordingOf (recordIn b)) x d (length l / 2)))
+pub piece-within : (x d b l : List ℕ) → Within (addPieceBytes x d b l .outcome) 1558 0
+unfolding addPieceBytes
+piece-within x d b l = by (lentResult d b y) (settled-lent 1558 d b y (bounded-adding (recordingOf (recordIn b)) x d (length l / 2)))
   where
     y : Result
-    y = adding (recordingOf (recordIn b)) x d (length l / 2)
+    y = addPiece (recordingOf (recordIn b)) x d (length l / 2)
 
-    by : (z : Result) → Settled 1558 z → Within (pieceBy z x d b l .outcome) 1558 0
-    by (stopped r) m = within-refused r 1558 0 m
-    by (made new ss) m = record { refusal = omega arith; slot = omega arith; value = m; free = omega arith }
+    by : (z : Result) → ResultBounded 1558 z → Within (pieceBy z x d b l .outcome) 1558 0
+    by (refusedResult r) m = within-refused r 1558 0 m
+    by (newDisk new ss) m = record { refusal = omega arith; slot = omega arith; value = m; free = omega arith }
 
 -- a close: at most 4
 pub close-within : (d b l : List ℕ) → Within (closeBytes d b l .outcome) 4 0
 unfolding closeBytes
-close-within d b l = by (lent d b y) (settled-lent 4 d b y (mild-closing (recordingOf (recordIn b)) d (length l / 2)))
+close-within d b l = by (lentResult d b y) (settled-lent 4 d b y (bounded-closing (recordingOf (recordIn b)) d (length l / 2)))
   where
     y : Result
-    y = closing (recordingOf (recordIn b)) d (length l / 2)
+    y = closeRecording (recordingOf (recordIn b)) d (length l / 2)
 
-    by : (z : Result) → Settled 4 z → Within (changingBy z d l .outcome) 4 0
-    by (stopped r) m = within-refused r 4 0 m
-    by (made new ss) m = record { refusal = omega arith; slot = omega arith; value = m; free = omega arith }
+    by : (z : Result) → ResultBounded 4 z → Within (changeBytesBy z d l .outcome) 4 0
+    by (refusedResult r) m = within-refused r 4 0 m
+    by (newDisk new ss) m = record { refusal = omega arith; slot = omega arith; value = m; free = omega arith }
 
 -- ---- so every answer can be read in its parts
 
-pub opening-told : (w : Wish) (d b : List ℕ) → Told (openingBytes w d b .outcome) (packed (openingBytes w d b .outcome))
-opening-told w d b = told _ (within-fits _ _ _ (omega arith) (omega arith) (opening-within w d b))
+pub opening-reported : (w : SaveRequest) (d b : List ℕ) → Unpacked (openingBytes w d b .outcome) (packed (openingBytes w d b .outcome))
+opening-reported w d b = unpacked _ (within-fits _ _ _ (omega arith) (omega arith) (opening-within w d b))
 
-pub piece-told : (x d b l : List ℕ) → Told (pieceBytes x d b l .outcome) (packed (pieceBytes x d b l .outcome))
-piece-told x d b l = told _ (within-fits _ _ _ (omega arith) (omega arith) (piece-within x d b l))
+pub piece-reported : (x d b l : List ℕ) → Unpacked (addPieceBytes x d b l .outcome) (packed (addPieceBytes x d b l .outcome))
+piece-reported x d b l = unpacked _ (within-fits _ _ _ (omega arith) (omega arith) (piece-within x d b l))
 
-pub close-told : (d b l : List ℕ) → Told (closeBytes d b l .outcome) (packed (closeBytes d b l .outcome))
-close-told d b l = told _ (within-fits _ _ _ (omega arith) (omega arith) (close-within d b l))
+pub close-reported : (d b l : List ℕ) → Unpacked (closeBytes d b l .outcome) (packed (closeBytes d b l .outcome))
+close-reported d b l = unpacked _ (within-fits _ _ _ (omega arith) (omega arith) (close-within d b l))
 
 -- ---- packed whole, with what the call leaves
 
 module _ (o : Outcome) (n : ℕ) (q : n ≡ clipped o) where
-  pub packed-opening : (w : Wish) (d b b′ : List ℕ) → out o b′ ≡ openingBytes w d b → (n ≡ packed (openingBytes w d b .outcome)) × (b′ ≡ openingBytes w d b .buffer)
+  pub packed-opening : (w : SaveRequest) (d b b′ : List ℕ) → out o b′ ≡ openingBytes w d b → (n ≡ packed (openingBytes w d b .outcome)) × (b′ ≡ openingBytes w d b .buffer)
   packed-opening w d b b′ e =
       (packed-within (openingBytes w d b .outcome) 0 0 (omega arith) (omega arith) (opening-within w d b) o (ap (λ (x : Out). x .outcome) e) n q, ap (λ (x : Out). x .buffer) e)
 
-  pub packed-piece : (x d b l d′ b′ l′ : List ℕ) → pieced o d′ b′ l′ ≡ pieceBytes x d b l → ReturnsPiece x d b l n d′ b′ l′
+  pub packed-piece : (x d b l d′ b′ l′ : List ℕ) → pieced o d′ b′ l′ ≡ addPieceBytes x d b l → ReturnsPiece x d b l n d′ b′ l′
   packed-piece x d b l d′ b′ l′ e = (
-    packed-within (pieceBytes x d b l .outcome) 1558 0 (omega arith) (omega arith) (piece-within x d b l) o (ap (λ (p : Pieced). p .outcome) e) n q,
+    packed-within (addPieceBytes x d b l .outcome) 1558 0 (omega arith) (omega arith) (piece-within x d b l) o (ap (λ (p : Pieced). p .outcome) e) n q,
     ap (λ (p : Pieced). p .image) e,
     ap (λ (p : Pieced). p .kept) e,
     ap (λ (p : Pieced). p .list) e,

@@ -4,27 +4,27 @@ ghost use mathlib.Core.Path.{_≡_};
 ghost use mathlib.Core.List.{[]};
 ghost use lib.ListN.{length};
 ghost use Rattle.packing.specs.Packed.{packed};
-ghost use Rattle.files.specs.Calls.{listing, reading, starting};
-ghost use Rattle.readers.specs.Pieces.{placeOf, pieceOf, bufferAfter};
-ghost use Rattle.readers.specs.Opening.{beginning};
+ghost use Rattle.files.specs.Calls.{listing, reading, startAddress};
+ghost use Rattle.readers.specs.Pieces.{readPlace, pieceOf, bufferAfter};
+ghost use Rattle.readers.specs.Opening.{openFile};
 ghost use Rattle.plans.specs.Change.{save, erase, rename, mark, gather, hide, show, protect, release};
 ghost use Rattle.changes.specs.Marks.{markOf};
-ghost use Rattle.saves.specs.Write.{wish};
-ghost use Rattle.bytelists.specs.Trees.{treeingBytes};
-ghost use Rattle.bytereports.specs.Bytes.{addingBytes, joiningBytes};
+ghost use Rattle.saves.specs.Write.{saveRequest};
+ghost use Rattle.byte_lists.specs.Trees.{treeListingBytes};
+ghost use Rattle.report_bytes.specs.Bytes.{addDiskBytes, joinReportsBytes};
 ghost use Rattle.record_calls.specs.Calls.{openingBytes};
-ghost use Rattle.varnucht.specs.Calls.{checking, releasing, sectorPlace, Returns, ReturnsMany, ReturnsPiece, ReturnsClose};
-ghost use Rattle.varnucht.specs.Reading.{packedBegin, packedPiece};
+ghost use Rattle.varnucht.specs.Calls.{checkCall, checkReleaseCall, rawSectorCall, ReturnsCall, ReturnsMany, ReturnsPiece, ReturnsClose};
+ghost use Rattle.varnucht.specs.Reading.{packedOpening, packedPiece};
 use changes::Marking;
 use geometry::Spot;
-use readers::Opened;
+use readers::OpenAnswer;
 use readers::Place;
 use refusals::Answer;
 
 // The check.
 #[no_mangle]
 pub extern "C" fn varnucht_check(image: &[u8]) -> u64
-    ensures { λ r. ⌜ r ≡ packed (checking (now (image .entry))) ⌝ }
+    ensures { λ r. ⌜ r ≡ packed (checkCall (now (image .entry))) ⌝ }
 {
     let verdict = disk::check(image);
     packing::pack_verdict(verdict)
@@ -33,7 +33,7 @@ pub extern "C" fn varnucht_check(image: &[u8]) -> u64
 // The release check: the check, which here also refuses a carried kind with more sectors than its length needs.
 #[no_mangle]
 pub extern "C" fn varnucht_check_release(image: &[u8]) -> u64
-    ensures { λ r. ⌜ r ≡ packed (releasing (now (image .entry))) ⌝ }
+    ensures { λ r. ⌜ r ≡ packed (checkReleaseCall (now (image .entry))) ⌝ }
 {
     let released = disk::check_release(image);
     packing::pack_verdict(released)
@@ -60,7 +60,7 @@ pub extern "C" fn varnucht_read(image: &[u8], name: &[u8], out: &mut [u8]) -> u6
 // A file's start address.
 #[no_mangle]
 pub extern "C" fn varnucht_start(image: &[u8], name: &[u8]) -> u64
-    ensures { λ r. ⌜ r ≡ packed (starting (now (image .entry)) (now (name .entry))) ⌝ }
+    ensures { λ r. ⌜ r ≡ packed (startAddress (now (image .entry)) (now (name .entry))) ⌝ }
 {
     let started = files::start(image, name);
     packing::pack(started)
@@ -69,11 +69,11 @@ pub extern "C" fn varnucht_start(image: &[u8], name: &[u8]) -> u64
 // Opens a file by name: the body's length, and where its first byte stands.
 #[no_mangle]
 pub extern "C" fn varnucht_open(image: &[u8], name: &[u8]) -> u64
-    ensures { λ r. ⌜ r ≡ packedBegin (beginning (now (image .entry)) (now (name .entry))) ⌝ }
+    ensures { λ r. ⌜ r ≡ packedOpening (openFile (now (image .entry)) (now (name .entry))) ⌝ }
 {
     match readers::begin(image, name) {
-        Opened::No(r) => packing::pack(Answer::No(r)),
-        Opened::At(p) => packing::pack_place(p.sector, p.left, p.offset),
+        OpenAnswer::Err(r) => packing::pack(Answer::Err(r)),
+        OpenAnswer::At(p) => packing::pack_place(p.sector, p.left, p.offset),
     }
 }
 
@@ -86,7 +86,7 @@ pub extern "C" fn varnucht_next(
     left: u32,
     out: &mut [u8],
 ) -> u64
-    ensures { λ r. ⌜ (r ≡ packedPiece (pieceOf (now (image .entry)) (placeOf sector offset left) (length (now (out .entry))))) × (now (out .exit) ≡ bufferAfter (now (image .entry)) (placeOf sector offset left) (now (out .entry))) ⌝ }
+    ensures { λ r. ⌜ (r ≡ packedPiece (pieceOf (now (image .entry)) (readPlace sector offset left) (length (now (out .entry))))) × (now (out .exit) ≡ bufferAfter (now (image .entry)) (readPlace sector offset left) (now (out .entry))) ⌝ }
 {
     let at = Place {
         sector: sector as usize,
@@ -106,7 +106,7 @@ pub extern "C" fn varnucht_sector(
     track: u32,
     sector: u32,
 ) -> u64
-    ensures { λ r. ⌜ r ≡ packed (sectorPlace (now (one .entry)) (now (two .entry)) drive track sector) ⌝ }
+    ensures { λ r. ⌜ r ≡ packed (rawSectorCall (now (one .entry)) (now (two .entry)) drive track sector) ⌝ }
 {
     let refusal = drives::raw_refusal(one, two, drive as usize, track as usize, sector as usize);
     if refusal != 0 {
@@ -121,33 +121,33 @@ pub extern "C" fn varnucht_sector(
 // Erases a file: how many sectors, and their numbers to the front of the list.
 #[no_mangle]
 pub extern "C" fn varnucht_erase(image: &mut [u8], name: &[u8], list: &mut [u8]) -> u64
-    ensures { λ r. ⌜ Returns (erase (now (name .entry))) (now (image .entry)) (now (list .entry)) r (now (image .exit)) (now (list .exit)) ⌝ }
+    ensures { λ r. ⌜ ReturnsCall (erase (now (name .entry))) (now (image .entry)) (now (list .entry)) r (now (image .exit)) (now (list .exit)) ⌝ }
 {
-    let erased = bytelists::erase(image, name, list);
+    let erased = byte_lists::erase(image, name, list);
     packing::pack(erased)
 }
 
 // Gives a file a new name.
 #[no_mangle]
 pub extern "C" fn varnucht_rename(image: &mut [u8], name: &[u8], new: &[u8], list: &mut [u8]) -> u64
-    ensures { λ r. ⌜ Returns (rename (now (name .entry)) (now (new .entry))) (now (image .entry)) (now (list .entry)) r (now (image .exit)) (now (list .exit)) ⌝ }
+    ensures { λ r. ⌜ ReturnsCall (rename (now (name .entry)) (now (new .entry))) (now (image .entry)) (now (list .entry)) r (now (image .exit)) (now (list .exit)) ⌝ }
 {
-    let renamed = bytelists::rename(image, name, new, list);
+    let renamed = byte_lists::rename(image, name, new, list);
     packing::pack(renamed)
 }
 
 // Sets or clears one of a file's two marks.
 fn mark(image: &mut [u8], name: &[u8], marking: Marking, list: &mut [u8]) -> u64
-    ensures { λ r. ⌜ Returns (mark (markOf marking) (now (name .entry))) (now (image .entry)) (now (list .entry)) r (now (image .exit)) (now (list .exit)) ⌝ }
+    ensures { λ r. ⌜ ReturnsCall (mark (markOf marking) (now (name .entry))) (now (image .entry)) (now (list .entry)) r (now (image .exit)) (now (list .exit)) ⌝ }
 {
-    let marked = bytelists::set_mark(image, name, marking, list);
+    let marked = byte_lists::set_mark(image, name, marking, list);
     packing::pack(marked)
 }
 
 // Hides a file.
 #[no_mangle]
 pub extern "C" fn varnucht_hide(image: &mut [u8], name: &[u8], list: &mut [u8]) -> u64
-    ensures { λ r. ⌜ Returns (mark hide (now (name .entry))) (now (image .entry)) (now (list .entry)) r (now (image .exit)) (now (list .exit)) ⌝ }
+    ensures { λ r. ⌜ ReturnsCall (mark hide (now (name .entry))) (now (image .entry)) (now (list .entry)) r (now (image .exit)) (now (list .exit)) ⌝ }
 {
     mark(image, name, Marking::Hide, list)
 }
@@ -155,7 +155,7 @@ pub extern "C" fn varnucht_hide(image: &mut [u8], name: &[u8], list: &mut [u8]) 
 // Shows a hidden file.
 #[no_mangle]
 pub extern "C" fn varnucht_show(image: &mut [u8], name: &[u8], list: &mut [u8]) -> u64
-    ensures { λ r. ⌜ Returns (mark show (now (name .entry))) (now (image .entry)) (now (list .entry)) r (now (image .exit)) (now (list .exit)) ⌝ }
+    ensures { λ r. ⌜ ReturnsCall (mark show (now (name .entry))) (now (image .entry)) (now (list .entry)) r (now (image .exit)) (now (list .exit)) ⌝ }
 {
     mark(image, name, Marking::Show, list)
 }
@@ -163,7 +163,7 @@ pub extern "C" fn varnucht_show(image: &mut [u8], name: &[u8], list: &mut [u8]) 
 // Protects a file.
 #[no_mangle]
 pub extern "C" fn varnucht_protect(image: &mut [u8], name: &[u8], list: &mut [u8]) -> u64
-    ensures { λ r. ⌜ Returns (mark protect (now (name .entry))) (now (image .entry)) (now (list .entry)) r (now (image .exit)) (now (list .exit)) ⌝ }
+    ensures { λ r. ⌜ ReturnsCall (mark protect (now (name .entry))) (now (image .entry)) (now (list .entry)) r (now (image .exit)) (now (list .exit)) ⌝ }
 {
     mark(image, name, Marking::Protect, list)
 }
@@ -171,7 +171,7 @@ pub extern "C" fn varnucht_protect(image: &mut [u8], name: &[u8], list: &mut [u8
 // Takes a file's protection away.
 #[no_mangle]
 pub extern "C" fn varnucht_release(image: &mut [u8], name: &[u8], list: &mut [u8]) -> u64
-    ensures { λ r. ⌜ Returns (mark release (now (name .entry))) (now (image .entry)) (now (list .entry)) r (now (image .exit)) (now (list .exit)) ⌝ }
+    ensures { λ r. ⌜ ReturnsCall (mark release (now (name .entry))) (now (image .entry)) (now (list .entry)) r (now (image .exit)) (now (list .exit)) ⌝ }
 {
     mark(image, name, Marking::Release, list)
 }
@@ -189,9 +189,9 @@ pub extern "C" fn varnucht_save(
     body: &[u8],
     list: &mut [u8],
 ) -> u64
-    ensures { λ r. ⌜ Returns (save (wish kind (now (name .entry)) page offset (now (exec .entry)) (now (info .entry)) (now (body .entry)))) (now (image .entry)) (now (list .entry)) r (now (image .exit)) (now (list .exit)) ⌝ }
+    ensures { λ r. ⌜ ReturnsCall (save (saveRequest kind (now (name .entry)) page offset (now (exec .entry)) (now (info .entry)) (now (body .entry)))) (now (image .entry)) (now (list .entry)) r (now (image .exit)) (now (list .exit)) ⌝ }
 {
-    let saved = bytelists::save(
+    let saved = byte_lists::save(
         image,
         kind as usize,
         name,
@@ -208,40 +208,40 @@ pub extern "C" fn varnucht_save(
 // What lies beneath a directory, the root where the name is empty: how many, and their slots to the front of `list`.
 #[no_mangle]
 pub extern "C" fn varnucht_tree(image: &[u8], name: &[u8], list: &mut [u8]) -> u64
-    ensures { λ r. ⌜ (r ≡ packed (treeingBytes (now (image .entry)) (now (name .entry)) (now (list .entry)) .outcome)) × (now (list .exit) ≡ treeingBytes (now (image .entry)) (now (name .entry)) (now (list .entry)) .buffer) ⌝ }
+    ensures { λ r. ⌜ (r ≡ packed (treeListingBytes (now (image .entry)) (now (name .entry)) (now (list .entry)) .outcome)) × (now (list .exit) ≡ treeListingBytes (now (image .entry)) (now (name .entry)) (now (list .entry)) .buffer) ⌝ }
 {
-    let beneath = bytelists::list_tree(image, name, list);
+    let beneath = byte_lists::list_tree(image, name, list);
     packing::pack(beneath)
 }
 
 // Adds a disk to a report: the disks in it after.
 #[no_mangle]
 pub extern "C" fn varnucht_report_add(image: &[u8], report: &mut [u8]) -> u64
-    ensures { λ r. ⌜ (r ≡ packed (addingBytes (now (report .entry)) (now (image .entry)) .outcome)) × (now (report .exit) ≡ addingBytes (now (report .entry)) (now (image .entry)) .buffer) ⌝ }
+    ensures { λ r. ⌜ (r ≡ packed (addDiskBytes (now (report .entry)) (now (image .entry)) .outcome)) × (now (report .exit) ≡ addDiskBytes (now (report .entry)) (now (image .entry)) .buffer) ⌝ }
 {
-    let added = bytereports::add(image, report);
+    let added = report_bytes::add(image, report);
     packing::pack(added)
 }
 
 // Joins another report to one: the disks in both.
 #[no_mangle]
 pub extern "C" fn varnucht_report_join(report: &mut [u8], other: &[u8]) -> u64
-    ensures { λ r. ⌜ (r ≡ packed (joiningBytes (now (report .entry)) (now (other .entry)) .outcome)) × (now (report .exit) ≡ joiningBytes (now (report .entry)) (now (other .entry)) .buffer) ⌝ }
+    ensures { λ r. ⌜ (r ≡ packed (joinReportsBytes (now (report .entry)) (now (other .entry)) .outcome)) × (now (report .exit) ≡ joinReportsBytes (now (report .entry)) (now (other .entry)) .buffer) ⌝ }
 {
-    let joined = bytereports::join(report, other);
+    let joined = report_bytes::join(report, other);
     packing::pack(joined)
 }
 
 // Gathers a file: how many sectors, 0 where it lies on consecutive bits already, and their numbers to the front of the list.
 #[no_mangle]
 pub extern "C" fn varnucht_gather(image: &mut [u8], name: &[u8], list: &mut [u8]) -> u64
-    ensures { λ r. ⌜ Returns (gather (now (name .entry))) (now (image .entry)) (now (list .entry)) r (now (image .exit)) (now (list .exit)) ⌝ }
+    ensures { λ r. ⌜ ReturnsCall (gather (now (name .entry))) (now (image .entry)) (now (list .entry)) r (now (image .exit)) (now (list .exit)) ⌝ }
 {
-    let gathered = bytelists::gather(image, name, list);
+    let gathered = byte_lists::gather(image, name, list);
     packing::pack(gathered)
 }
 
-// Erases a handful of files, their names of ten bytes each laid end to end: how many sectors, an answer of one byte to each name,
+// Erases an erase-many of files, their names of ten bytes each laid end to end: how many sectors, an answer of one byte to each name,
 // 0 for done, and the numbers of the sectors, rising, to the front of `list`.
 #[no_mangle]
 pub extern "C" fn varnucht_erase_many(
@@ -252,7 +252,7 @@ pub extern "C" fn varnucht_erase_many(
 ) -> u64
     ensures { λ r. ⌜ ReturnsMany (now (image .entry)) (now (names .entry)) (now (answers .entry)) (now (list .entry)) r (now (image .exit)) (now (answers .exit)) (now (list .exit)) ⌝ }
 {
-    let emptied = bytelists::erase_many(image, names, answers, list);
+    let emptied = byte_lists::erase_many(image, names, answers, list);
     packing::pack(emptied)
 }
 
@@ -268,7 +268,7 @@ pub extern "C" fn varnucht_record_open(
     info: &[u8],
     kept: &mut [u8],
 ) -> u64
-    ensures { λ r. ⌜ (r ≡ packed (openingBytes (wish kind (now (name .entry)) page offset (now (exec .entry)) (now (info .entry)) []) (now (image .entry)) (now (kept .entry)) .outcome)) × (now (kept .exit) ≡ openingBytes (wish kind (now (name .entry)) page offset (now (exec .entry)) (now (info .entry)) []) (now (image .entry)) (now (kept .entry)) .buffer) ⌝ }
+    ensures { λ r. ⌜ (r ≡ packed (openingBytes (saveRequest kind (now (name .entry)) page offset (now (exec .entry)) (now (info .entry)) []) (now (image .entry)) (now (kept .entry)) .outcome)) × (now (kept .exit) ≡ openingBytes (saveRequest kind (now (name .entry)) page offset (now (exec .entry)) (now (info .entry)) []) (now (image .entry)) (now (kept .entry)) .buffer) ⌝ }
 {
     let opened = record_calls::open(
         image,

@@ -1,6 +1,6 @@
 //! What is measured: a call, a disk, and the refusal that the call must give there (0: accepted).
 
-use crate::disks::{self, Disk, ERASE_LIST_BYTES, LIST_BYTES, LONGEST};
+use crate::disks::{self, BenchDisk, ERASE_LIST_BYTES, LIST_BYTES, LONGEST};
 use crate::sides::{Side, reader, refusal, value};
 use paper::{RECORD_BYTES, REPORT_BYTES, Reader};
 
@@ -32,7 +32,7 @@ pub enum Work {
 }
 
 pub struct Row {
-    pub disk: Disk,
+    pub disk: BenchDisk,
     pub work: Work,
     pub refusal: u8,
 }
@@ -44,7 +44,7 @@ pub fn all() -> Vec<Row> {
     let (three, three_and_old) = (disks::three(), disks::three_and_old());
     let (biggest, biggest_alike, biggest_drawn) = (disks::biggest(), disks::biggest_alike(), disks::biggest_drawn());
     let disks = [&blank, &eighty, &seventy_eight, &one];
-    let row = |disk: &Disk, work, refusal| Row {
+    let row = |disk: &BenchDisk, work, refusal| Row {
         disk: disk.clone(),
         work,
         refusal,
@@ -88,7 +88,7 @@ pub fn all() -> Vec<Row> {
 }
 
 /// The disks that are added to reports.
-pub fn reported(rows: &[Row]) -> Vec<&Disk> {
+pub fn reported(rows: &[Row]) -> Vec<&BenchDisk> {
     let added = rows.iter().filter(|row| matches!(row.work, Work::Report));
     added.map(|row| &row.disk).collect()
 }
@@ -110,11 +110,11 @@ pub fn pieces(rows: &[Row]) -> Vec<([&Row; 3], f64)> {
 }
 
 /// Saves: on the blank disk, on disks that have no slot or no sector left, and on those disks less one file.
-fn saves(blank: &Disk, eighty: &Disk, seventy_eight: &Disk, one: &Disk) -> [Row; 9] {
+fn saves(blank: &BenchDisk, eighty: &BenchDisk, seventy_eight: &BenchDisk, one: &BenchDisk) -> [Row; 9] {
     let seventy_nine = disks::less_one(eighty, "80 x 900 less one");
     let seventy_seven = disks::less_one(seventy_eight, "78 x 10,191 less one");
     let erased = disks::less_one(one, "1 x 795,591, erased");
-    let save = |disk: &Disk, length, refusal| Row {
+    let save = |disk: &BenchDisk, length, refusal| Row {
         disk: disk.clone(),
         work: Work::Save(disks::body(length)),
         refusal,
@@ -187,7 +187,7 @@ impl Row {
             Work::Open => (side.open)(image, &self.disk.last),
             Work::Pieces(opened, room) => read_on(side, image, *opened, *room, buffer),
             Work::Tree => (side.tree)(image, &[], buffer),
-            Work::Save(body) => (side.save)(image, &disks::wish(Row::NEW, body), buffer),
+            Work::Save(body) => (side.save)(image, &disks::request(Row::NEW, body), buffer),
             Work::Erase => (side.erase)(image, &self.disk.last, buffer),
             Work::EraseMany(names) => {
                 let (list, answers) = buffer.split_at_mut(ERASE_LIST_BYTES);
@@ -207,7 +207,7 @@ impl Row {
 /// Records a body, and lays the lists of all calls end to end. Answers how many sectors they name.
 fn record(side: &Side, image: &mut [u8], body: &[u8], piece: usize, buffer: &mut [u8]) -> u64 {
     let (list, record) = buffer.split_at_mut(LIST_BYTES);
-    let opened = (side.record_open)(image, &disks::wish(Row::NEW, &[]), record);
+    let opened = (side.record_open)(image, &disks::request(Row::NEW, &[]), record);
     assert_eq!(refusal(opened), 0, "it is opened");
     let mut named = 0;
     for piece in body.chunks(piece) {

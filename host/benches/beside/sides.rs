@@ -1,6 +1,6 @@
 //! The two sides behind one set of calls. Both answer the word of the C layer.
 
-use paper::{Reader, Refused, Wish};
+use paper::{Reader, Refused, SaveRequest};
 use std::hint::black_box;
 use varnucht::calls;
 
@@ -14,11 +14,11 @@ pub struct Side {
     pub open: fn(&[u8], &[u8]) -> u64,
     pub next: fn(&[u8], Reader, &mut [u8]) -> u64,
     pub tree: fn(&[u8], &[u8], &mut [u8]) -> u64,
-    pub save: fn(&mut [u8], &Wish, &mut [u8]) -> u64,
+    pub save: fn(&mut [u8], &SaveRequest, &mut [u8]) -> u64,
     pub erase: fn(&mut [u8], &[u8], &mut [u8]) -> u64,
     pub erase_many: fn(&mut [u8], &[u8], &mut [u8], &mut [u8]) -> u64,
     pub gather: fn(&mut [u8], &[u8], &mut [u8]) -> u64,
-    pub record_open: fn(&[u8], &Wish, &mut [u8]) -> u64,
+    pub record_open: fn(&[u8], &SaveRequest, &mut [u8]) -> u64,
     pub record_add: fn(&mut [u8], &[u8], &mut [u8], &mut [u8]) -> u64,
     pub record_close: fn(&mut [u8], &[u8], &mut [u8]) -> u64,
     pub report_add: fn(&[u8], &mut [u8]) -> u64,
@@ -35,11 +35,11 @@ pub fn ours() -> Side {
         open: |image, name| calls::open(image, name).number(),
         next: |image, at, out| calls::next(image, at.sector, at.offset, at.left, out).number(),
         tree: |image, name, slots| calls::tree(image, name, slots).number(),
-        save: |image, wish, list| calls::save(image, &our(wish), list).number(),
+        save: |image, request, list| calls::save(image, &our(request), list).number(),
         erase: |image, name, list| calls::erase(image, name, list).number(),
         erase_many: |image, names, answers, list| calls::erase_many(image, names, answers, list).number(),
         gather: |image, name, list| calls::gather(image, name, list).number(),
-        record_open: |image, wish, record| calls::record_open(image, &our(wish), record).number(),
+        record_open: |image, request, record| calls::record_open(image, &our(request), record).number(),
         record_add: |image, piece, record, list| calls::record_add(image, piece, record, list).number(),
         record_close: |image, record, list| calls::record_close(image, record, list).number(),
         report_add: |image, report| calls::report_add(image, report).number(),
@@ -63,11 +63,11 @@ pub fn theirs() -> Side {
             placed(reader, came)
         },
         tree: |image, name, slots| word(paper::tree(image, name, slots), |many| (many, 0)),
-        save: |image, wish, list| word(paper::save(image, wish, list), |count| (count, 0)),
+        save: |image, request, list| word(paper::save(image, request, list), |count| (count, 0)),
         erase: |image, name, list| word(paper::erase(image, name, list), |count| (count, 0)),
         erase_many: |image, names, answers, list| word(paper::erase_many(image, names, answers, list), |count| (count, 0)),
         gather: |image, name, list| word(paper::gather(image, name, list), |count| (count, 0)),
-        record_open: |image, wish, record| word(paper::record_open(image, wish, record), |()| (0, 0)),
+        record_open: |image, request, record| word(paper::record_open(image, request, record), |()| (0, 0)),
         record_add: |image, piece, record, list| word(paper::record_add(image, piece, record, list), |count| (count, 0)),
         record_close: |image, record, list| word(paper::record_close(image, record, list), |count| (count, 0)),
         report_add: |image, report| word(paper::report_add(image, report), |disks| (disks, 0)),
@@ -110,15 +110,15 @@ pub fn value(word: u64) -> usize {
     (word >> 24 & 0xff_ffff) as usize
 }
 
-/// The same wish, as the library takes it.
-fn our<'a>(wish: &Wish<'a>) -> calls::Wish<'a> {
-    calls::Wish {
-        kind: wish.kind,
-        name: wish.name,
-        page: wish.page,
-        offset: wish.offset,
-        execution: wish.exec,
-        information: wish.info,
-        body: wish.body,
+/// The same request, as the library takes it.
+fn our<'a>(request: &SaveRequest<'a>) -> calls::SaveRequest<'a> {
+    calls::SaveRequest {
+        kind: request.kind,
+        name: request.name,
+        page: request.page,
+        offset: request.offset,
+        execution: request.exec,
+        information: request.info,
+        body: request.body,
     }
 }

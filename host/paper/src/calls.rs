@@ -3,7 +3,7 @@
 use crate::check::{Purpose, survey, survey_for};
 use crate::extent::Extent;
 use crate::geometry::{Address, Image, PAYLOAD_BYTES, SECTOR_BYTES, SLOT_BYTES, Sector, sector as sector_of, whole};
-use crate::name::asked;
+use crate::name::asked_name;
 use crate::refusal::{Reason, Refused};
 use crate::slot::{HEADER_BYTES, Slot, find, live_slots};
 use crate::spectrum::PlusD;
@@ -101,7 +101,7 @@ pub fn found<'a>(image: &'a Image, name: &[u8]) -> Result<Slot<'a>, Refused> {
 
 /// The same where the disk has passed it.
 pub fn found_among<'a>(image: &'a Image, extent: Extent, name: &[u8]) -> Result<Slot<'a>, Refused> {
-    let name = asked(name).ok_or(Reason::NameNotUsable.alone())?;
+    let name = asked_name(name).ok_or(Reason::NameNotUsable.alone())?;
     find(image, extent, &name).ok_or(Reason::NoSuchName.alone())
 }
 

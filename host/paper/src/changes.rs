@@ -3,7 +3,7 @@
 use crate::calls::{found, found_among};
 use crate::check::survey;
 use crate::geometry::{SECTOR_BYTES, slot_place, whole_mut};
-use crate::name::{asked, fresh};
+use crate::name::{asked_name, new_name};
 use crate::refusal::{Reason, Refused};
 use crate::save::number_bytes;
 use crate::slot::{HIDDEN, NAME_AT, PROTECTED, find};
@@ -31,7 +31,7 @@ pub fn erase(image: &mut [u8], name: &[u8], list: &mut [u8]) -> Result<usize, Re
 pub fn rename(image: &mut [u8], name: &[u8], new: &[u8], list: &mut [u8]) -> Result<usize, Refused> {
     let image = whole_mut(image)?;
     let extent = survey(image)?.extent;
-    let (Some(name), Some(new)) = (asked(name), fresh(new)) else {
+    let (Some(name), Some(new)) = (asked_name(name), new_name(new)) else {
         return Err(Reason::NameNotUsable.alone());
     };
     let slot = find(image, extent, &name).ok_or(Reason::NoSuchName.alone())?;

@@ -67,7 +67,7 @@ impl Survey {
             return Err(Reason::MapUnlikeCount);
         }
         let first_is_own = slot.first().bit().is_some_and(|bit| map.has(bit));
-        if !slot.is_directory() && (!first_is_own || self.own.meets(&map)) {
+        if !slot.is_directory() && (!first_is_own || self.own.overlaps(&map)) {
             return Err(Reason::FirstNotInMap);
         }
         if slot.is_carried() && PAYLOAD_BYTES * count < HEADER_BYTES + slot.length() {
@@ -76,7 +76,7 @@ impl Survey {
         if purpose == Purpose::Release && slot.is_carried() && count > sectors_for(slot.length()) {
             return Err(Reason::WasteSectors);
         }
-        if self.used.meets(&map) {
+        if self.used.overlaps(&map) {
             return Err(Reason::MapShared);
         }
         if !self.names.add(slot.name()) {

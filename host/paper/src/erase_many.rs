@@ -1,9 +1,9 @@
-//! Document 02, M-104: erase a handful at once.
+//! Document 02, M-104: erase many files at once.
 
 use crate::check::survey;
 use crate::extent::Extent;
 use crate::geometry::{Image, SECTOR_BYTES, slot_place, whole_mut};
-use crate::name::{Name, asked, folded};
+use crate::name::{Name, asked_name, folded};
 use crate::refusal::{Reason, Refused};
 use crate::save::number_bytes;
 use crate::slot::{Slot, live_slots};
@@ -45,7 +45,7 @@ fn sectors(slots: &[u16]) -> Vec<usize> {
 }
 
 /// For so few names the slots are looked through; with more an index of them is faster.
-const FEW: usize = 8;
+const FEW_NAMES: usize = 8;
 
 /// The files of a disk that passes the check, while some of them are erased. The image stays as it is meanwhile.
 struct Files<'a> {
@@ -67,7 +67,7 @@ impl<'a> Files<'a> {
         slots().for_each(|slot| held[usize::from(slot.parent())] += 1);
         Files {
             live: slots().map(Some).collect(),
-            places: (names > FEW).then(|| places.collect()),
+            places: (names > FEW_NAMES).then(|| places.collect()),
             held,
             erased: Vec::new(),
         }
@@ -75,7 +75,7 @@ impl<'a> Files<'a> {
 
     /// Erases the file of this name. Gives 0, or the number that refuses it.
     fn erase(&mut self, name: &Name) -> u8 {
-        match self.may_go(name) {
+        match self.erasable(name) {
             Ok((at, slot)) => {
                 self.live[at] = None;
                 self.held[usize::from(slot.parent())] -= 1;
@@ -87,8 +87,8 @@ impl<'a> Files<'a> {
     }
 
     /// The file of this name and where it stands, if it can be erased.
-    fn may_go(&self, name: &Name) -> Result<(usize, Slot<'a>), Reason> {
-        let name = asked(name).ok_or(Reason::NameNotUsable)?;
+    fn erasable(&self, name: &Name) -> Result<(usize, Slot<'a>), Reason> {
+        let name = asked_name(name).ok_or(Reason::NameNotUsable)?;
         let (at, slot) = self.find(&folded(&name)).ok_or(Reason::NoSuchName)?;
         if slot.is_protected() {
             return Err(Reason::Protected);

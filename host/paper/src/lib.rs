@@ -16,7 +16,7 @@
 //! - `tree`: subdirectories
 //! - `save`: the change that takes slots and sectors
 //! - `changes`: the changes of one directory byte or name
-//! - `erase_many`: a handful of files erased at once
+//! - `erase_many`: many files erased at once
 //! - `gather`: a scattered file moved to consecutive sectors
 //! - `record`: the bytes that are kept of a recording
 //! - `recording`: save while recording
@@ -55,5 +55,5 @@ pub use record::RECORD_BYTES;
 pub use recording::{record_add, record_close, record_open};
 pub use refusal::Refused;
 pub use report::{REPORT_BYTES, report_add, report_join};
-pub use save::{Wish, save};
+pub use save::{SaveRequest, save};
 pub use tree::tree;

@@ -65,7 +65,7 @@ impl Map {
     }
 
     /// Whether the two maps share a bit.
-    pub fn meets(&self, other: &Map) -> bool {
+    pub fn overlaps(&self, other: &Map) -> bool {
         self.words.iter().zip(&other.words).fold(0, |shared, (a, b)| shared | (a & b)) != 0
     }
 
@@ -146,10 +146,10 @@ mod tests {
         let (mut low, mut high) = (Map::CLEAR, Map::CLEAR);
         low.set_all(0..800);
         high.set_all(800..MAP_BITS);
-        assert!(!low.meets(&high));
+        assert!(!low.overlaps(&high));
         low.join(&high);
         assert_eq!(low, Map::from_bytes(&[255; MAP_BYTES]));
-        assert!(low.meets(&high));
+        assert!(low.overlaps(&high));
         assert_eq!(low.without(&high).count(), 800);
         assert_eq!(low.without(&low), Map::CLEAR);
     }

@@ -4,16 +4,16 @@
 pub type Name = [u8; 10];
 
 /// A name asked for: 1 to 10 bytes, the first not 0.
-pub fn asked(given: &[u8]) -> Option<Name> {
+pub fn asked_name(given: &[u8]) -> Option<Name> {
     let mut name = [b' '; 10];
     name.get_mut(..given.len())?.copy_from_slice(given);
     (!given.is_empty() && given[0] != 0).then_some(name)
 }
 
 /// A new name keeps to that too; every byte given is 32 to 126 and the first is not 32.
-pub fn fresh(given: &[u8]) -> Option<Name> {
+pub fn new_name(given: &[u8]) -> Option<Name> {
     let printable = given.iter().all(|byte| (32..=126).contains(byte));
-    asked(given).filter(|name| printable && name[0] != b' ')
+    asked_name(given).filter(|name| printable && name[0] != b' ')
 }
 
 /// The name with A to Z for a to z. Two names are the same where these are equal; what a slot stores stays as typed.
@@ -30,11 +30,11 @@ mod tests {
 
     #[test]
     fn names_asked_for() {
-        assert_eq!(asked(b"A"), Some(*b"A         "));
-        assert_eq!(asked(b"ABCDEFGHIJ"), Some(*b"ABCDEFGHIJ"));
-        assert_eq!(asked(b" \x00\xff"), Some(*b" \x00\xff       "));
+        assert_eq!(asked_name(b"A"), Some(*b"A         "));
+        assert_eq!(asked_name(b"ABCDEFGHIJ"), Some(*b"ABCDEFGHIJ"));
+        assert_eq!(asked_name(b" \x00\xff"), Some(*b" \x00\xff       "));
         for refused in [&b""[..], b"\x00", b"\x00A", b"ABCDEFGHIJK"] {
-            assert_eq!(asked(refused), None);
+            assert_eq!(asked_name(refused), None);
         }
     }
 
@@ -53,8 +53,8 @@ mod tests {
 
     #[test]
     fn new_names() {
-        assert_eq!(fresh(b"A B"), Some(*b"A B       "));
-        assert_eq!(fresh(b"!~"), Some(*b"!~        "));
+        assert_eq!(new_name(b"A B"), Some(*b"A B       "));
+        assert_eq!(new_name(b"!~"), Some(*b"!~        "));
         for refused in [
             &b""[..],
             b" ",
@@ -66,7 +66,7 @@ mod tests {
             b"\xff",
             b"ABCDEFGHIJK",
         ] {
-            assert_eq!(fresh(refused), None);
+            assert_eq!(new_name(refused), None);
         }
     }
 }

@@ -38,56 +38,57 @@ pub fn open(image: &[u8], name: &[u8]) -> Result<Reader, Refused> {
 /// from where they stand; fewer bytes come where these end.
 pub fn next(image: &[u8], reader: &mut Reader, out: &mut [u8]) -> usize {
     let want = out.len().min(reader.left as usize);
-    let (came, spot) = match (whole(image), reader.spot()) {
-        (Ok(image), Some(spot)) => copy(image, spot, &mut out[..want]),
+    let (came, position) = match (whole(image), reader.position()) {
+        (Ok(image), Some(position)) => copy(image, position, &mut out[..want]),
         _ => (0, None),
     };
-    (reader.sector, reader.offset) = spot.map_or((NO_SECTOR, 0), |spot| (spot.number as u32, spot.offset as u32));
+    (reader.sector, reader.offset) =
+        position.map_or((NO_SECTOR, 0), |position| (position.number as u32, position.offset as u32));
     reader.left -= came as u32;
     came
 }
 
 /// Where a byte of a file stands: the number of its sector, and its place among the sector's payload.
 #[derive(Clone, Copy)]
-struct Spot {
+struct Position {
     number: usize,
     offset: usize,
 }
 
 impl Reader {
     /// Where the next byte stands, if these can be a reader's numbers.
-    fn spot(self) -> Option<Spot> {
+    fn position(self) -> Option<Position> {
         let [number, offset, left] = [self.sector, self.offset, self.left].map(|number| number as usize);
         let possible = self.sector < NO_SECTOR && offset < PAYLOAD_BYTES && left <= LONGEST;
-        possible.then_some(Spot { number, offset })
+        possible.then_some(Position { number, offset })
     }
 }
 
-impl Spot {
+impl Position {
     /// So many bytes further, at most to the end of the sector: there it is the front of the data sector that the link names.
-    fn further(self, bytes: usize, image: &Image) -> Option<Spot> {
+    fn advance(self, bytes: usize, image: &Image) -> Option<Position> {
         let offset = self.offset + bytes;
         if offset < PAYLOAD_BYTES {
-            return Some(Spot { offset, ..self });
+            return Some(Position { offset, ..self });
         }
         let link = Address::link(sector(image, self.number));
         let number = link.bit().and(link.number())?;
-        Some(Spot { number, offset: 0 })
+        Some(Position { number, offset: 0 })
     }
 }
 
 /// Fills the buffer with the bytes from this one on, or its front where the chain ends before. Answers how many came, and
 /// where the next one stands.
-fn copy(image: &Image, from: Spot, out: &mut [u8]) -> (usize, Option<Spot>) {
+fn copy(image: &Image, from: Position, out: &mut [u8]) -> (usize, Option<Position>) {
     let (mut came, mut here) = (0, Some(from));
-    while let Some(spot) = here
+    while let Some(position) = here
         && came < out.len()
     {
-        let payload = &sector(image, spot.number)[spot.offset..PAYLOAD_BYTES];
+        let payload = &sector(image, position.number)[position.offset..PAYLOAD_BYTES];
         let run = payload.len().min(out.len() - came);
         out[came..came + run].copy_from_slice(&payload[..run]);
         came += run;
-        here = spot.further(run, image);
+        here = position.advance(run, image);
     }
     (came, here)
 }

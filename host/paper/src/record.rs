@@ -31,7 +31,7 @@ const LAST_AT: usize = 732;
 const LAST_END: usize = LAST_AT + PAYLOAD_BYTES;
 
 /// The record of a recording that nothing came to yet. The particulars have been tested, so they fit.
-pub fn fresh(file: &Particulars, extra: u8, used: &[u8; MAP_BYTES]) -> Record {
+pub fn new_record(file: &Particulars, extra: u8, used: &[u8; MAP_BYTES]) -> Record {
     let mut record = [0; RECORD_BYTES];
     let mut put = |at: usize, part: &[u8]| record[at..][..part.len()].copy_from_slice(part);
     put(KIND_AT, &[file.kind as u8, file.page as u8]);

@@ -5,17 +5,17 @@ use crate::geometry::{Address, Image, PAYLOAD_BYTES, sector, sector_mut, whole, 
 use crate::map::Map;
 use crate::record::{self, Record};
 use crate::refusal::{Reason, Refused};
-use crate::save::{Wish, enter, fill, header, number_bytes, place_for};
+use crate::save::{SaveRequest, fill, header, number_bytes, plan_save, write_entry};
 use crate::slot::{HEADER_BYTES, sectors_for};
 
-/// Opens a recording with a save's particulars; the wish's body is not looked at. The front of the buffer becomes its record.
-pub fn record_open(image: &[u8], wish: &Wish, record: &mut [u8]) -> Result<(), Refused> {
+/// Opens a recording with a save's particulars; the request's body is not looked at. The front of the buffer becomes its record.
+pub fn record_open(image: &[u8], request: &SaveRequest, record: &mut [u8]) -> Result<(), Refused> {
     let image = whole(image)?;
     let survey = survey(image)?;
-    let file = wish.particulars_of(0);
-    place_for(image, &survey, &file)?;
+    let file = request.particulars_of(0);
+    plan_save(image, &survey, &file)?;
     let record = record.first_chunk_mut().ok_or(Reason::BufferTooShort.alone())?;
-    *record = record::fresh(&file, survey.extent.extra(), &survey.live_map().to_bytes());
+    *record = record::new_record(&file, survey.extent.extra(), &survey.live_map().to_bytes());
     Ok(())
 }
 
@@ -59,19 +59,19 @@ pub fn record_close(image: &mut [u8], record: &[u8], list: &mut [u8]) -> Result<
     let record = record.first_chunk().ok_or(Reason::BufferTooShort.alone())?;
     has_not_moved(image, &survey, record)?;
     let file = record::particulars(record);
-    let place = place_for(image, &survey, &file)?;
-    let ends = place.count.min(2);
+    let plan = plan_save(image, &survey, &file)?;
+    let ends = plan.count.min(2);
     let list = list
         .as_chunks_mut()
         .0
-        .get_mut(..ends + place.directory_sectors().count())
+        .get_mut(..ends + plan.directory_sectors().count())
         .ok_or(Reason::BufferTooShort.alone())?;
     let (data, directory) = list.split_at_mut(ends);
-    let chain: Vec<usize> = survey.used.clear_bits().take(place.count).collect();
+    let chain: Vec<usize> = survey.used.clear_bits().take(plan.count).collect();
     write_ends(image, record, &chain, data);
     let mut map = Map::CLEAR;
     chain.iter().for_each(|bit| map.set(*bit));
-    enter(image, &place, &file, &map, directory);
+    write_entry(image, &plan, &file, &map, directory);
     Ok(list.len())
 }
 

@@ -5,13 +5,13 @@ use crate::check::{Survey, survey};
 use crate::extent::Extent;
 use crate::geometry::{Address, Image, PAYLOAD_BYTES, SECTOR_BYTES, SLOT_BYTES, Sector, sector_mut, slot_place, whole_mut};
 use crate::map::Map;
-use crate::name::{Name, fresh};
+use crate::name::{Name, new_name};
 use crate::refusal::{Reason, Refused};
 use crate::slot::{self, HEADER_BYTES, PAGE_BYTES, Slot, find, free_slot, is_carried, sectors_for, slots};
 
 /// What a save asks for.
 #[derive(Clone, Copy, Debug)]
-pub struct Wish<'a> {
+pub struct SaveRequest<'a> {
     pub kind: u32,
     pub name: &'a [u8],
     pub page: u32,
@@ -21,7 +21,7 @@ pub struct Wish<'a> {
     pub body: &'a [u8],
 }
 
-impl<'a> Wish<'a> {
+impl<'a> SaveRequest<'a> {
     /// What is asked for beside the body's bytes.
     fn particulars(&self) -> Particulars<'a> {
         self.particulars_of(self.body.len())
@@ -54,24 +54,24 @@ pub struct Particulars<'a> {
 
 /// Saves a file and answers how many sectors changed. The list names them: the file's sectors along its chain, then those of
 /// the directory, the slot's last.
-pub fn save(image: &mut [u8], wish: &Wish, list: &mut [u8]) -> Result<usize, Refused> {
+pub fn save(image: &mut [u8], request: &SaveRequest, list: &mut [u8]) -> Result<usize, Refused> {
     let image = whole_mut(image)?;
     let survey = survey(image)?;
-    let file = wish.particulars();
-    let place = place_for(image, &survey, &file)?;
+    let file = request.particulars();
+    let plan = plan_save(image, &survey, &file)?;
     let list = list
         .as_chunks_mut()
         .0
-        .get_mut(..place.count + place.directory_sectors().count())
+        .get_mut(..plan.count + plan.directory_sectors().count())
         .ok_or(Reason::BufferTooShort.alone())?;
-    let (data, directory) = list.split_at_mut(place.count);
-    let map = write_body(image, wish, &survey.used, data);
-    enter(image, &place, &file, &map, directory);
+    let (data, directory) = list.split_at_mut(plan.count);
+    let map = write_body(image, request, &survey.used, data);
+    write_entry(image, &plan, &file, &map, directory);
     Ok(list.len())
 }
 
 /// Where a new file goes.
-pub struct Place {
+pub struct SavePlan {
     name: Name,
     slot: u16,
     /// The next slot, where the save has to clear its old name.
@@ -81,8 +81,8 @@ pub struct Place {
 }
 
 /// Where a new file goes on a disk that passes the check, or what a save of it is refused: 12, 13, 14, 16, 18, 19.
-pub fn place_for(image: &Image, survey: &Survey, file: &Particulars) -> Result<Place, Refused> {
-    let name = fresh(file.name).ok_or(Reason::NameNotUsable.alone())?;
+pub fn plan_save(image: &Image, survey: &Survey, file: &Particulars) -> Result<SavePlan, Refused> {
+    let name = new_name(file.name).ok_or(Reason::NameNotUsable.alone())?;
     if !is_carried(file.kind) {
         return Err(Reason::WrongKind.alone());
     }
@@ -97,7 +97,7 @@ pub fn place_for(image: &Image, survey: &Survey, file: &Particulars) -> Result<P
     if survey.free() < count {
         return Err(Reason::DiskFull.alone());
     }
-    Ok(Place {
+    Ok(SavePlan {
         name,
         slot: taken.number,
         cleared: old_name_behind(image, survey.extent, &taken),
@@ -105,7 +105,7 @@ pub fn place_for(image: &Image, survey: &Survey, file: &Particulars) -> Result<P
     })
 }
 
-impl Place {
+impl SavePlan {
     /// The directory's sectors in the order of writing: that of the next slot, where it is cleared, then that of the saved
     /// slot; once if they are the same.
     pub fn directory_sectors(&self) -> impl Iterator<Item = usize> + use<> {
@@ -123,12 +123,12 @@ fn old_name_behind(image: &Image, extent: Extent, taken: &Slot) -> Option<u16> {
 }
 
 /// Enters a file whose sectors are written, those of this map, into the directory, and names the directory's sectors.
-pub fn enter(image: &mut Image, place: &Place, file: &Particulars, map: &Map, list: &mut [[u8; 2]]) {
-    if let Some(next) = place.cleared {
+pub fn write_entry(image: &mut Image, plan: &SavePlan, file: &Particulars, map: &Map, list: &mut [[u8; 2]]) {
+    if let Some(next) = plan.cleared {
         image[slot_place(next)..][..2].fill(0);
     }
-    write_slot(image, place, file, map);
-    for (entry, sector) in list.iter_mut().zip(place.directory_sectors()) {
+    write_slot(image, plan, file, map);
+    for (entry, sector) in list.iter_mut().zip(plan.directory_sectors()) {
         *entry = number_bytes(sector);
     }
 }
@@ -139,10 +139,10 @@ pub fn number_bytes(number: usize) -> [u8; 2] {
 }
 
 /// Writes header and body to the lowest sectors that are not used, one for each place in the list. Answers their map.
-fn write_body(image: &mut Image, wish: &Wish, used: &Map, list: &mut [[u8; 2]]) -> Map {
-    let header = header(&wish.particulars());
+fn write_body(image: &mut Image, request: &SaveRequest, used: &Map, list: &mut [[u8; 2]]) -> Map {
+    let header = header(&request.particulars());
     let mut lead = &header[..];
-    let mut body = wish.body;
+    let mut body = request.body;
     let mut map = Map::CLEAR;
     let mut bits = used.clear_bits().take(list.len()).peekable();
     for entry in list {
@@ -196,13 +196,13 @@ fn remainder(file: &Particulars) -> [u8; 2] {
 
 /// Writes the whole slot. Bytes that have no meaning here are 0, and byte 245 says that there is no date. What slot 1 says of
 /// the whole disk stays.
-fn write_slot(image: &mut Image, place: &Place, file: &Particulars, map: &Map) {
+fn write_slot(image: &mut Image, plan: &SavePlan, file: &Particulars, map: &Map) {
     let mut bytes = [0; SLOT_BYTES];
     let mut put = |at: usize, part: &[u8]| bytes[at..][..part.len()].copy_from_slice(part);
     let first = map.lowest().map_or(Address::END, Address::of_bit);
     put(0, &[file.kind as u8]);
-    put(slot::NAME_AT, &place.name);
-    put(slot::COUNT_AT, &(place.count as u16).to_be_bytes());
+    put(slot::NAME_AT, &plan.name);
+    put(slot::COUNT_AT, &(plan.count as u16).to_be_bytes());
     put(slot::FIRST_AT, &[first.track, first.sector]);
     put(slot::MAP_AT, &map.to_bytes());
     put(slot::INFO_AT, at_most(file.info, 11));
@@ -212,8 +212,8 @@ fn write_slot(image: &mut Image, place: &Place, file: &Particulars, map: &Map) {
     put(slot::REMAINDER_AT, &remainder(file));
     put(slot::EXEC_AT, at_most(file.exec, 3));
     put(slot::DATE_AT, &[255]);
-    let at = slot_place(place.slot);
-    for kept in KEPT.into_iter().flatten().filter(|_| place.slot == 1) {
+    let at = slot_place(plan.slot);
+    for kept in KEPT.into_iter().flatten().filter(|_| plan.slot == 1) {
         bytes[kept] = image[at + kept];
     }
     image[at..][..SLOT_BYTES].copy_from_slice(&bytes);

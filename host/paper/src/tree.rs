@@ -20,7 +20,7 @@ pub fn tree(image: &[u8], name: &[u8], out: &mut [u8]) -> Result<usize, Refused>
     for slot in live_slots(image, extent) {
         codes.place(&slot).map_err(|reason| reason.at(slot.number))?;
     }
-    let top = asked(image, extent, name)?;
+    let top = asked_directory(image, extent, name)?;
     let mut beneath = Vec::new();
     Levels::of(image, extent).list(top, &mut beneath);
     let out = out
@@ -41,7 +41,7 @@ pub fn is_empty(image: &Image, extent: Extent, slot: &Slot) -> bool {
 }
 
 /// The code of the directory asked for.
-fn asked(image: &Image, extent: Extent, name: &[u8]) -> Result<u8, Refused> {
+fn asked_directory(image: &Image, extent: Extent, name: &[u8]) -> Result<u8, Refused> {
     if name.is_empty() {
         return Ok(ROOT);
     }

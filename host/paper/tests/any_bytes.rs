@@ -3,13 +3,13 @@
 
 mod common;
 use common::*;
-use paper::{Refused, Wish};
+use paper::{Refused, SaveRequest};
 use std::collections::BTreeMap;
 
 /// A small generator of numbers, so that every run sees the same disks.
-struct Numbers(u64);
+struct Random(u64);
 
-impl Numbers {
+impl Random {
     fn below(&mut self, limit: usize) -> usize {
         self.0 = self
             .0
@@ -21,7 +21,7 @@ impl Numbers {
 
 /// Where a byte of meaning lies: a slot's front, its end, its first map byte, the number of directory tracks, or the header or
 /// link of a low data sector.
-fn place(numbers: &mut Numbers) -> usize {
+fn place(numbers: &mut Random) -> usize {
     let slot = slot_place(1 + numbers.below(4));
     match numbers.below(21) {
         0..4 => slot + numbers.below(18),
@@ -33,13 +33,13 @@ fn place(numbers: &mut Numbers) -> usize {
     }
 }
 
-type Call = fn(&mut [u8], &[u8], &mut [u8]) -> Result<usize, Refused>;
+type ChangeFn = fn(&mut [u8], &[u8], &mut [u8]) -> Result<usize, Refused>;
 
 fn save(image: &mut [u8], name: &[u8], list: &mut [u8]) -> Result<usize, Refused> {
     let bytes = body(700);
     paper::save(
         image,
-        &Wish {
+        &SaveRequest {
             kind: 20,
             name,
             page: 1,
@@ -69,20 +69,20 @@ fn erase_many(image: &mut [u8], name: &[u8], list: &mut [u8]) -> Result<usize, R
 /// A recording of four sectors, of which a piece writes two.
 fn record_add(image: &mut [u8], name: &[u8], list: &mut [u8]) -> Result<usize, Refused> {
     let mut record = [0; paper::RECORD_BYTES];
-    paper::record_open(image, &wish(name, &[]), &mut record)?;
+    paper::record_open(image, &request(name, &[]), &mut record)?;
     paper::record_add(image, &body(1_600), &mut record, list)
 }
 
 /// A recording that nothing came to, closed.
 fn record_close(image: &mut [u8], name: &[u8], list: &mut [u8]) -> Result<usize, Refused> {
     let mut record = [0; paper::RECORD_BYTES];
-    paper::record_open(image, &wish(name, &[]), &mut record)?;
+    paper::record_open(image, &request(name, &[]), &mut record)?;
     paper::record_close(image, &record, list)
 }
 
 #[test]
 fn calls_hold_on_damaged_disks() {
-    let calls: [Call; 11] = [
+    let calls: [ChangeFn; 11] = [
         save,
         rename,
         paper::erase,
@@ -99,7 +99,7 @@ fn calls_hold_on_damaged_disks() {
     for (name, length) in [(&b"A"[..], 900), (b"B", 1_500), (b"C", 0)] {
         put(&mut disk, name, length);
     }
-    let mut numbers = Numbers(1);
+    let mut numbers = Random(1);
     let mut seen = BTreeMap::<u8, usize>::new();
     let (mut image, mut old) = (disk.clone(), disk.clone());
     for _ in 0..4_000 {

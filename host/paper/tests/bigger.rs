@@ -55,7 +55,7 @@ fn where_24_stands() {
     assert_eq!(paper::check(&image), refused(24, 0));
     assert_eq!(paper::check(&image[1..]), refused(1, 0));
     assert_eq!(paper::read(&image, b"", &mut []), refused(24, 0));
-    assert_eq!(paper::save(&mut image, &wish(b"", &[]), &mut []), refused(24, 0));
+    assert_eq!(paper::save(&mut image, &request(b"", &[]), &mut []), refused(24, 0));
     assert_eq!(paper::sector(&image, &image, 1, 0, 1), Ok(0));
     image[255] = 1;
     assert_eq!(paper::check(&image), refused(2, 1));
@@ -74,7 +74,7 @@ fn every_slot_is_taken() {
             let (files, free) = (slot, data - slot);
             assert_eq!(listed(&image), Listed { files, free });
         }
-        assert_eq!(paper::save(&mut image, &wish(b"NEW", &[]), &mut [0; 6]), refused(18, 0));
+        assert_eq!(paper::save(&mut image, &request(b"NEW", &[]), &mut [0; 6]), refused(18, 0));
         assert_eq!(paper::read(&image, &name(1), &mut []), Ok(0));
         let last = name(slots);
         let mut again = image.clone();
@@ -99,9 +99,12 @@ fn saves_pass_over_the_directory() {
         let data = sizes(extra.into()).1;
         let (longest, mut list) = (510 * (data - 3) - 9, vec![0; 3_124]);
         let too_long = body(longest + 1);
-        assert_eq!(paper::save(&mut image, &wish(b"LONG", &too_long), &mut list), refused(19, 0));
         assert_eq!(
-            paper::save(&mut image, &wish(b"LONG", &body(longest)), &mut list),
+            paper::save(&mut image, &request(b"LONG", &too_long), &mut list),
+            refused(19, 0)
+        );
+        assert_eq!(
+            paper::save(&mut image, &request(b"LONG", &body(longest)), &mut list),
             Ok(data - 2)
         );
         assert_eq!(listed(&image), Listed { files: 2, free: 0 });

@@ -2,9 +2,9 @@
 
 mod common;
 use common::*;
-use paper::{Refused, Wish};
+use paper::{Refused, SaveRequest};
 
-type Call = fn(&mut [u8], &[u8], &mut [u8]) -> Result<usize, Refused>;
+type ChangeFn = fn(&mut [u8], &[u8], &mut [u8]) -> Result<usize, Refused>;
 
 #[test]
 fn a_saved_file_byte_by_byte() {
@@ -15,7 +15,7 @@ fn a_saved_file_byte_by_byte() {
     image[40_960..][..1_024].fill(99);
     let old = image.clone();
     let bytes = body(600);
-    let wish = Wish {
+    let request = SaveRequest {
         kind: 18,
         name: b"NEW",
         page: 3,
@@ -25,7 +25,7 @@ fn a_saved_file_byte_by_byte() {
         body: &bytes,
     };
     let mut list = [7; 7];
-    assert_eq!(paper::save(&mut image, &wish, &mut list), Ok(3));
+    assert_eq!(paper::save(&mut image, &request, &mut list), Ok(3));
     assert_eq!(list, [80, 0, 81, 0, 0, 0, 7]);
     assert_eq!(changed(&old, &image), [0, 80, 81]);
 
@@ -63,12 +63,12 @@ fn information_and_execution_bytes_are_cut_or_filled() {
         (20, 11, 3),
     ] {
         let mut image = blank();
-        let wish = Wish {
+        let request = SaveRequest {
             info: &long[..given],
             exec: &long[..given],
-            ..wish(b"NEW", &[])
+            ..request(b"NEW", &[])
         };
-        assert_eq!(paper::save(&mut image, &wish, &mut [0; 4]), Ok(2));
+        assert_eq!(paper::save(&mut image, &request, &mut [0; 4]), Ok(2));
         let mut expected = [0; 15];
         expected[..info].copy_from_slice(&long[..info]);
         assert_eq!(image[221..236], expected, "{given} bytes given");
@@ -100,7 +100,7 @@ fn the_directory_sector_of_every_slot() {
         assert_eq!(list[1], slot_place(slot) / 512);
         assert_eq!(&image[slot_place(slot)..][1..3], name);
     }
-    assert_eq!(paper::save(&mut image, &wish(b"NEXT", &[]), &mut [0; 4]), refused(18, 0));
+    assert_eq!(paper::save(&mut image, &request(b"NEXT", &[]), &mut [0; 4]), refused(18, 0));
 }
 
 #[test]
@@ -108,14 +108,14 @@ fn a_full_disk() {
     let mut image = blank();
     let mut list = [0; 2 * 1_561];
     let long = body(795_592);
-    assert_eq!(paper::save(&mut image, &wish(b"BIG", &long), &mut list), refused(19, 0));
+    assert_eq!(paper::save(&mut image, &request(b"BIG", &long), &mut list), refused(19, 0));
     assert_eq!(image, blank());
     let named = put(&mut image, b"BIG", 795_591);
     assert_eq!(
         (named.len(), named[759], named[760], named[1_559], named[1_560]),
         (1_561, 1_589, 10, 1_599, 0)
     );
-    assert_eq!(paper::save(&mut image, &wish(b"MORE", &[]), &mut list), refused(19, 0));
+    assert_eq!(paper::save(&mut image, &request(b"MORE", &[]), &mut list), refused(19, 0));
 }
 
 #[test]
@@ -125,7 +125,7 @@ fn save_refuses_in_order() {
     put(&mut image, b"FULL", 794_571);
     assert_eq!(paper::list(&image, &mut [0; 516]), Ok(paper::Listed { files: 2, free: 1 }));
     let bytes = body(502);
-    let mut wish = Wish {
+    let mut request = SaveRequest {
         kind: 21,
         name: b"\x7f",
         page: 32,
@@ -136,27 +136,27 @@ fn save_refuses_in_order() {
     };
     let mut list = [7; 3];
     let old = image.clone();
-    let mut tried = |wish: &Wish, number, slot| {
-        assert_eq!(paper::save(&mut image, wish, &mut list), refused(number, slot));
+    let mut tried = |request: &SaveRequest, number, slot| {
+        assert_eq!(paper::save(&mut image, request, &mut list), refused(number, slot));
         assert_eq!((&image, list), (&old, [7; 3]));
     };
-    tried(&wish, 12, 0);
-    wish.name = b"OLD";
-    tried(&wish, 13, 0);
-    wish.kind = 16;
-    tried(&wish, 14, 0);
-    wish.page = 31;
-    tried(&wish, 14, 0);
-    (wish.page, wish.offset) = (32, 32_768);
-    tried(&wish, 14, 0);
-    wish.page = 31;
-    tried(&wish, 16, 1);
-    wish.name = b"NEW";
-    tried(&wish, 19, 0);
-    wish.body = &bytes[..501];
-    tried(&wish, 20, 0);
-    wish.kind = 16 + 256;
-    tried(&wish, 13, 0);
+    tried(&request, 12, 0);
+    request.name = b"OLD";
+    tried(&request, 13, 0);
+    request.kind = 16;
+    tried(&request, 14, 0);
+    request.page = 31;
+    tried(&request, 14, 0);
+    (request.page, request.offset) = (32, 32_768);
+    tried(&request, 14, 0);
+    request.page = 31;
+    tried(&request, 16, 1);
+    request.name = b"NEW";
+    tried(&request, 19, 0);
+    request.body = &bytes[..501];
+    tried(&request, 20, 0);
+    request.kind = 16 + 256;
+    tried(&request, 13, 0);
 }
 
 #[test]
@@ -166,8 +166,8 @@ fn no_slot_comes_before_no_room_and_a_taken_name_before_both() {
         put(&mut image, &[b'A' + slot / 10, b'0' + slot % 10], 9_500);
     }
     let bytes = body(100_000);
-    assert_eq!(paper::save(&mut image, &wish(b"NEW", &bytes), &mut []), refused(18, 0));
-    assert_eq!(paper::save(&mut image, &wish(b"I0", &bytes), &mut []), refused(16, 80));
+    assert_eq!(paper::save(&mut image, &request(b"NEW", &bytes), &mut []), refused(18, 0));
+    assert_eq!(paper::save(&mut image, &request(b"I0", &bytes), &mut []), refused(16, 80));
 }
 
 #[test]
@@ -179,7 +179,7 @@ fn erase_rename_and_marks_change_only_their_bytes() {
     let place = slot_place(3);
     let mut expected = image.clone();
     let mut list = [7; 3];
-    let steps: [(Call, u8); 8] = [
+    let steps: [(ChangeFn, u8); 8] = [
         (paper::hide, 0x80 | 19),
         (paper::hide, 0x80 | 19),
         (paper::protect, 0xc0 | 19),
@@ -255,7 +255,7 @@ fn rename_in_other_letters() {
     tried(b"tunes 1", b"songs", 16, 2);
     tried(b"songs", b"TUNES 1", 16, 1);
     tried(b"songs", b"SONGS", 16, 2);
-    assert_eq!(paper::save(&mut image, &wish(b"Songs", &[]), &mut [0; 4]), refused(16, 2));
+    assert_eq!(paper::save(&mut image, &request(b"Songs", &[]), &mut [0; 4]), refused(16, 2));
     // A protected file keeps its name, in whatever letters.
     paper::protect(&mut image, b"sONGS", &mut list).expect("it is there");
     assert_eq!(paper::rename(&mut image, b"songs", b"songs", &mut list), refused(17, 2));

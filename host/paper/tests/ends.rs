@@ -36,9 +36,9 @@ fn listed(image: &[u8]) -> Listed {
     paper::list(image, &mut [0; 80 * 258]).expect("it is accepted")
 }
 
-/// What makes slot `bad` give a number, beside the good file in slot `twin`; both have three sectors.
-fn damage(image: &mut [u8], number: u8, bad: usize, twin: usize) {
-    let (at, like) = (slot_place(bad), slot_place(twin));
+/// What makes slot `faulty` give a number, beside the accepted file in slot `twin`; both have three sectors.
+fn damage(image: &mut [u8], number: u8, faulty: usize, twin: usize) {
+    let (at, like) = (slot_place(faulty), slot_place(twin));
     let sector = |image: &[u8]| (usize::from(image[at + 13]) * 20 + usize::from(image[at + 14]) - 1) * 512;
     match number {
         2 => image[at] = 13,
@@ -56,22 +56,22 @@ fn damage(image: &mut [u8], number: u8, bad: usize, twin: usize) {
 #[test]
 fn rubbish_behind_the_end_is_unread() {
     for end in [1, 2, 3, 19, 20, 21, 40, 41, 60, 61, 78, 79] {
-        let bad = (end + 2).min(80);
-        let twin = if bad == end + 2 { end + 1 } else { 1 };
+        let faulty = (end + 2).min(80);
+        let twin = if faulty == end + 2 { end + 1 } else { 1 };
         for number in [2, 4, 5, 6, 7, 8, 9, 10, 11] {
             let mut image = blank();
-            for slot in 1..=bad {
+            for slot in 1..=faulty {
                 put(&mut image, &name(slot), 1_500);
             }
-            damage(&mut image, number, bad, twin);
+            damage(&mut image, number, faulty, twin);
             image[slot_place(end)] = 0;
-            assert_eq!(paper::check(&image), refused(number, bad), "slot {end} is erased");
+            assert_eq!(paper::check(&image), refused(number, faulty), "slot {end} is erased");
             for byte_0 in [0, 19, 255] {
                 image[slot_place(end)..][..2].copy_from_slice(&[byte_0, 0]);
                 assert_eq!(paper::check(&image), Ok(()), "slot {end} is the end");
                 let (files, free) = (end - 1, 1_560 - 3 * (end - 1));
                 assert_eq!(listed(&image), Listed { files, free });
-                for slot in end..=bad {
+                for slot in end..=faulty {
                     assert_eq!(paper::start(&image, &name(slot)), refused(15, 0));
                 }
             }
@@ -97,7 +97,7 @@ fn a_save_into_the_end_clears_the_old_name_behind_it() {
             assert_eq!(listed(&image), Listed { files: end - 1, free });
             let mut short = vec![7; 2 * named.len() - 1];
             let old = image.clone();
-            assert_eq!(paper::save(&mut image, &wish(b"NEW", &[]), &mut short), refused(20, 0));
+            assert_eq!(paper::save(&mut image, &request(b"NEW", &[]), &mut short), refused(20, 0));
             assert!(image == old && short.iter().all(|byte| *byte == 7));
             assert_eq!(put(&mut image, b"NEW", 0), named);
             assert!(image == expected, "slot {end}");
@@ -175,7 +175,7 @@ fn erased_slots_come_before_the_end() {
 fn no_slot_is_left_only_where_none_is_erased_and_there_is_no_end() {
     let mut image = ending(80, 19);
     assert_eq!(put(&mut image, b"LAST", 0).len(), 2);
-    assert_eq!(paper::save(&mut image, &wish(b"NEW", &[]), &mut [0; 4]), refused(18, 0));
+    assert_eq!(paper::save(&mut image, &request(b"NEW", &[]), &mut [0; 4]), refused(18, 0));
     for slot in [1, 40, 79] {
         let mut erased = image.clone();
         paper::erase(&mut erased, &name(slot), &mut [0; 2]).expect("it is there");
@@ -197,7 +197,7 @@ fn saves_walk_over_old_slots() {
         let (files, free) = (slot, 1_560 - slot);
         assert_eq!(listed(&image), Listed { files, free });
     }
-    assert_eq!(paper::save(&mut image, &wish(b"NEW", &[]), &mut [0; 6]), refused(18, 0));
+    assert_eq!(paper::save(&mut image, &request(b"NEW", &[]), &mut [0; 6]), refused(18, 0));
 }
 
 /// The longest list that has two sectors of the directory: a file of one sector in slot 1, and the end at slot 2. Without that
@@ -206,8 +206,8 @@ fn saves_walk_over_old_slots() {
 fn the_longest_list_with_two_directory_sectors() {
     let mut image = ending(2, 255);
     let (long, mut list) = (body(795_591 - 510), vec![7; 2 * 1_561 - 1]);
-    assert_eq!(paper::save(&mut image, &wish(b"LONG", &long), &mut list), refused(20, 0));
+    assert_eq!(paper::save(&mut image, &request(b"LONG", &long), &mut list), refused(20, 0));
     list.push(7);
-    assert_eq!(paper::save(&mut image, &wish(b"LONG", &long), &mut list), Ok(1_561));
+    assert_eq!(paper::save(&mut image, &request(b"LONG", &long), &mut list), Ok(1_561));
     assert_eq!(numbers(&list)[1_559..], [1, 0], "slot 3's sector, then that of slot 2");
 }

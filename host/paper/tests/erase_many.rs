@@ -1,4 +1,4 @@
-//! Erasing a handful at once (document 02, M-104).
+//! Erasing many files at once (document 02, M-104).
 
 mod common;
 use common::*;
@@ -10,7 +10,7 @@ const PROTECTED: u8 = 64;
 
 /// What a call leaves: the disk, the answers and the sectors named.
 #[derive(Debug, PartialEq)]
-struct Left {
+struct EraseResult {
     image: Vec<u8>,
     answers: Vec<u8>,
     sectors: Vec<usize>,
@@ -27,13 +27,13 @@ fn joined(names: &[&[u8]]) -> Vec<u8> {
 }
 
 /// One call with room for everything; what it does not fill stays.
-fn at_once(image: &[u8], names: &[&[u8]]) -> Result<Left, Refused> {
+fn at_once(image: &[u8], names: &[&[u8]]) -> Result<EraseResult, Refused> {
     let mut image = image.to_vec();
     let (mut answers, mut list) = (vec![0x5c; names.len() + 3], vec![0x5c; 781]);
     let many = paper::erase_many(&mut image, &joined(names), &mut answers, &mut list)?;
     assert!(answers.drain(names.len()..).all(|byte| byte == 0x5c));
     assert!(list.drain(2 * many..).all(|byte| byte == 0x5c));
-    Ok(Left {
+    Ok(EraseResult {
         image,
         answers,
         sectors: numbers(&list),
@@ -41,7 +41,7 @@ fn at_once(image: &[u8], names: &[&[u8]]) -> Result<Left, Refused> {
 }
 
 /// The names one after the other.
-fn one_by_one(image: &[u8], names: &[&[u8]]) -> Left {
+fn one_by_one(image: &[u8], names: &[&[u8]]) -> EraseResult {
     let mut new = image.to_vec();
     let mut erase = |name: &&[u8]| match paper::erase(&mut new, name, &mut [0; 2]) {
         Ok(sectors) => {
@@ -51,7 +51,7 @@ fn one_by_one(image: &[u8], names: &[&[u8]]) -> Left {
         Err(refused) => refused.number,
     };
     let answers = names.iter().map(&mut erase).collect();
-    Left {
+    EraseResult {
         answers,
         sectors: changed(image, &new),
         image: new,

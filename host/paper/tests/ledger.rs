@@ -17,9 +17,9 @@ fn each_change_is_entered() {
     let (long, short) = (body(2_000), body(3));
     let mut list = vec![0; 3_124];
     for (name, body) in [(b"A", &long), (b"B", &short), (b"C", &long)] {
-        let wish = wish(name, body);
-        paper::save(&mut image, &wish, &mut list).expect("there is room");
-        entered.enter(&Change::Save(wish)).expect("there is room");
+        let request = request(name, body);
+        paper::save(&mut image, &request, &mut list).expect("there is room");
+        entered.enter(&Change::Save(request)).expect("there is room");
         assert_eq!(entered, ledger(&image), "{name:?}");
     }
     paper::erase(&mut image, b"a", &mut list).expect("it is there");
@@ -27,8 +27,10 @@ fn each_change_is_entered() {
     assert_eq!(entered, ledger(&image));
     // Into slot 1, on the sectors of A and some behind: scattered.
     let scattered = body(4_000);
-    paper::save(&mut image, &wish(b"D", &scattered), &mut list).expect("there is room");
-    entered.enter(&Change::Save(wish(b"D", &scattered))).expect("there is room");
+    paper::save(&mut image, &request(b"D", &scattered), &mut list).expect("there is room");
+    entered
+        .enter(&Change::Save(request(b"D", &scattered)))
+        .expect("there is room");
     assert_eq!(entered, ledger(&image));
     assert_eq!(paper::gather(&mut image, b"D", &mut list), Ok(9));
     entered.enter(&Change::Gather(b"D")).expect("there is a run");
@@ -44,9 +46,9 @@ fn each_change_is_entered() {
     assert_eq!(entered.tree(b""), Ok(vec![1, 2, 3]));
 }
 
-/// A handful is entered sector by sector: two slots lie in one.
+/// An erase of many files is entered sector by sector: two slots lie in one.
 #[test]
-fn a_handful_sector_by_sector() {
+fn many_erased_sector_by_sector() {
     let mut image = blank();
     for name in [b"A", b"B", b"C", b"D", b"E"] {
         put(&mut image, name, 10);
@@ -70,9 +72,9 @@ fn a_recording_as_its_sectors_read() {
     assert_eq!(entered.chain_for(700), [0, 1]);
     let mut payload = [&[19, 188, 2, 0, 128, 0, 0, 0, 29], &other[9..]].concat();
     entered
-        .enter_recording(&wish(b"R", &joined), payload.clone())
+        .enter_recording(&request(b"R", &joined), payload.clone())
         .expect("there is room");
     assert_eq!(entered.read(b"r"), Ok(&payload.split_off(9)[..700]));
     assert_eq!(entered.free(), 1_558);
-    assert_eq!(entered.refuses(&Change::Save(wish(b"r", b""))), refused(16, 1));
+    assert_eq!(entered.refuses(&Change::Save(request(b"r", b""))), refused(16, 1));
 }

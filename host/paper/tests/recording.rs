@@ -1,7 +1,7 @@
 //! Save while recording (document 02, M-109).
 
 mod common;
-use common::recording::{Take, listing, read};
+use common::recording::{TestRecording, listing, read};
 use common::*;
 use paper::{RECORD_BYTES, record_add, record_close, record_open};
 
@@ -13,7 +13,7 @@ fn disks() -> Vec<Vec<u8>> {
     }
     paper::erase(&mut used, b"B", &mut [0; 2]).expect("it is there");
     let mut ends = used.clone();
-    paper::save(&mut ends, &wish(b"D", &[]), &mut [0; 4]).expect("there is room");
+    paper::save(&mut ends, &request(b"D", &[]), &mut [0; 4]).expect("there is room");
     ends[slot_place(5)..][..11].copy_from_slice(b"\x13OLD NAME  ");
     ends[slot_place(4)..][..2].fill(0);
     let mut bigger = blank_with(3);
@@ -25,23 +25,23 @@ fn disks() -> Vec<Vec<u8>> {
 fn records(disk: &[u8], bytes: &[u8], piece: usize) {
     let mut saved = disk.to_vec();
     let mut list = vec![0; 3_124];
-    let count = paper::save(&mut saved, &wish(b"TUNE", bytes), &mut list).expect("there is room");
-    let mut take = Take::open(disk, b"TUNE");
-    assert_eq!(take.add(&[]), Ok(0));
+    let count = paper::save(&mut saved, &request(b"TUNE", bytes), &mut list).expect("there is room");
+    let mut recording = TestRecording::open(disk, b"TUNE");
+    assert_eq!(recording.add(&[]), Ok(0));
     for piece in bytes.chunks(piece) {
-        let answer = take.add(piece);
+        let answer = recording.add(piece);
         assert!(answer.is_ok(), "{answer:?}");
     }
-    assert_eq!(take.add(&[]), Ok(0));
-    assert_eq!(listing(&take.image), listing(disk));
-    let closed = take.close();
-    assert!(take.image == saved, "{} bytes in pieces of {piece}", bytes.len());
+    assert_eq!(recording.add(&[]), Ok(0));
+    assert_eq!(listing(&recording.image), listing(disk));
+    let closed = recording.close();
+    assert!(recording.image == saved, "{} bytes in pieces of {piece}", bytes.len());
     // The same sectors as by the save, the first of them after the last.
     let data = (9 + bytes.len()).div_ceil(510);
     assert_eq!(closed, Ok(count - data + data.min(2)));
     let mut expected = numbers(&list[..2 * count]);
     expected[..data].rotate_left(1);
-    assert_eq!(take.named, expected);
+    assert_eq!(recording.named, expected);
 }
 
 #[test]
@@ -65,15 +65,15 @@ fn a_full_disk() {
     let bytes = body(795_591);
     records(&blank(), &bytes, 4_096);
     records(&blank(), &bytes, 795_591);
-    let mut take = Take::open(&blank(), b"BIG");
-    assert_eq!(take.add(&body(795_592)), refused(19, 0));
-    assert_eq!(take.add(&bytes[..795_000]), Ok(1_557));
-    assert_eq!(take.add(&[7; 592]), refused(19, 0));
-    assert_eq!(take.add(&bytes[795_000..]), Ok(1));
-    assert_eq!(take.add(&[7]), refused(19, 0));
-    assert_eq!(take.add(&[]), Ok(0));
-    assert_eq!(take.close(), Ok(3));
-    assert_eq!(&read(&take.image, b"BIG"), &bytes);
+    let mut recording = TestRecording::open(&blank(), b"BIG");
+    assert_eq!(recording.add(&body(795_592)), refused(19, 0));
+    assert_eq!(recording.add(&bytes[..795_000]), Ok(1_557));
+    assert_eq!(recording.add(&[7; 592]), refused(19, 0));
+    assert_eq!(recording.add(&bytes[795_000..]), Ok(1));
+    assert_eq!(recording.add(&[7]), refused(19, 0));
+    assert_eq!(recording.add(&[]), Ok(0));
+    assert_eq!(recording.close(), Ok(3));
+    assert_eq!(&read(&recording.image, b"BIG"), &bytes);
 }
 
 /// Where each part of the record stands.
@@ -81,13 +81,13 @@ fn a_full_disk() {
 fn the_record_byte_by_byte() {
     let mut image = blank_with(2);
     put(&mut image, b"A", 600);
-    let file = paper::Wish {
+    let file = paper::SaveRequest {
         kind: 18,
         page: 3,
         offset: 40_000,
         exec: &[4, 5],
         info: &[6; 20],
-        ..wish(b"Tune", &[])
+        ..request(b"Tune", &[])
     };
     let mut record = vec![0x5c; RECORD_BYTES];
     assert_eq!(record_open(&image, &file, &mut record), Ok(()));
@@ -125,14 +125,14 @@ fn opening_refuses_as_an_empty_save_and_then_20() {
     put(&mut image, b"OLD", 0);
     put(&mut image, b"FULL", 795_081);
     let mut record = vec![0x5c; RECORD_BYTES];
-    let mut tried = |image: &[u8], wish: &paper::Wish, number, slot| {
-        assert_eq!(record_open(image, wish, &mut record), refused(number, slot));
+    let mut tried = |image: &[u8], request: &paper::SaveRequest, number, slot| {
+        assert_eq!(record_open(image, request, &mut record), refused(number, slot));
         assert!(record.iter().all(|byte| *byte == 0x5c));
     };
-    let mut file = paper::Wish {
+    let mut file = paper::SaveRequest {
         kind: 21,
         page: 32,
-        ..wish(b"\x7f", &[])
+        ..request(b"\x7f", &[])
     };
     tried(&image[1..], &file, 1, 0);
     tried(&image, &file, 12, 0);
@@ -153,23 +153,23 @@ fn opening_refuses_as_an_empty_save_and_then_20() {
     for slot in 1..=80 {
         put(&mut image, &[b'A' + slot / 10, b'0' + slot % 10], 0);
     }
-    assert_eq!(record_open(&image, &wish(b"NEW", &[]), &mut []), refused(18, 0));
+    assert_eq!(record_open(&image, &request(b"NEW", &[]), &mut []), refused(18, 0));
     image[255] = 99;
-    assert_eq!(record_open(&image, &wish(b"NEW", &[]), &mut []), refused(24, 0));
+    assert_eq!(record_open(&image, &request(b"NEW", &[]), &mut []), refused(24, 0));
 }
 
 /// Lists and records too short, and the order beside the other numbers.
 #[test]
 fn room_or_20() {
-    let mut take = Take::open(&blank(), b"TUNE");
+    let mut recording = TestRecording::open(&blank(), b"TUNE");
     let bytes = body(2_100);
     let tried = |piece: &[u8], room: usize, short: usize| {
-        let (mut image, mut list) = (take.image.clone(), vec![0x5c; room]);
-        let mut record = take.record[..RECORD_BYTES - short].to_vec();
+        let (mut image, mut list) = (recording.image.clone(), vec![0x5c; room]);
+        let mut record = recording.record[..RECORD_BYTES - short].to_vec();
         let answer = record_add(&mut image, piece, &mut record, &mut list);
         if answer.is_err() {
-            assert!(image == take.image && list == vec![0x5c; room]);
-            assert_eq!(record, take.record[..RECORD_BYTES - short]);
+            assert!(image == recording.image && list == vec![0x5c; room]);
+            assert_eq!(record, recording.record[..RECORD_BYTES - short]);
         }
         answer
     };
@@ -182,17 +182,20 @@ fn room_or_20() {
     assert_eq!(tried(&vec![0; 795_592], 0, 1), refused(20, 0));
     assert_eq!(tried(&vec![0; 795_592], 0, 0), refused(19, 0));
 
-    take.add(&bytes).expect("there is room");
+    recording.add(&bytes).expect("there is room");
     let close = |image: &[u8], record: &[u8], room: usize| record_close(&mut image.to_vec(), record, &mut vec![0; room]);
-    assert_eq!(close(&take.image, &take.record, 5), refused(20, 0));
-    assert_eq!(close(&take.image, &take.record, 6), Ok(3));
-    assert_eq!(close(&take.image, &take.record[..RECORD_BYTES - 1], 6), refused(20, 0));
-    assert_eq!(close(&take.image[1..], &[], 6), refused(1, 0));
+    assert_eq!(close(&recording.image, &recording.record, 5), refused(20, 0));
+    assert_eq!(close(&recording.image, &recording.record, 6), Ok(3));
+    assert_eq!(
+        close(&recording.image, &recording.record[..RECORD_BYTES - 1], 6),
+        refused(20, 0)
+    );
+    assert_eq!(close(&recording.image[1..], &[], 6), refused(1, 0));
     // An old name behind the end is one sector more, where it is in another.
-    let mut image = take.image.clone();
+    let mut image = recording.image.clone();
     put(&mut image, b"A", 0);
     image[slot_place(3)..][..11].copy_from_slice(b"\x13OLD NAME  ");
-    let other = Take::open(&image, b"TUNE");
+    let other = TestRecording::open(&image, b"TUNE");
     assert_eq!(close(&image, &other.record, 5), refused(20, 0));
     assert_eq!(close(&image, &other.record, 6), Ok(3));
 }

@@ -33,7 +33,7 @@ fn over(disks: &[&[u8]]) -> Vec<u8> {
 }
 
 /// Files of 1, 2, 3, 4, 300 and 1,024 sectors, and none.
-fn shelf() -> [Vec<u8>; 4] {
+fn some_images() -> [Vec<u8>; 4] {
     let [mut one, mut two, mut three] = [(); 3].map(|()| blank());
     put(&mut one, b"ONE", 100);
     put(&mut one, b"TWO", 900);
@@ -49,7 +49,7 @@ fn shelf() -> [Vec<u8>; 4] {
 
 #[test]
 fn what_is_counted() {
-    let [none, one, two, three] = shelf();
+    let [none, one, two, three] = some_images();
     assert_eq!(counted(&over(&[])), []);
     assert_eq!(counted(&over(&[&none])), [(0, 1), (98, 1_560)]);
     let files = [(0, 1), (33 + 19, 4), (97, 10), (98, 1_550), (100, 1), (101, 2), (102, 1)];
@@ -70,7 +70,7 @@ fn what_is_counted() {
 /// A refused disk is counted by its number and by nothing else.
 #[test]
 fn refused_disks() {
-    let [_, one, ..] = shelf();
+    let [_, one, ..] = some_images();
     let with = |at: usize, byte: u8| {
         let mut image = one.clone();
         image[slot_place(2) + at] = byte;
@@ -117,7 +117,7 @@ fn as_the_check_has_it() {
     assert_eq!(with_length(1_012), [(25, 1)]);
     assert_eq!(with_length(1_011), [(0, 1), (33 + 3, 1), (97, 2), (98, 1_558), (101, 1)]);
 
-    let [_, mut ended, ..] = shelf();
+    let [_, mut ended, ..] = some_images();
     ended[slot_place(3) + 1] = 0;
     ended[slot_place(4)] = 63;
     assert_eq!(
@@ -128,8 +128,8 @@ fn as_the_check_has_it() {
 
 #[test]
 fn joins_are_reports_over_both_lists() {
-    let shelf = shelf();
-    let disks: Vec<&[u8]> = shelf.iter().map(Vec::as_slice).chain([&[7; 9][..]]).collect();
+    let images = some_images();
+    let disks: Vec<&[u8]> = images.iter().map(Vec::as_slice).chain([&[7; 9][..]]).collect();
     let whole = over(&disks);
     for cut in 0..=disks.len() {
         let (one, two) = (over(&disks[..cut]), over(&disks[cut..]));
@@ -188,7 +188,7 @@ fn what_stays() {
 /// Numbers that no call gave: sums are taken modulo 2^32.
 #[test]
 fn other_reports_get_an_answer() {
-    let [_, one, ..] = shelf();
+    let [_, one, ..] = some_images();
     let mut report = empty();
     for at in 33..124 {
         set(&mut report, at, u32::MAX);

@@ -103,10 +103,10 @@ fn it_comes_after_10_and_11_of_the_same_and_of_earlier_slots() {
 fn they_cannot_be_saved() {
     let mut image = blank();
     for kind in 1..=4 {
-        let wish = paper::Wish {
+        let request = paper::SaveRequest {
             kind,
-            ..wish(b"ZX", &[])
+            ..request(b"ZX", &[])
         };
-        assert_eq!(paper::save(&mut image, &wish, &mut [0; 4]), refused(13, 0));
+        assert_eq!(paper::save(&mut image, &request, &mut [0; 4]), refused(13, 0));
     }
 }

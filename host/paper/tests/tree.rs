@@ -25,7 +25,7 @@ fn file(image: &mut [u8], slot: usize, name: &[u8], parent: u8) {
 }
 
 /// GAMES holds CHESS, ARCADE and its PONG; MUSIC stands inside ARCADE; LETTER is in the root.
-fn shelf() -> Vec<u8> {
+fn nested_disk() -> Vec<u8> {
     let mut image = blank();
     file(&mut image, 1, b"CHESS", 7);
     directory(&mut image, 2, b"MUSIC", 200, 3);
@@ -48,7 +48,7 @@ fn beneath(image: &[u8], name: &[u8]) -> Result<Vec<usize>, paper::Refused> {
 
 #[test]
 fn each_level_by_slots_and_a_directory_before_its_own() {
-    let image = shelf();
+    let image = nested_disk();
     assert_eq!(paper::check(&image), Ok(()));
     assert_eq!(beneath(&image, b""), Ok(vec![3, 1, 6, 2, 7, 5, 4, 8]));
     assert_eq!(beneath(&image, b"GAMES"), Ok(vec![1, 6, 2, 7, 5]));
@@ -62,7 +62,7 @@ fn each_level_by_slots_and_a_directory_before_its_own() {
 /// A directory takes a slot and no sector, whatever its first address says.
 #[test]
 fn rows_of_kind_21() {
-    let image = shelf();
+    let image = nested_disk();
     let listed = paper::list(&image, &mut [0; 778 * 258]);
     assert_eq!(listed, Ok(Listed { files: 8, free: 1_556 }));
     assert_eq!(paper::check_release(&image), Ok(()));
@@ -92,7 +92,7 @@ fn rows_of_kind_21() {
 /// What would be refused 26 to 28 refuses no other call.
 #[test]
 fn other_calls_look_at_no_codes() {
-    let mut image = shelf();
+    let mut image = nested_disk();
     image[slot_place(3) + CODE] = 0;
     image[slot_place(4) + PARENT] = 99;
     assert_eq!(paper::check(&image), Ok(()));
@@ -110,7 +110,7 @@ fn other_calls_look_at_no_codes() {
 /// Codes before places, places by slots, and at a slot 27 before 28; all of them before what is asked.
 #[test]
 fn the_order_of_26_to_28() {
-    let mut image = shelf();
+    let mut image = nested_disk();
     image[slot_place(4) + PARENT] = 99;
     assert_eq!(beneath(&image, b""), refused(27, 4));
     assert_eq!(beneath(&image, b"\x00"), refused(27, 4));
@@ -146,7 +146,7 @@ fn rings() {
 
 #[test]
 fn what_is_asked_for() {
-    let image = shelf();
+    let image = nested_disk();
     for name in [&b"\x00"[..], b"\x00GAMES", b"ELEVEN BYTE"] {
         assert_eq!(beneath(&image, name), refused(12, 0));
     }
@@ -193,7 +193,7 @@ fn as_deep_as_codes_go() {
 /// 29: not before 17, and not where the code is 0 or the one slot that is in it is itself.
 #[test]
 fn a_directory_that_is_not_empty_stays() {
-    let image = shelf();
+    let image = nested_disk();
     let erase = |image: &[u8], name: &[u8], room: usize| {
         let mut image = image.to_vec();
         let answer = paper::erase(&mut image, name, &mut vec![0; room]);
@@ -230,7 +230,7 @@ fn a_directory_that_is_not_empty_stays() {
 /// Slots behind the end and erased ones lie beneath nothing, and no directory there has a code.
 #[test]
 fn what_is_not_live() {
-    let mut image = shelf();
+    let mut image = nested_disk();
     image[slot_place(6)] = 0;
     assert_eq!(beneath(&image, b""), refused(27, 2), "the directory of MUSIC is gone");
     image[slot_place(2)] = 0;
@@ -243,7 +243,7 @@ fn what_is_not_live() {
 /// A save goes to the root.
 #[test]
 fn a_save_goes_to_the_root() {
-    let mut image = shelf();
+    let mut image = nested_disk();
     image[slot_place(9)..][..256].fill(99);
     image[slot_place(9) + 1] = 0;
     put(&mut image, b"NEW", 1);

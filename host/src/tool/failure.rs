@@ -1,8 +1,8 @@
 //! What a command could not do: its words and its exit status.
-use super::output::shown_file;
+use crate::tool::printable::printable_path;
 use std::ffi::OsStr;
 use std::io::{self, ErrorKind};
-use varnucht::{Refusal, Refused, Unsound, WriteError};
+use varnucht::{NotAccepted, Refusal, Refused, WriteError};
 
 /// What a command gives back.
 pub type Outcome = Result<(), Failure>;
@@ -20,9 +20,9 @@ impl From<Refused> for Reason {
     }
 }
 
-impl From<Unsound> for Reason {
-    fn from(unsound: Unsound) -> Reason {
-        unsound.refused.into()
+impl From<NotAccepted> for Reason {
+    fn from(not_accepted: NotAccepted) -> Reason {
+        not_accepted.refused.into()
     }
 }
 
@@ -47,13 +47,13 @@ pub enum Failure {
 
 impl Failure {
     /// The library refused the disk in this file.
-    pub fn unsound(path: &OsStr, reason: impl Into<Reason>) -> Failure {
-        Failure::Refused(shown_file(path), reason.into())
+    pub fn not_accepted(path: &OsStr, reason: impl Into<Reason>) -> Failure {
+        Failure::Refused(printable_path(path), reason.into())
     }
 
     /// The library refused a request on the disk in this file; `what` says on which of its files.
     pub fn refused(path: &OsStr, what: &str, reason: impl Into<Reason>) -> Failure {
-        Failure::Refused(format!("{}: {what}", shown_file(path)), reason.into())
+        Failure::Refused(format!("{}: {what}", printable_path(path)), reason.into())
     }
 
     /// The command line was not understood.
@@ -63,7 +63,7 @@ impl Failure {
 
     /// This file could not be read or written.
     pub fn io(path: &OsStr, error: io::Error) -> Failure {
-        Failure::Io(shown_file(path), error)
+        Failure::Io(printable_path(path), error)
     }
 
     /// The sectors of a change could not all be written to this file. A signal stops between two of them: then the next was
@@ -84,7 +84,7 @@ impl Failure {
                 Failure::io(path, io::Error::other(words))
             }
             WriteError::Piece { error, .. } if error.kind() == ErrorKind::Interrupted => Failure::given_up(path, error),
-            error => Failure::Write(shown_file(path), error),
+            error => Failure::Write(printable_path(path), error),
         }
     }
 

@@ -1,79 +1,51 @@
 //! The tool: one command for each thing that the library does, and those that are made of several: `map`, `salvage`,
 //! `extract`, `add`, `blank` and `help`.
 //!
-//! `commands` is the table of commands; `words` reads the command line by it, and `help` prints it. Each command has a file of
-//! its own. What a command cannot do is a `Failure`, which knows its words and its exit status.
-mod add;
-mod blank;
-mod change;
-mod check;
-mod colour;
+//! From the top down, and no file needs one above it: this file picks the command; `table` is the table of commands;
+//! `commands` has a file for each command; `disk`, `files`, `command_line` and `output` are what commands share. What a
+//! command cannot do is a `Failure`, which knows its words and its exit status.
+mod command_line;
 mod commands;
-mod dump;
-mod each;
-mod erase;
-mod extract;
+mod disk;
 mod failure;
-mod faults;
-mod forms;
-mod gather;
-mod help;
-mod hex;
-mod index;
-mod json;
-mod list;
-mod make;
-mod map;
-mod near;
-mod numbers;
+mod files;
 mod output;
-mod pages;
-mod pattern;
-mod progress;
-mod read;
-mod record;
-mod replace;
-mod report;
-mod salvage;
-mod save;
-mod sector;
-mod shelf;
-mod source;
-mod svg;
+mod printable;
 mod system;
-mod tree;
-mod values;
-mod words;
+mod table;
 
+use command_line::parser;
+use commands::help;
 use failure::{Failure, Outcome};
 use std::ffi::OsString;
 use std::process::ExitCode;
+use table::TABLE;
 
 /// Runs the tool with the words of its command line, and says what went wrong.
 pub fn run(words: Vec<OsString>) -> ExitCode {
-    let outcome = obey(words);
+    let outcome = dispatch(words);
     if let Err(failure) = &outcome
         && let Some(words) = failure.words()
     {
         output::say(&words);
     }
-    system::obey();
+    system::raise_deferred_signal();
     outcome.map_or_else(|failure| ExitCode::from(failure.status()), |()| ExitCode::SUCCESS)
 }
 
 /// Finds the command and runs it.
-fn obey(words: Vec<OsString>) -> Outcome {
+fn dispatch(words: Vec<OsString>) -> Outcome {
     let mut words = words.into_iter();
     let Some(first) = words.next() else {
         return Err(Failure::usage("no command is given", None));
     };
     match first.to_str() {
-        Some("help" | "--help" | "-h") => help::run(words.collect()),
+        Some("help" | "--help" | "-h") => help::run(&TABLE, words.collect()),
         Some("--version" | "-V") => output::print(concat!("varnucht ", env!("CARGO_PKG_VERSION"), "\n")),
-        Some(name) if let Some(command) = commands::find(name) => match words::read(command, words.collect())? {
-            Some(given) => (command.run)(&given),
-            None => help::print(command),
+        Some(name) if let Some(command) = TABLE.find(name) => match parser::parse(command, words.collect())? {
+            Some(arguments) => (command.run)(&arguments),
+            None => help::print(&TABLE, command),
         },
-        _ => Err(help::no_command(&first)),
+        _ => Err(help::no_command(&TABLE, &first)),
     }
 }

@@ -57,7 +57,7 @@ pub fn standard(number: usize) -> io::Result<ManuallyDrop<File>> {
 }
 
 /// The rights that a new file has: all may read and write it but those whom the process's mask keeps out.
-pub fn usual_rights() -> u32 {
+pub fn default_mode() -> u32 {
     // SAFETY: it takes a number and gives the old one. It can only be asked by being set, and is set back at once.
     let mask = unsafe {
         let mask = umask(0o077);
@@ -83,12 +83,12 @@ extern "C" fn note(number: c_int) {
 }
 
 /// As long as this lives, a signal that would end the tool is only noted, so that nothing is left half done. Whoever holds
-/// signals back asks [`came`] where it can stop.
-pub struct Hold([usize; SIGNALS.len()]);
+/// signals back asks [`check_signals`] where it can stop.
+pub struct SignalGuard([usize; SIGNALS.len()]);
 
-impl Hold {
-    pub fn new() -> Hold {
-        Hold(SIGNALS.map(|(number, _)| {
+impl SignalGuard {
+    pub fn new() -> SignalGuard {
+        SignalGuard(SIGNALS.map(|(number, _)| {
             // SAFETY: `note` may be called at any moment. A signal that was ignored stays so.
             let before = unsafe { signal(number, note as *const () as usize) };
             if before == NOTHING {
@@ -100,7 +100,7 @@ impl Hold {
     }
 }
 
-impl Drop for Hold {
+impl Drop for SignalGuard {
     fn drop(&mut self) {
         for ((number, _), before) in SIGNALS.into_iter().zip(self.0) {
             // SAFETY: it is what the signal did before.
@@ -110,7 +110,7 @@ impl Drop for Hold {
 }
 
 /// Fails with [`ErrorKind::Interrupted`] where a signal was noted. The standard library gives that kind for no write or flush.
-pub fn came() -> io::Result<()> {
+pub fn check_signals() -> io::Result<()> {
     let number = CAME.load(Ordering::Relaxed);
     match SIGNALS.iter().find(|(each, _)| *each == number) {
         Some((_, name)) => Err(io::Error::new(ErrorKind::Interrupted, format!("the signal {name} came"))),
@@ -119,7 +119,7 @@ pub fn came() -> io::Result<()> {
 }
 
 /// Ends the tool by the signal that was noted, if one was: whoever started it is to see that.
-pub fn obey() {
+pub fn raise_deferred_signal() {
     let number = CAME.load(Ordering::Relaxed);
     if number != 0 {
         // SAFETY: nothing is left to be done, and the signal's own action ends the process.

@@ -140,7 +140,7 @@ fn a_save_that_fails_leaves_the_old_disk() {
                 .to_string()
                 .starts_with(&format!("{left} of {of} sectors were written, and then: no more. "))
         );
-        let cut = Disk::open(store.image).expect("it is sound");
+        let cut = Disk::open(store.image).expect("it is accepted");
         assert_eq!(cut.listing(), old.listing());
         assert_eq!(cut.read(&name("ONE")), old.read(&name("ONE")));
         assert_eq!(cut.read(&name("TWO")), old.read(&name("TWO")));
@@ -157,7 +157,7 @@ fn a_save_that_fails_leaves_the_old_disk() {
 /// which is then written before. Wherever that fails, the old disk is still there.
 #[test]
 fn saves_into_the_end_clear_old_names() {
-    let mut disk = Disk::open(pair_that_ends()).expect("it is sound");
+    let mut disk = Disk::open(pair_that_ends()).expect("it is accepted");
     for (slot, directory) in [(3, &[1][..]), (4, &[2, 1]), (5, &[2]), (6, &[3, 2])] {
         let old = disk.clone();
         let mut sectors = disk.save(&code(&format!("FILE {slot}"), &body(600))).unwrap();
@@ -167,7 +167,7 @@ fn saves_into_the_end_clear_old_names() {
             let image = old.image().clone();
             let mut store = Failing { image, left };
             assert_eq!(sectors.write_to(&mut store, |_, _| {}).is_ok(), left == numbers.len());
-            let cut = Disk::open(store.image).expect("it is sound");
+            let cut = Disk::open(store.image).expect("it is accepted");
             assert_eq!(cut.listing() == old.listing(), left < numbers.len());
             assert_eq!(cut.read(&name("ONE")), old.read(&name("ONE")));
         }
@@ -185,7 +185,7 @@ fn saves_into_the_end_clear_old_names() {
 }
 
 /// After a failed write a later change of the same disk writes nothing, because its sectors build on those that are missing;
-/// the same sectors written again make it good.
+/// the same sectors written again bring it up to date.
 #[test]
 fn no_change_is_written_over_a_missing_one() {
     let (old, long) = (pair(), body(20_000));
@@ -216,7 +216,7 @@ fn no_change_is_written_over_a_missing_one() {
             assert!(store.image == cut, "nothing is written");
         }
         // What is stored is a disk, and goes on when it is opened.
-        let mut disk = Disk::open(store.image.clone()).expect("it is sound");
+        let mut disk = Disk::open(store.image.clone()).expect("it is accepted");
         disk.hide(&name("ONE"))
             .unwrap()
             .write_to(&mut store, |_, _| {})

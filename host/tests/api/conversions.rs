@@ -72,8 +72,8 @@ fn images_and_disks() {
         assert_eq!(Image::try_from(&bytes[..]).unwrap_err().refusal.number(), 1);
         assert!(Image::try_from(bytes.clone()).unwrap_err().into_bytes() == bytes);
     }
-    let unsound = Disk::try_from(damaged(&[(0, 13)])).unwrap_err();
-    assert_eq!(unsound.refused.refusal.number(), 2);
+    let not_accepted = Disk::try_from(damaged(&[(0, 13)])).unwrap_err();
+    assert_eq!(not_accepted.refused.refusal.number(), 2);
     assert!(Disk::blank() == blank());
     assert_eq!(Disk::blank_with(Directory::new(39).unwrap()).directory().slots(), 778);
 }

@@ -6,13 +6,13 @@ use std::path::PathBuf;
 use varnucht::{DiskFile, FileError, Refusal, WriteError};
 
 /// A file for one test, which goes away with it.
-struct Scrap(PathBuf);
+struct TempFile(PathBuf);
 
-impl Scrap {
-    fn new(called: &str, bytes: &[u8]) -> Scrap {
+impl TempFile {
+    fn new(called: &str, bytes: &[u8]) -> TempFile {
         let path = std::env::temp_dir().join(format!("varnucht-api-{called}-{}", std::process::id()));
         fs::write(&path, bytes).expect("the file is made");
-        Scrap(path)
+        TempFile(path)
     }
 
     fn bytes(&self) -> Vec<u8> {
@@ -20,7 +20,7 @@ impl Scrap {
     }
 }
 
-impl Drop for Scrap {
+impl Drop for TempFile {
     fn drop(&mut self) {
         let _ = fs::remove_file(&self.0);
     }
@@ -28,10 +28,10 @@ impl Drop for Scrap {
 
 #[test]
 fn changes_are_in_the_file_when_they_return() {
-    let scrap = Scrap::new("changes", pair().image().as_bytes());
+    let temp = TempFile::new("changes", pair().image().as_bytes());
     let body = body(2_000);
-    assert_eq!(DiskFile::open(&scrap.0).unwrap().save(&code("NEW", &body)).unwrap(), 5);
-    let mut file = DiskFile::open(&scrap.0).unwrap();
+    assert_eq!(DiskFile::open(&temp.0).unwrap().save(&code("NEW", &body)).unwrap(), 5);
+    let mut file = DiskFile::open(&temp.0).unwrap();
     assert!(file.disk().read(&name("new")).unwrap() == body);
     let new = NewName::new("OTHER").unwrap();
     type Made = fn(&mut DiskFile, &NewName) -> Result<usize, FileError>;
@@ -45,35 +45,35 @@ fn changes_are_in_the_file_when_they_return() {
         |file, new| file.gather(&new.name()),
     ];
     for (place, change) in changes.into_iter().enumerate() {
-        let before = scrap.bytes();
+        let before = temp.bytes();
         let many = change(&mut file, &new).unwrap();
-        assert!(scrap.bytes() == file.disk().image().as_bytes(), "{place}");
-        assert_eq!(scrap.bytes() == before, many == 0, "{place}");
+        assert!(temp.bytes() == file.disk().image().as_bytes(), "{place}");
+        assert_eq!(temp.bytes() == before, many == 0, "{place}");
     }
     let answers = file.erase_many(&[name("TWO"), name("NONE"), new.name()]).unwrap();
     assert_eq!(answers, [Ok(()), Err(Refusal::NotFound), Ok(())]);
-    assert!(scrap.bytes() == file.disk().image().as_bytes());
+    assert!(temp.bytes() == file.disk().image().as_bytes());
     assert_eq!(file.into_disk().listing().entries().len(), 0);
 }
 
 #[test]
 fn what_is_refused_leaves_the_file() {
-    let scrap = Scrap::new("refused", pair().image().as_bytes());
-    let before = scrap.bytes();
-    let mut file = DiskFile::open(&scrap.0).unwrap();
+    let temp = TempFile::new("refused", pair().image().as_bytes());
+    let before = temp.bytes();
+    let mut file = DiskFile::open(&temp.0).unwrap();
     let refused = file.erase(&name("NONE")).unwrap_err();
     assert!(matches!(refused, FileError::Refused(refused) if refused.refusal.number() == 15));
     assert_eq!(
         file.hide(&name("NONE")).unwrap_err().to_string(),
         "refusal 15: no live slot has the name, capitals or not"
     );
-    assert!(scrap.bytes() == before);
+    assert!(temp.bytes() == before);
     for (bytes, number) in [(&before[..3], 1), (&damaged(&[(0, 13)]).as_bytes()[..], 2)] {
-        let scrap = Scrap::new("unsound", bytes);
-        let error = DiskFile::open(&scrap.0).unwrap_err();
+        let temp = TempFile::new("not-accepted", bytes);
+        let error = DiskFile::open(&temp.0).unwrap_err();
         assert!(matches!(error, FileError::Refused(refused) if refused.refusal.number() == number));
     }
-    let long = Scrap::new("long", &vec![0; 900_000]);
+    let long = TempFile::new("long", &vec![0; 900_000]);
     assert!(matches!(DiskFile::open(&long.0), Err(FileError::Refused(_))));
     assert!(matches!(DiskFile::open("/nowhere/disk.mgt"), Err(FileError::Io(error)) if error.kind() == ErrorKind::NotFound));
     assert!(matches!(DiskFile::open("/dev/null"), Err(FileError::Io(_))));
@@ -81,27 +81,27 @@ fn what_is_refused_leaves_the_file() {
 
 #[test]
 fn the_file_is_locked() {
-    let scrap = Scrap::new("locked", pair().image().as_bytes());
-    let file = DiskFile::open(&scrap.0).unwrap();
-    let error = DiskFile::try_open(&scrap.0).unwrap_err();
+    let temp = TempFile::new("locked", pair().image().as_bytes());
+    let file = DiskFile::open(&temp.0).unwrap();
+    let error = DiskFile::try_open(&temp.0).unwrap_err();
     assert!(matches!(error, FileError::Io(error) if error.kind() == ErrorKind::WouldBlock));
-    assert!(File::open(&scrap.0).unwrap().try_lock_shared().is_err());
+    assert!(File::open(&temp.0).unwrap().try_lock_shared().is_err());
     drop(file);
-    assert!(DiskFile::try_open(&scrap.0).is_ok());
+    assert!(DiskFile::try_open(&temp.0).is_ok());
 }
 
 /// Another program that heeds no lock changes the file: what is in memory is read anew.
 #[test]
 fn a_disk_is_read_anew() {
-    let scrap = Scrap::new("anew", pair().image().as_bytes());
-    let mut file = DiskFile::open(&scrap.0).unwrap();
+    let temp = TempFile::new("anew", pair().image().as_bytes());
+    let mut file = DiskFile::open(&temp.0).unwrap();
     let mut other = pair();
     drop(other.erase(&name("ONE")).unwrap());
-    fs::write(&scrap.0, other.image()).unwrap();
+    fs::write(&temp.0, other.image()).unwrap();
     assert_eq!(file.disk().listing().entries().len(), 2);
     file.reload().unwrap();
     assert_eq!(file.disk().listing().entries().len(), 1);
-    fs::write(&scrap.0, b"").unwrap();
+    fs::write(&temp.0, b"").unwrap();
     assert!(file.reload().is_err());
     assert_eq!(file.disk().listing().entries().len(), 1, "what is in memory stays");
     let error = FileError::from(WriteError::Skipped);

@@ -9,7 +9,7 @@ fn behind(wall: usize) -> Disk {
     save(&mut disk, &code("WALL", &body(510 * wall - 9)));
     drop(disk.erase(&name("GAP")).expect("it is there"));
     save(&mut disk, &code("TUNES", &body(510 * 3 - 9)));
-    Disk::open(disk.into_image()).expect("it is sound")
+    Disk::open(disk.into_image()).expect("it is accepted")
 }
 
 /// TUNES scattered on a disk with one free sector.
@@ -76,7 +76,7 @@ fn what_cannot_be_gathered() {
 fn directories() {
     let mut image = behind(10).into_image();
     image.as_bytes_mut()[2 * 256..][..11].copy_from_slice(b"\x15GAMES     ");
-    let mut disk = Disk::open(image).expect("it is sound");
+    let mut disk = Disk::open(image).expect("it is accepted");
     let games = name("GAMES");
     assert_eq!((disk.is_scattered(&games), disk.chain(&games)), (Ok(false), Ok(vec![])));
     let (number, slot, _) = parts(disk.gather(&games).unwrap_err());
@@ -121,7 +121,7 @@ fn a_file_that_is_left_leaves_nothing_unwritten() {
 fn scattered_is_what_moves() {
     let (mut moved, mut left) = (0, 0);
     for tracks in [4, 5, 39] {
-        let mut disk = Disk::open(Image::blank_with(Directory::new(tracks).unwrap())).expect("it is sound");
+        let mut disk = Disk::open(Image::blank_with(Directory::new(tracks).unwrap())).expect("it is accepted");
         for round in 0..120usize {
             let length = 510 * (round * 7 % 11) + 100;
             save(&mut disk, &code(&format!("F{}", round % 60), &body(length)));

@@ -73,15 +73,15 @@ fn listings_say_what_the_library_says() {
 /// What stands from the directory's end on is no file, whatever it says, and its slots are free.
 #[test]
 fn listings_stop_at_the_end() {
-    let (mut image, sound) = (pair_that_ends(), pair());
+    let (mut image, accepted) = (pair_that_ends(), pair());
     assert_eq!(image.check(), Ok(()));
-    let disk = Disk::open(image.clone()).expect("it is sound");
-    assert_eq!(disk.listing(), sound.listing());
+    let disk = Disk::open(image.clone()).expect("it is accepted");
+    assert_eq!(disk.listing(), accepted.listing());
     assert_eq!(
         (disk.listing().free_slots(), disk.listing().room()),
-        (78, sound.listing().room())
+        (78, accepted.listing().room())
     );
-    assert_eq!(disk.read(&name("TWO")), sound.read(&name("TWO")));
+    assert_eq!(disk.read(&name("TWO")), accepted.read(&name("TWO")));
     image.as_bytes_mut()[slot_place(3) + 1] = b'A';
     assert_eq!(parts(image.check().unwrap_err()).0, 2, "with a name there it is read on");
     image.as_bytes_mut()[slot_place(1) + 1] = 0;

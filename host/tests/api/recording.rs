@@ -112,7 +112,7 @@ fn cut_anywhere() {
             Err(RecordError::Unwritten(WriteError::Stopped { written, of: 3, .. })) => assert_eq!(written, left - 3),
             Err(error) => panic!("{error}"),
         }
-        let stored = Disk::open(store.image).expect("it is sound");
+        let stored = Disk::open(store.image).expect("it is accepted");
         match left {
             6 => assert!(stored == disk),
             _ => {
@@ -135,9 +135,9 @@ fn begun() -> (Disk, Kept, Record, u64) {
     (disk, store, record, bytes)
 }
 
-/// Goes on with it, and gives what the close gives.
+/// GatherResult on with it, and gives what the close gives.
 fn closed(disk: &mut Disk, store: &mut Kept, record: Record, bytes: u64) -> Result<usize, RecordError> {
-    let mut recording = Recording::go_on(disk, store, record, bytes);
+    let mut recording = Recording::resume(disk, store, record, bytes);
     recording.add(b"la la")?;
     assert_eq!(recording.bytes(), 2_305);
     recording.close()

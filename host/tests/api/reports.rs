@@ -25,8 +25,8 @@ pub fn full() -> Report {
     report
 }
 
-/// Images of every sort: blank, with files of several kinds and sizes, unsound, too short.
-fn shelf() -> Vec<Vec<u8>> {
+/// Images of every sort: blank, with files of several kinds and sizes, refused, too short.
+fn some_images() -> Vec<Vec<u8>> {
     let mut many = blank();
     for (at, sectors) in [1, 1, 2, 3, 4, 7, 8, 300].into_iter().enumerate() {
         save(&mut many, &code(&format!("FILE {at}"), &body(sectors * 510 - 9)));
@@ -42,16 +42,16 @@ fn shelf() -> Vec<Vec<u8>> {
         many.into_image(),
         whole.into_image(),
     ];
-    let mut shelf: Vec<Vec<u8>> = images.into_iter().map(Image::into_bytes).collect();
-    shelf.push(b"no disk".to_vec());
-    shelf.push(vec![0; 819_201]);
-    shelf
+    let mut all: Vec<Vec<u8>> = images.into_iter().map(Image::into_bytes).collect();
+    all.push(b"no disk".to_vec());
+    all.push(vec![0; 819_201]);
+    all
 }
 
 #[test]
 fn what_a_report_counts() {
-    let shelf = shelf();
-    let report = over(shelf.iter().map(Vec::as_slice));
+    let all = some_images();
+    let report = over(all.iter().map(Vec::as_slice));
     assert_eq!((report.disks(), report.accepted()), (9, 5));
     let refusals: Vec<_> = report.refusals().collect();
     let expected = [(Refusal::ImageLength, 2), (Refusal::UnknownKind, 1), (Refusal::Count, 1)];
@@ -117,13 +117,13 @@ fn as_the_check_has_it() {
     assert_eq!((report.file_sectors(), report.free_sectors()), (14, 4 * 1_560 - 14));
 }
 
-/// In whatever parts the shelf is counted, on however many threads.
+/// In whatever parts the images are counted, on however many threads.
 #[test]
 fn joins_are_reports_over_both() {
-    let shelf = shelf();
-    let whole = over(shelf.iter().map(Vec::as_slice));
-    for cut in 0..=shelf.len() {
-        let (one, two) = shelf.split_at(cut);
+    let all = some_images();
+    let whole = over(all.iter().map(Vec::as_slice));
+    for cut in 0..=all.len() {
+        let (one, two) = all.split_at(cut);
         let [one, two] = [one, two].map(|part| over(part.iter().map(Vec::as_slice)));
         for (mut report, other) in [(one, two), (two, one)] {
             assert_eq!(report.join(&other), Ok(9));
@@ -132,7 +132,7 @@ fn joins_are_reports_over_both() {
     }
     let joined = thread::scope(|scope| {
         let count = |part| scope.spawn(move || over(<[Vec<u8>]>::iter(part).map(Vec::as_slice)));
-        let parts: Vec<_> = shelf.chunks(2).map(count).collect();
+        let parts: Vec<_> = all.chunks(2).map(count).collect();
         let mut all = Report::default();
         for part in parts {
             all.join(&part.join().unwrap()).unwrap();

@@ -14,7 +14,7 @@ pub fn directory(image: &mut Image, slot: usize, name: &str, code: u8, parent: u
 }
 
 /// The pair, TWO in GAMES; GAMES in slot 3, ARCADE in it in slot 4, and EMPTY in slot 5.
-pub fn shelf() -> Image {
+pub fn nested_disk() -> Image {
     let mut image = damaged(&[(254, 7)]);
     directory(&mut image, 3, "GAMES", 7, 0);
     directory(&mut image, 4, "ARCADE", 255, 7);
@@ -22,15 +22,15 @@ pub fn shelf() -> Image {
     image
 }
 
-/// The shelf with one byte of a slot changed.
+/// That disk with one byte of a slot changed.
 pub fn spoilt(slot: usize, place: usize, byte: u8) -> Disk {
-    let mut image = shelf();
+    let mut image = nested_disk();
     image.as_bytes_mut()[slot_place(slot) + place] = byte;
     Disk::open(image).expect("the check looks at no codes")
 }
 
 fn open(image: Image) -> Disk {
-    Disk::open(image).expect("it is sound")
+    Disk::open(image).expect("it is accepted")
 }
 
 /// The slots of a tree in their order, each with its depth.
@@ -42,7 +42,7 @@ fn slots(tree: &Tree) -> Vec<(u16, usize)> {
 
 #[test]
 fn trees_are_nested() {
-    let disk = open(shelf());
+    let disk = open(nested_disk());
     let root = disk.tree(None).unwrap();
     assert_eq!(slots(&root), [(1, 0), (3, 0), (2, 1), (4, 1), (5, 0)]);
     assert_eq!((root.len(), root.is_empty()), (5, false));
@@ -161,14 +161,14 @@ fn refusals_of_trees() {
     assert_eq!(tree(spoilt(5, 250, 255), None), (26, 5));
     assert_eq!(tree(spoilt(1, 254, 9), Some("NONE")), (27, 1));
     assert_eq!(tree(spoilt(3, 254, 255), None), (28, 3));
-    assert_eq!(tree(open(shelf()), Some("ONE")), (13, 1));
-    assert_eq!(tree(open(shelf()), Some("NONE")), (15, 0));
+    assert_eq!(tree(open(nested_disk()), Some("ONE")), (13, 1));
+    assert_eq!(tree(open(nested_disk()), Some("NONE")), (15, 0));
 }
 
 /// A directory is erased where nothing is in it; what is in a tree follows every change.
 #[test]
 fn erases_of_directories() {
-    let mut disk = open(shelf());
+    let mut disk = open(nested_disk());
     let before = disk.clone();
     let refused = disk.erase(&name("GAMES")).unwrap_err();
     assert_eq!(parts(refused).0, 29);

@@ -2,20 +2,20 @@
 use super::*;
 use std::collections::HashSet;
 use std::hash::{BuildHasher, BuildHasherDefault, DefaultHasher};
-use varnucht::calls::{self, Wish};
+use varnucht::calls::{self, SaveRequest};
 use varnucht::{Drive, IMAGE_LENGTH, Kind, SECTORS, Sector, Track};
 
 /// What a save on a blank disk is refused with. The list has no room, so a save is never made: it is refused 20 where
 /// nothing else is wrong.
-fn save_refused(image: &mut Image, wish: &Wish) -> u8 {
-    calls::save(image.as_bytes_mut(), wish, &mut [])
+fn save_refused(image: &mut Image, request: &SaveRequest) -> u8 {
+    calls::save(image.as_bytes_mut(), request, &mut [])
         .decode()
         .unwrap_err()
         .refusal
         .number()
 }
 
-const WISH: Wish = Wish {
+const REQUEST: SaveRequest = SaveRequest {
     kind: 19,
     name: b"A",
     page: 1,
@@ -54,7 +54,7 @@ fn names_asked_for() {
 fn new_names() {
     let (mut image, names) = (Image::blank(), names());
     for name in &names {
-        let asked = save_refused(&mut image, &Wish { name, ..WISH });
+        let asked = save_refused(&mut image, &SaveRequest { name, ..REQUEST });
         let made = NewName::new(name).map_or_else(|refused| refused.refusal.number(), |_| 20);
         assert_eq!(made, asked, "{name:?}");
     }
@@ -91,7 +91,7 @@ fn names_that_are_the_same() {
 fn kinds() {
     let mut image = Image::blank();
     for kind in (0..=300).chain([0x1_0013, u32::MAX]) {
-        let asked = save_refused(&mut image, &Wish { kind, ..WISH });
+        let asked = save_refused(&mut image, &SaveRequest { kind, ..REQUEST });
         let made = CarriedKind::from_number(kind).map_or_else(|refused| refused.refusal.number(), |_| 20);
         assert_eq!(made, asked, "kind {kind}");
     }
@@ -120,7 +120,7 @@ fn starts() {
     ];
     for page in (0..=40).chain([255, 256, 257, u32::MAX]) {
         for offset in offsets {
-            let asked = save_refused(&mut image, &Wish { page, offset, ..WISH });
+            let asked = save_refused(&mut image, &SaveRequest { page, offset, ..REQUEST });
             let made = Start::new(page, offset).map_or_else(|refused| refused.refusal.number(), |_| 20);
             assert_eq!(made, asked, "page {page}, offset {offset}");
         }

@@ -41,7 +41,7 @@ fn every_refusal_is_met() {
 /// A refusal of every number, each with the number and the slot that it should have.
 fn provoked() -> Vec<(u8, u16, Refused)> {
     let mut all = vec![(1, 0, Image::from_bytes(vec![0; 819_199]).unwrap_err().into())];
-    all.extend(unsound());
+    all.extend(refused_disks());
     all.push((12, 0, Name::new("ELEVEN BYTE").unwrap_err()));
     let strange = Disk::open(damaged(&[(0, 5)])).expect("a snapshot is accepted");
     all.push((13, 2, strange.read(&name("TWO")).unwrap_err()));
@@ -83,10 +83,10 @@ fn provoked() -> Vec<(u8, u16, Refused)> {
 }
 
 /// Refusals 2 to 11, each from damage to slot 2 of the pair or to its first sector.
-fn unsound() -> Vec<(u8, u16, Refused)> {
-    let sound = pair();
-    let one = *sound.listing().entries()[0].as_bytes();
-    let two_sector = sound.listing().entries()[1].sectors().next().expect("it has two").place();
+fn refused_disks() -> Vec<(u8, u16, Refused)> {
+    let accepted = pair();
+    let one = *accepted.listing().entries()[0].as_bytes();
+    let two_sector = accepted.listing().entries()[1].sectors().next().expect("it has two").place();
     // Slot 2 with the first address and the map of slot 1.
     let shared: Vec<(usize, u8)> = (13..210).map(|place| (place, one[place])).collect();
     let mut broken = damaged(&[]);
@@ -107,9 +107,9 @@ fn unsound() -> Vec<(u8, u16, Refused)> {
     let refuse = |(number, image): (u8, Image)| {
         let before = image.clone();
         assert_eq!(parts(image.check().unwrap_err()).0, number);
-        let unsound = Disk::open(image).unwrap_err();
-        assert!(unsound.image == before, "the image comes back as it was");
-        (number, 2, unsound.into())
+        let not_accepted = Disk::open(image).unwrap_err();
+        assert!(not_accepted.image == before, "the image comes back as it was");
+        (number, 2, not_accepted.into())
     };
     images.into_iter().map(refuse).collect()
 }

@@ -2,7 +2,7 @@
 //! touch runs in a program of its own, this one started again.
 
 use crate::support::compare::Lend;
-use crate::support::guarded::{Empty, Flush, Guarded};
+use crate::support::guarded::{Edge, Empty, Guarded};
 use std::env;
 use std::os::unix::process::ExitStatusExt;
 use std::process::{Command, Stdio};
@@ -12,12 +12,12 @@ const SIGSEGV: i32 = 11;
 
 /// A lent slice of three bytes, and what is done to it.
 fn touch(what: &str) {
-    let (flush, may_change) = match what {
-        "read behind" | "write behind" => (Flush::End, true),
-        "write a byte that is only read" => (Flush::End, false),
-        _ => (Flush::Front, true),
+    let (edge, may_change) = match what {
+        "read behind" | "write behind" => (Edge::End, true),
+        "write a byte that is only read" => (Edge::End, false),
+        _ => (Edge::Front, true),
     };
-    let mut lender = Guarded::new(flush, Empty::Closed);
+    let mut lender = Guarded::new(edge, Empty::Closed);
     let part = lender.lend(0, &[1, 2, 3], may_change);
     let empty = lender.lend(1, &[], true);
     // Safety: none. Each of these is the fault that the closed pages are there for, but for the two that stay inside.

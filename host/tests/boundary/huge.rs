@@ -2,20 +2,20 @@
 //! its length stands in a closed page, so that one byte read of it is a fault. Of a slice that may be longer than the call
 //! needs the front is there, flush with a closed page.
 
-use crate::support::asking::Asked;
 use crate::support::calls::{
     self, ANSWERS, BODY, CALLS, Call, EXEC, IMAGE, INFO, NAME, NAMES, NEW, NOTHING, OUT, RECORD, ROLES, Request, SLICES,
     TWO, ask_c, ask_paper,
 };
 use crate::support::compare::{self, Lend};
-use crate::support::disks::Disk;
+use crate::support::directories;
+use crate::support::disks::DrawnDisk;
 use crate::support::facts::Facts;
-use crate::support::folders;
 use crate::support::geometry::{bit_place, number};
-use crate::support::guarded::{Empty, Flush, Guarded};
+use crate::support::guarded::{Edge, Empty, Guarded};
 use crate::support::random::Random;
 use crate::support::recordings::{self, Recording};
 use crate::support::reports;
+use crate::support::requests::OwnedRequest;
 use crate::wide;
 use std::env;
 use std::process::Command;
@@ -66,8 +66,8 @@ fn refusal(call: Call, role: usize, length: usize) -> Option<u64> {
 }
 
 /// A request that is accepted, with no byte more than it needs.
-fn accepted(call: Call, disk: &Disk, i: usize) -> Asked {
-    let (file, asked) = (&disk.files[i], Asked::new(call));
+fn accepted(call: Call, disk: &DrawnDisk, i: usize) -> OwnedRequest {
+    let (file, asked) = (&disk.files[i], OwnedRequest::new(call));
     match call {
         Call::Check | Call::CheckRelease => asked,
         Call::List => asked.with(OUT, vec![0x5c; 258 * disk.files.len()]),
@@ -75,14 +75,14 @@ fn accepted(call: Call, disk: &Disk, i: usize) -> Asked {
         Call::Open | Call::Start => asked.with(NAME, file.name),
         Call::Tree => {
             let facts = Facts::of(&disk.image);
-            let (directory, many) = folders::some_directory(&facts).expect("there is one");
+            let (directory, many) = directories::some_directory(&facts).expect("there is one");
             asked.with(NAME, directory.name).with(OUT, vec![0x5c; 2 * many])
         }
-        Call::Next => Asked {
+        Call::Next => OwnedRequest {
             numbers: [number(bit_place(file.chain[0])), 9, file.body.len()].map(|number| number as u32),
             ..asked.with(OUT, vec![0x5c; file.body.len()])
         },
-        Call::Sector => Asked {
+        Call::Sector => OwnedRequest {
             numbers: [2, 4, 1],
             ..asked.with(TWO, disk.image.clone())
         },
@@ -105,13 +105,13 @@ fn accepted(call: Call, disk: &Disk, i: usize) -> Asked {
 }
 
 /// A save of so many bytes.
-fn save(disk: &Disk, length: usize) -> Asked {
+fn save(disk: &DrawnDisk, length: usize) -> OwnedRequest {
     let list = vec![0x5c; 2 * Facts::of(&disk.image).save_sectors(length)];
-    let asked = Asked::new(Call::Save)
+    let asked = OwnedRequest::new(Call::Save)
         .with(NAME, b"unlike all")
         .with(BODY, vec![5; length])
         .with(OUT, list);
-    Asked {
+    OwnedRequest {
         numbers: [19, 1, 40_000],
         ..asked.with(EXEC, [1, 2, 3]).with(INFO, [4; 11])
     }
@@ -132,7 +132,7 @@ fn ask(request: &Request, roles: &[usize], length: usize) {
         true => request.with(IMAGE, &[]),
         false => *request,
     };
-    let mut lender = Guarded::new(Flush::End, Empty::Closed);
+    let mut lender = Guarded::new(Edge::End, Empty::Closed);
     let mut parts = [NOTHING; SLICES];
     let refused = roles
         .iter()
@@ -157,7 +157,7 @@ fn ask(request: &Request, roles: &[usize], length: usize) {
     let paper = ask_paper(request);
     let what = || {
         let of: Vec<&str> = roles.iter().map(|&role| ROLES[role]).collect();
-        format!("{of:?} of {length} bytes: {}", compare::tell(request))
+        format!("{of:?} of {length} bytes: {}", compare::describe(request))
     };
     assert_eq!(calls::refusal(paper.packed), 0, "{}", what());
     assert_eq!(answer, refused.unwrap_or(paper.packed), "{}", what());
@@ -204,9 +204,9 @@ fn names() {
     each(&[NAME, NEW], &[&HUGE[..], &HUGEST].concat());
 }
 
-/// Of a handful neither a whole number of tens nor any other is looked at.
+/// Of many names neither a whole number of tens nor any other is looked at.
 #[test]
-fn names_of_a_handful() {
+fn many_names() {
     each(&[NAMES], &[&HUGE[..], &HUGEST, &[(1 << 63) + 2, below(6)]].concat());
 }
 

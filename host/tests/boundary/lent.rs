@@ -1,33 +1,33 @@
 //! Every call with every slice between closed pages, compared with `paper` as in the differential tests.
 
-use crate::support::asking::{self, Asked};
 use crate::support::calls::{self, BODY, CALLS, Call, NAME, NOTHING, OUT, Request, SLICES, ask_c};
 use crate::support::compare::{self, Lend};
 use crate::support::damage;
 use crate::support::disks;
 use crate::support::facts::Facts;
 use crate::support::geometry::{BITS, IMAGE, fills};
-use crate::support::guarded::{Empty, Flush, Guarded};
+use crate::support::guarded::{Edge, Empty, Guarded};
 use crate::support::random::Random;
 use crate::support::readers;
+use crate::support::requests::{self, OwnedRequest};
+use crate::support::save_requests;
 use crate::support::settings::{Round, Rounds};
 use crate::support::shapes::Shape;
-use crate::support::wishes;
 
 /// Flush with either closed page; no bytes as a closed page and as NULL.
-const WAYS: [(Flush, Empty); 4] = [
-    (Flush::End, Empty::Closed),
-    (Flush::Front, Empty::Null),
-    (Flush::End, Empty::Null),
-    (Flush::Front, Empty::Closed),
+const WAYS: [(Edge, Empty); 4] = [
+    (Edge::End, Empty::Closed),
+    (Edge::Front, Empty::Null),
+    (Edge::End, Empty::Null),
+    (Edge::Front, Empty::Closed),
 ];
 
 /// Asks with the slices lent at the end of their pages and at their front; gives the answer, and the image after a change.
 fn ask(request: &Request) -> (u64, Option<Vec<u8>>) {
     let empty = request.call.takes().iter().any(|&role| request.slices[role].is_empty());
     let mut given = None;
-    for &(flush, empty) in if empty { &WAYS[..] } else { &WAYS[..2] } {
-        let left = compare::ask(request, &mut Guarded::new(flush, empty));
+    for &(edge, empty) in if empty { &WAYS[..] } else { &WAYS[..2] } {
+        let left = compare::ask(request, &mut Guarded::new(edge, empty));
         given = Some((left.answer, left.image));
     }
     given.expect("there is a way")
@@ -40,7 +40,7 @@ struct Counts([[usize; 2]; CALLS.len()]);
 impl Counts {
     fn every_call(&mut self, facts: &Facts, image: &[u8], random: &mut Random) {
         for call in CALLS {
-            let asked = asking::draw(call, facts, random);
+            let asked = requests::draw(call, facts, random);
             let (answer, _) = ask(&asked.on(image));
             self.0[call as usize][usize::from(calls::refusal(answer) != 0)] += 1;
         }
@@ -124,11 +124,11 @@ fn pieces_of_files() {
         let _round = Round(seed);
         let random = &mut Random::new(seed);
         let disk = disks::draw(random);
-        for (file, &(flush, empty)) in disk.files.iter().zip(WAYS.iter().cycle()) {
+        for (file, &(edge, empty)) in disk.files.iter().zip(WAYS.iter().cycle()) {
             let Ok(mut reader) = paper::open(&disk.image, &file.name) else {
                 continue;
             };
-            let mut lender = Guarded::new(flush, empty);
+            let mut lender = Guarded::new(edge, empty);
             let mut parts = [NOTHING; SLICES];
             parts[calls::IMAGE] = lender.lend(calls::IMAGE, &disk.image, false);
             for _ in 0..40 {
@@ -163,7 +163,7 @@ fn pieces_at_the_edges_of_an_image() {
     ] {
         for left in [0, 1, 510, 511, 795_591] {
             for room in [0, 1, 510, 511] {
-                let mut asked = Asked::new(Call::Next).with(OUT, vec![0x5c; room]);
+                let mut asked = OwnedRequest::new(Call::Next).with(OUT, vec![0x5c; room]);
                 asked.numbers = [numbers[0], numbers[1], left];
                 ask(&asked.on(&image));
             }
@@ -180,7 +180,7 @@ fn saves_of_full_size() {
         let facts = Facts::of(&image);
         let sectors = facts.save_sectors(fills(free));
         let list = vec![0x5c; 2 * sectors];
-        let asked = wishes::good(&facts, random)
+        let asked = save_requests::accepted(&facts, random)
             .with(BODY, random.bytes(fills(free)))
             .with(OUT, list);
         let (answer, new) = ask(&asked.on(&image));
@@ -188,7 +188,9 @@ fn saves_of_full_size() {
         let new = new.expect("accepted");
         for short in [0, 1] {
             let out = vec![0x5c; fills(free) - short];
-            let read = Asked::new(Call::Read).with(NAME, asked.slices[NAME].clone()).with(OUT, out);
+            let read = OwnedRequest::new(Call::Read)
+                .with(NAME, asked.slices[NAME].clone())
+                .with(OUT, out);
             let (answer, _) = ask(&read.on(&new));
             assert_eq!(calls::refusal(answer), if short == 0 { 0 } else { 20 });
         }

@@ -2,17 +2,17 @@
 //! one slice for all that a save is given.
 
 use crate::support::calls::{
-    self, BODY, Call, EXEC, IMAGE, INFO, NAME, NOTHING, OUT, Part, Request, SLICES, TWO, ask_c, ask_paper,
+    self, BODY, Call, EXEC, IMAGE, INFO, NAME, NOTHING, OUT, RawSlice, Request, SLICES, TWO, ask_c, ask_paper,
 };
 use crate::support::compare::{self, Lend};
 use crate::support::disks;
 use crate::support::fields;
 use crate::support::geometry::slot_place;
-use crate::support::guarded::{Empty, Flush, Guarded};
+use crate::support::guarded::{Edge, Empty, Guarded};
 use crate::support::random::Random;
 
 fn guarded() -> Guarded {
-    Guarded::new(Flush::End, Empty::Closed)
+    Guarded::new(Edge::End, Empty::Closed)
 }
 
 /// The name is the ten bytes in the slot of the lent image.
@@ -26,7 +26,7 @@ fn a_name_inside_the_image() {
             parts[IMAGE] = lender.lend(IMAGE, &disk.image, false);
             // Safety: the name lies in the image.
             let front = unsafe { parts[IMAGE].front.add(slot_place(file.slot) + fields::NAME) };
-            parts[NAME] = Part { front, length: 10 };
+            parts[NAME] = RawSlice { front, length: 10 };
             let out = vec![0x5c; file.body.len() + 1];
             parts[OUT] = lender.lend(OUT, &out, true);
             for call in [Call::Start, Call::Open, Call::Read] {
@@ -37,11 +37,11 @@ fn a_name_inside_the_image() {
                 // Safety: both slices are only read, and the output buffer stands alone.
                 let answer = unsafe { ask_c(call, [0; 3], &parts) };
                 let paper = ask_paper(&request);
-                assert_eq!(answer, paper.packed, "{}", compare::tell(&request));
+                assert_eq!(answer, paper.packed, "{}", compare::describe(&request));
                 assert!(
                     call != Call::Read || lender.bytes(OUT) == paper.out,
                     "{}",
-                    compare::tell(&request)
+                    compare::describe(&request)
                 );
             }
             assert!(lender.bytes(IMAGE) == disk.image && lender.around(OUT));
@@ -70,7 +70,7 @@ fn one_image_in_both_drives() {
             .numbers(numbers);
         // Safety: both slices are only read.
         let answer = unsafe { ask_c(Call::Sector, numbers, &parts) };
-        assert_eq!(answer, ask_paper(&request).packed, "{}", compare::tell(&request));
+        assert_eq!(answer, ask_paper(&request).packed, "{}", compare::describe(&request));
     }
 }
 
@@ -85,7 +85,7 @@ fn one_slice_for_all_that_is_saved() {
     parts[BODY] = lender.lend(BODY, &bytes, false);
     parts[OUT] = lender.lend(OUT, &[0x5c; 20], true);
     for (role, length) in [(NAME, 10), (EXEC, 3), (INFO, 20)] {
-        parts[role] = Part { length, ..parts[BODY] };
+        parts[role] = RawSlice { length, ..parts[BODY] };
     }
     let request = Request::new(Call::Save, &image)
         .with(NAME, &bytes[..10])

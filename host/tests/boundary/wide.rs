@@ -1,21 +1,22 @@
 //! Slices longer than 32 bits can count: the low 32 bits of such a length are a length that would do. The pages take no memory
 //! until they are touched, so a call that answers at once costs nothing.
 
-use crate::support::asking::Asked;
 use crate::support::calls::{
-    self, ANSWERS, BODY, Call, EXEC, IMAGE, INFO, NAME, NAMES, NEW, NOTHING, OUT, Part, RECORD, SLICES, TWO, ask_c, value,
+    self, ANSWERS, BODY, Call, EXEC, IMAGE, INFO, NAME, NAMES, NEW, NOTHING, OUT, RECORD, RawSlice, SLICES, TWO, ask_c,
+    value,
 };
 use crate::support::compare::Lend;
-use crate::support::disks::{self, Disk};
+use crate::support::directories;
+use crate::support::disks::{self, DrawnDisk};
 use crate::support::facts::Facts;
 use crate::support::fields;
-use crate::support::folders;
-use crate::support::gathers::{self, Goes};
+use crate::support::gathers::{self, GatherResult};
 use crate::support::geometry;
-use crate::support::guarded::{Empty, Flush, Guarded, PAGE, Pages};
+use crate::support::guarded::{Edge, Empty, Guarded, PAGE, Pages};
 use crate::support::random::Random;
 use crate::support::recordings::{self, Recording};
 use crate::support::reports;
+use crate::support::requests::OwnedRequest;
 use crate::support::waste;
 
 const WIDE: usize = 1 << 32;
@@ -31,10 +32,10 @@ impl Wide {
         Wide(pages)
     }
 
-    fn part(&self, length: usize) -> Part {
-        Part {
+    fn part(&self, length: usize) -> RawSlice {
+        RawSlice {
             length: WIDE + length,
-            ..self.0.part(length, Flush::Front)
+            ..self.0.part(length, Edge::Front)
         }
     }
 
@@ -45,8 +46,8 @@ impl Wide {
 }
 
 /// A recording on this disk that nothing came to.
-fn recording(disk: &Disk) -> Recording {
-    let mut save = Asked::new(Call::Save).with(NAME, b"unlike all");
+fn recording(disk: &DrawnDisk) -> Recording {
+    let mut save = OwnedRequest::new(Call::Save).with(NAME, b"unlike all");
     save.numbers = [19, 1, 40_000];
     Recording::of(&save, &Facts::of(&disk.image))
 }
@@ -54,13 +55,13 @@ fn recording(disk: &Disk) -> Recording {
 /// Slices of usual length for every role, between closed pages.
 struct Usual {
     lender: Guarded,
-    parts: [Part; SLICES],
+    parts: [RawSlice; SLICES],
 }
 
 impl Usual {
-    fn new(disk: &Disk, name: &[u8]) -> Usual {
+    fn new(disk: &DrawnDisk, name: &[u8]) -> Usual {
         let mut usual = Usual {
-            lender: Guarded::new(Flush::End, Empty::Closed),
+            lender: Guarded::new(Edge::End, Empty::Closed),
             parts: [NOTHING; SLICES],
         };
         let slices: [&[u8]; SLICES] = [
@@ -84,7 +85,7 @@ impl Usual {
     }
 
     /// Asks with one slice made wide.
-    fn ask(&self, call: Call, numbers: [u32; 3], role: usize, part: Part) -> u64 {
+    fn ask(&self, call: Call, numbers: [u32; 3], role: usize, part: RawSlice) -> u64 {
         let mut parts = self.parts;
         parts[role] = part;
         // Safety: the slices stand apart from each other and may all be read; image and output may be written.
@@ -94,18 +95,21 @@ impl Usual {
 
 /// A drawn disk with a free slot, room for three sectors, no waste sectors, a directory that something lies beneath, and a file
 /// of some length that starts inside the range, is not protected, is scattered and can be gathered.
-pub fn disk() -> (Disk, usize) {
-    let fits = |disk: &Disk, i: usize| {
+pub fn disk() -> (DrawnDisk, usize) {
+    let fits = |disk: &DrawnDisk, i: usize| {
         let slot = disk.slot(disk.files[i].slot);
         let changes = slot[0] & fields::PROTECTED == 0 && disk.files.len() < disk.slots() && disk.free() > 3;
         let facts = Facts::of(&disk.image);
-        let moves = matches!(gathers::goes(&disk.image, &facts, &facts.live[i]), Goes::To(_));
+        let moves = matches!(
+            gathers::gather_result(&disk.image, &facts, &facts.live[i]),
+            GatherResult::MovedTo(_)
+        );
         changes && moves && disk.files[i].body.len() > 9 && fields::start(slot).is_some()
     };
     let drawn = (16_000_000..).map(|seed| disks::draw(&mut Random::new(seed)));
     drawn
         .filter(|disk| waste::lowest(&disk.image).is_none())
-        .filter(|disk| folders::some_directory(&Facts::of(&disk.image)).is_some())
+        .filter(|disk| directories::some_directory(&Facts::of(&disk.image)).is_some())
         .filter_map(|disk| (0..disk.files.len()).find(|&i| fits(&disk, i)).map(|i| (disk, i)))
         .next()
         .expect("one is found")
@@ -169,7 +173,7 @@ fn output_buffers() {
     assert!(out.front(258 * files + 1)[258 * files - 256..] == [disk.slot(disk.files[files - 1].slot), &[0]].concat());
     let out = Wide::new(&[]);
     let facts = Facts::of(&disk.image);
-    let (directory, many) = folders::some_directory(&facts).expect("there is one");
+    let (directory, many) = directories::some_directory(&facts).expect("there is one");
     let tree = Usual::new(&disk, &directory.name).ask(Call::Tree, [0; 3], OUT, out.part(1));
     assert_eq!((calls::refusal(tree), value(tree)), (0, many));
     assert!(
@@ -185,7 +189,7 @@ fn output_buffers() {
 /// Names whose low 32 bits are a whole number of tens are not, and of more names than there are answers nothing is looked at;
 /// answers and a list whose low 32 bits are too few are long enough.
 #[test]
-fn handfuls() {
+fn many_names() {
     let (disk, i) = disk();
     let file = &disk.files[i];
     let usual = Usual::new(&disk, &file.name);
@@ -252,12 +256,12 @@ fn recordings() {
 fn reports() {
     let (disk, _) = disk();
     let lend = |bytes: &[u8], may_change: bool| {
-        let mut lender = Guarded::new(Flush::End, Empty::Closed);
+        let mut lender = Guarded::new(Edge::End, Empty::Closed);
         let part = lender.lend(0, bytes, may_change);
         (lender, part)
     };
     let counted = |report: &[u8]| [0, 1, 98].map(|at| reports::number(report, at) as usize);
-    let ask = |call: Call, image: Part, two: Part, out: Part| {
+    let ask = |call: Call, image: RawSlice, two: RawSlice, out: RawSlice| {
         let mut parts = [NOTHING; SLICES];
         (parts[IMAGE], parts[TWO], parts[OUT]) = (image, two, out);
         // Safety: the slices stand apart from each other, and the report may be written.

@@ -1,20 +1,20 @@
 //! What an accepted change leaves, written once more from document 01, "What each change does", and from document 02, M-103,
 //! M-106 and M-112; and what is seen of it.
 
-use crate::change::Change;
-use crate::support::asking::Asked;
+use crate::change::AcceptedChange;
 use crate::support::calls::{BODY, Call, EXEC, INFO, NAME, NEW, OUT, refusal, value};
-use crate::support::compare::{self, Left};
+use crate::support::compare::{self, Returned};
 use crate::support::fields;
-use crate::support::gathers::{self, Goes};
+use crate::support::gathers::{self, GatherResult};
 use crate::support::geometry::{
     BITS, PAYLOAD, SECTOR, SLOT, address, bit_place, is_data, number, sectors_for, slot_place, slots,
 };
 use crate::support::margins::Margins;
 use crate::support::names;
+use crate::support::requests::OwnedRequest;
 
 /// The new disk and the sectors named are what the paper says, byte for byte.
-pub fn examine(change: &Change) {
+pub fn examine(change: &AcceptedChange) {
     let (new, named) = match change.asked.call {
         Call::Save => saved(change),
         Call::Gather => gathered(change),
@@ -27,7 +27,7 @@ pub fn examine(change: &Change) {
 
 /// A saved file reads back with the start asked for; an erased one is gone; a renamed one answers to its new name alone,
 /// unless the old one is the same with other capitals.
-fn seen(change: &Change) {
+fn seen(change: &AcceptedChange) {
     let slices = &change.asked.slices;
     match change.asked.call {
         Call::Save => {
@@ -60,7 +60,7 @@ fn seen(change: &Change) {
                     assert_eq!(refusal(old.answer), refusal(new.answer));
                 }
             }
-            let again = Asked::new(Call::Gather).with(NAME, slices[NAME].clone());
+            let again = OwnedRequest::new(Call::Gather).with(NAME, slices[NAME].clone());
             let left = compare::ask(&again.on(&change.new), &mut Margins::default());
             assert_eq!(left.answer, 0, "gathered again, the file is left, with no room in the list");
         }
@@ -68,8 +68,8 @@ fn seen(change: &Change) {
     }
 }
 
-fn ask(call: Call, name: &[u8], length: usize, image: &[u8]) -> Left {
-    let mut asked = Asked::new(call).with(NAME, name);
+fn ask(call: Call, name: &[u8], length: usize, image: &[u8]) -> Returned {
+    let mut asked = OwnedRequest::new(call).with(NAME, name);
     if call == Call::Read {
         asked = asked.with(OUT, vec![0x5c; length]);
     }
@@ -77,7 +77,7 @@ fn ask(call: Call, name: &[u8], length: usize, image: &[u8]) -> Left {
 }
 
 /// A change of bytes in the slot that it finds.
-fn edited(change: &Change) -> (Vec<u8>, Vec<usize>) {
+fn edited(change: &AcceptedChange) -> (Vec<u8>, Vec<usize>) {
     let place = slot_place(change.found().expect("it is found by name"));
     let mut new = change.old.to_vec();
     let slot = &mut new[place..place + SLOT];
@@ -95,13 +95,13 @@ fn edited(change: &Change) -> (Vec<u8>, Vec<usize>) {
 
 /// The payload of each sector, in the order of the chain, on the lowest run of free bits, chained rising; of the slot its first
 /// address and its map; and the slot's sector last. A file in a row is left.
-fn gathered(change: &Change) -> (Vec<u8>, Vec<usize>) {
+fn gathered(change: &AcceptedChange) -> (Vec<u8>, Vec<usize>) {
     let live = change.facts.find(&change.asked.slices[NAME]).expect("it is found by name");
     let mut new = change.old.to_vec();
-    let start = match gathers::goes(change.old, &change.facts, live) {
-        Goes::Nowhere => return (new, Vec::new()),
-        Goes::To(start) => start,
-        Goes::Stuck => panic!("it has nowhere to go"),
+    let start = match gathers::gather_result(change.old, &change.facts, live) {
+        GatherResult::InPlace => return (new, Vec::new()),
+        GatherResult::MovedTo(start) => start,
+        GatherResult::NoRun => panic!("it has nowhere to go"),
     };
     let old = gathers::chain(change.old, live);
     let run: Vec<usize> = (start..start + old.len()).collect();
@@ -119,7 +119,7 @@ fn gathered(change: &Change) -> (Vec<u8>, Vec<usize>) {
 
 /// The lowest free slot, and the lowest free sectors, rising, as chain. A slot is free where it is erased, and from the first on
 /// whose first name byte is 0; where that one is taken, an old name in the next goes.
-fn saved(change: &Change) -> (Vec<u8>, Vec<usize>) {
+fn saved(change: &AcceptedChange) -> (Vec<u8>, Vec<usize>) {
     let mut new = change.old.to_vec();
     let bits = lowest_free(change);
     let nameless = |slot: usize| change.old[slot_place(slot) + fields::NAME] == 0;
@@ -148,7 +148,7 @@ fn saved(change: &Change) -> (Vec<u8>, Vec<usize>) {
     (new, named)
 }
 
-fn lowest_free(change: &Change) -> Vec<usize> {
+fn lowest_free(change: &AcceptedChange) -> Vec<usize> {
     let live = change
         .facts
         .live
@@ -161,7 +161,7 @@ fn lowest_free(change: &Change) -> Vec<usize> {
 }
 
 /// The nine bytes, the body, and 0 behind it.
-fn payload(change: &Change, sectors: usize) -> Vec<u8> {
+fn payload(change: &AcceptedChange, sectors: usize) -> Vec<u8> {
     let body = &change.asked.slices[BODY];
     let [kind, page, offset] = change.asked.numbers;
     let [low, high] = fields::remainder(body.len(), 0);
@@ -173,7 +173,7 @@ fn payload(change: &Change, sectors: usize) -> Vec<u8> {
     payload
 }
 
-fn new_slot(change: &Change, bits: &[usize]) -> [u8; SLOT] {
+fn new_slot(change: &AcceptedChange, bits: &[usize]) -> [u8; SLOT] {
     let [kind, page, offset] = change.asked.numbers;
     let length = change.asked.slices[BODY].len();
     let mut slot = [0; SLOT];

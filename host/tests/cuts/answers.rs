@@ -1,21 +1,21 @@
 //! The questions to the old disk and to a cut one: the listing, whether it may go out, body and start address for every live
 //! name, for the names of the change, and for some that are not there; and what lies beneath the root and every directory.
 
-use crate::change::Change;
-use crate::support::asking::{self, Asked};
+use crate::change::AcceptedChange;
 use crate::support::calls::{Call, NAME, NEW, OUT, RECORD, Request};
 use crate::support::compare;
-use crate::support::facts::{Facts, Live};
+use crate::support::facts::{Facts, LiveSlot};
 use crate::support::margins::Margins;
 use crate::support::names;
 use crate::support::random::Random;
 use crate::support::recordings::{EXECUTION, OWN_NAME};
+use crate::support::requests::{self, OwnedRequest};
 
 /// Questions, and what the old disk answers: the packed answer and the output buffer at return.
-pub struct Answers(Vec<(Asked, u64, Vec<u8>)>);
+pub struct Answers(Vec<(OwnedRequest, u64, Vec<u8>)>);
 
 impl Answers {
-    pub fn of(change: &Change, random: &mut Random) -> Answers {
+    pub fn of(change: &AcceptedChange, random: &mut Random) -> Answers {
         let mut lender = Margins::default();
         let answered = questions(change, random).into_iter().map(|asked| {
             let left = compare::ask(&asked.on(change.old), &mut lender);
@@ -35,7 +35,7 @@ impl Answers {
             assert!(
                 left.out == *out,
                 "another output buffer than on the old disk\n{}",
-                compare::tell(&request)
+                compare::describe(&request)
             );
         }
         self.0.len()
@@ -52,26 +52,26 @@ fn other_answer(request: &Request, old: u64, cut: u64) -> String {
         "the old disk {}, the cut one {}\n{}",
         compare::read_out(old),
         compare::read_out(cut),
-        compare::tell(request)
+        compare::describe(request)
     )
 }
 
-fn questions(change: &Change, random: &mut Random) -> Vec<Asked> {
+fn questions(change: &AcceptedChange, random: &mut Random) -> Vec<OwnedRequest> {
     let facts = &change.facts;
     let all = 258 * facts.live.len();
     let lengths = [all, all + 258, random.below(all + 1)];
-    let mut questions: Vec<Asked> = lengths.into_iter().map(|length| listing(length, random)).collect();
-    questions.push(Asked::new(Call::CheckRelease));
+    let mut questions: Vec<OwnedRequest> = lengths.into_iter().map(|length| listing(length, random)).collect();
+    questions.push(OwnedRequest::new(Call::CheckRelease));
     for name in asked_names(change, random) {
         let length = facts.find(&name).map_or(700, |live| live.length);
         let out = if random.one_in(4) {
-            asking::buffer(length, random)
+            requests::buffer(length, random)
         } else {
             random.bytes(length + 3)
         };
-        questions.push(Asked::new(Call::Read).with(NAME, name.clone()).with(OUT, out));
-        questions.push(Asked::new(Call::Start).with(NAME, name.clone()));
-        if name.is_empty() || facts.find(&name).is_some_and(Live::is_directory) {
+        questions.push(OwnedRequest::new(Call::Read).with(NAME, name.clone()).with(OUT, out));
+        questions.push(OwnedRequest::new(Call::Start).with(NAME, name.clone()));
+        if name.is_empty() || facts.find(&name).is_some_and(LiveSlot::is_directory) {
             questions.push(tree(name, facts, random));
         }
     }
@@ -79,19 +79,19 @@ fn questions(change: &Change, random: &mut Random) -> Vec<Asked> {
 }
 
 /// The tree of a directory, or of the root: it is a function of the look, as the others are.
-fn tree(name: Vec<u8>, facts: &Facts, random: &mut Random) -> Asked {
+fn tree(name: Vec<u8>, facts: &Facts, random: &mut Random) -> OwnedRequest {
     let length = 2 * facts.live.len() + random.below(4);
-    Asked::new(Call::Tree).with(NAME, name).with(OUT, random.bytes(length))
+    OwnedRequest::new(Call::Tree).with(NAME, name).with(OUT, random.bytes(length))
 }
 
-fn listing(length: usize, random: &mut Random) -> Asked {
-    Asked::new(Call::List).with(OUT, random.bytes(length))
+fn listing(length: usize, random: &mut Random) -> OwnedRequest {
+    OwnedRequest::new(Call::List).with(OUT, random.bytes(length))
 }
 
 /// Of more live names than so many, some are asked for.
 const MANY: usize = 80;
 
-fn asked_names(change: &Change, random: &mut Random) -> Vec<Vec<u8>> {
+fn asked_names(change: &AcceptedChange, random: &mut Random) -> Vec<Vec<u8>> {
     let Facts { live, erased, .. } = &change.facts;
     let mut asked: Vec<Vec<u8>> = live.iter().map(|live| live.name.to_vec()).collect();
     if asked.len() > MANY {

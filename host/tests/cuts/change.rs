@@ -1,20 +1,20 @@
 //! An accepted change: the old disk, the new one, and the sectors that it names.
 
-use crate::support::asking::Asked;
 use crate::support::calls::{self, BODY, Call, NAME, NEW, OUT, Request};
 use crate::support::compare;
-use crate::support::facts::{self, Facts, Live};
+use crate::support::directories;
+use crate::support::facts::{self, Facts, LiveSlot};
 use crate::support::fields;
-use crate::support::folders;
-use crate::support::gathers::{self, Goes};
+use crate::support::gathers::{self, GatherResult};
 use crate::support::geometry::{BITS, IMAGE, MOST_SLOTS, SECTOR, SECTORS, SLOT, bit_place, is_directory, slot_place, slots};
 use crate::support::margins::Margins;
 use crate::support::names;
 use crate::support::random::Random;
-use crate::support::wishes;
+use crate::support::requests::OwnedRequest;
+use crate::support::save_requests;
 
-pub struct Change<'a> {
-    pub asked: Asked,
+pub struct AcceptedChange<'a> {
+    pub asked: OwnedRequest,
     pub old: &'a [u8],
     pub new: Vec<u8>,
     /// The sector numbers, in the order of writing.
@@ -23,36 +23,38 @@ pub struct Change<'a> {
     pub facts: Facts,
 }
 
-impl Change<'_> {
+impl AcceptedChange<'_> {
     /// A change of this sort; none where the disk does not take it.
-    pub fn draw<'a>(call: Call, old: &'a [u8], random: &mut Random) -> Option<Change<'a>> {
+    pub fn draw<'a>(call: Call, old: &'a [u8], random: &mut Random) -> Option<AcceptedChange<'a>> {
         let facts = Facts::of(old);
         if call == Call::Save {
-            return Change::make(wishes::good(&facts, random), facts, old);
+            return AcceptedChange::make(save_requests::accepted(&facts, random), facts, old);
         }
-        let fit = |live: &&Live| match call {
-            Call::Erase => !live.protected && !folders::is_held(&facts, live),
+        let fit = |live: &&LiveSlot| match call {
+            Call::Erase => !live.protected && !directories::is_held(&facts, live),
             Call::Rename => !live.protected,
-            Call::Gather => !live.is_directory() && gathers::goes(old, &facts, live) != Goes::Stuck,
+            Call::Gather => !live.is_directory() && gathers::gather_result(old, &facts, live) != GatherResult::NoRun,
             _ => true,
         };
         let names: Vec<_> = facts.live.iter().filter(fit).map(|live| live.name).collect();
         if names.is_empty() {
             return None;
         }
-        let mut asked = Asked::new(call).with(NAME, random.pick(&names)).with(OUT, random.bytes(5));
+        let mut asked = OwnedRequest::new(call)
+            .with(NAME, random.pick(&names))
+            .with(OUT, random.bytes(5));
         if call == Call::Gather {
             // With room for every file.
             let room = 2 * BITS + random.below(4);
             asked = asked.with(OUT, random.bytes(room));
         }
         if call == Call::Rename {
-            asked = asked.with(NEW, wishes::fresh(&facts, random));
+            asked = asked.with(NEW, save_requests::unused_name(&facts, random));
         }
         if call == Call::Rename && random.one_in(3) {
             asked = in_other_letters(&facts, random).unwrap_or(asked);
         }
-        Some(Change::make(asked, facts, old).expect("nothing speaks against it"))
+        Some(AcceptedChange::make(asked, facts, old).expect("nothing speaks against it"))
     }
 
     /// Whether it is a rename that alters the case of the file's own name alone.
@@ -62,22 +64,22 @@ impl Change<'_> {
     }
 
     /// A save of a body of this length.
-    pub fn save<'a>(old: &'a [u8], length: usize, random: &mut Random) -> Option<Change<'a>> {
+    pub fn save<'a>(old: &'a [u8], length: usize, random: &mut Random) -> Option<AcceptedChange<'a>> {
         let facts = Facts::of(old);
         let list = 2 * facts.save_sectors(length);
-        let asked = wishes::good(&facts, random)
+        let asked = save_requests::accepted(&facts, random)
             .with(BODY, random.bytes(length))
             .with(OUT, vec![0x5c; list]);
-        Change::make(asked, facts, old)
+        AcceptedChange::make(asked, facts, old)
     }
 
     /// A gather of the file in this slot; none where it is refused.
-    pub fn gather<'a>(old: &'a [u8], slot: usize) -> Option<Change<'a>> {
+    pub fn gather<'a>(old: &'a [u8], slot: usize) -> Option<AcceptedChange<'a>> {
         let facts = Facts::of(old);
         let live = facts.live.iter().find(|live| live.slot == slot).expect("it is live");
         let list = vec![0x5c; 2 * (live.sectors.len() + 1)];
-        let asked = Asked::new(Call::Gather).with(NAME, live.name).with(OUT, list);
-        Change::make(asked, facts, old)
+        let asked = OwnedRequest::new(Call::Gather).with(NAME, live.name).with(OUT, list);
+        AcceptedChange::make(asked, facts, old)
     }
 
     /// Whether it is a gather of a file that must move.
@@ -86,8 +88,8 @@ impl Change<'_> {
     }
 
     /// The change that this asks for; none where it is refused.
-    pub fn of(asked: Asked, old: &[u8]) -> Option<Change<'_>> {
-        Change::make(asked, Facts::of(old), old)
+    pub fn of(asked: OwnedRequest, old: &[u8]) -> Option<AcceptedChange<'_>> {
+        AcceptedChange::make(asked, Facts::of(old), old)
     }
 
     /// Whether it takes a slot: a save, or the close of a recording.
@@ -95,11 +97,11 @@ impl Change<'_> {
         matches!(self.asked.call, Call::Save | Call::RecordClose)
     }
 
-    fn make<'a>(asked: Asked, facts: Facts, old: &'a [u8]) -> Option<Change<'a>> {
+    fn make<'a>(asked: OwnedRequest, facts: Facts, old: &'a [u8]) -> Option<AcceptedChange<'a>> {
         let left = compare::ask(&asked.on(old), &mut Margins::default());
         let named = left.out.chunks_exact(2).take(calls::value(left.answer));
         let named = named.map(|pair| usize::from(pair[0]) + 256 * usize::from(pair[1])).collect();
-        Some(Change {
+        Some(AcceptedChange {
             new: left.image?,
             asked,
             old,
@@ -166,7 +168,7 @@ impl Change<'_> {
     /// Whether it erases a directory.
     pub fn erases_a_directory(&self) -> bool {
         let found = self.facts.find(&self.asked.slices[NAME]);
-        self.asked.call == Call::Erase && found.is_some_and(Live::is_directory)
+        self.asked.call == Call::Erase && found.is_some_and(LiveSlot::is_directory)
     }
 
     /// Where the directories fitted together they do still: the tree is the old one, without the slot that an erase frees, and
@@ -259,13 +261,14 @@ impl Change<'_> {
 }
 
 /// A rename of a file that is not protected to its own name in other letters; none where no file has a name for that.
-fn in_other_letters(facts: &Facts, random: &mut Random) -> Option<Asked> {
+fn in_other_letters(facts: &Facts, random: &mut Random) -> Option<OwnedRequest> {
     let usable = |name: &names::Name| name[0] != 32 && name.iter().all(|byte| (32..=126).contains(byte));
-    let fit = |live: &&Live| !live.protected && usable(&live.name) && live.name.iter().any(|&byte| names::is_letter(byte));
+    let fit =
+        |live: &&LiveSlot| !live.protected && usable(&live.name) && live.name.iter().any(|&byte| names::is_letter(byte));
     let names: Vec<_> = facts.live.iter().filter(fit).map(|live| live.name).collect();
     (!names.is_empty()).then_some(())?;
     let name = random.pick(&names);
     let new = std::iter::repeat_with(|| names::turned(name, random)).find(|new| *new != name)?;
-    let asked = Asked::new(Call::Rename).with(NAME, names::turned(name, random));
+    let asked = OwnedRequest::new(Call::Rename).with(NAME, names::turned(name, random));
     Some(asked.with(NEW, new).with(OUT, random.bytes(5)))
 }

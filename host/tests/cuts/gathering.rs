@@ -2,21 +2,21 @@
 
 use crate::Counts;
 use crate::answers::{self, Answers};
-use crate::change::Change;
-use crate::support::disks::{self, Disk};
-use crate::support::gathers::{self, Goes};
+use crate::change::AcceptedChange;
+use crate::support::disks::{self, DrawnDisk};
+use crate::support::gathers::{self, GatherResult};
 use crate::support::random::Random;
-use crate::support::shapes::{Ground, Order, Shape};
+use crate::support::shapes::{Background, Order, Shape};
 use crate::{after, cut};
 
 /// A file of so many sectors in slot 2, between two of one sector; taken in this order.
-fn disk(extra: usize, sectors: usize, order: Order, random: &mut Random) -> Disk {
+fn disk(extra: usize, sectors: usize, order: Order, random: &mut Random) -> DrawnDisk {
     let shape = Shape {
         extra,
         files: vec![(1, 1), (2, sectors), (3, 1), (4, 0)],
         end: Some(6),
         order,
-        ground: Ground::Rubbish,
+        background: Background::Rubbish,
         tidy: false,
     };
     disks::of_shape(&shape, random)
@@ -37,7 +37,7 @@ fn every_place() {
     ] {
         let random = &mut Random::new(8_900_000 + sectors as u64);
         let disk = disk(extra, sectors, order, random);
-        let change = Change::gather(&disk.image, 2).expect("there is room");
+        let change = AcceptedChange::gather(&disk.image, 2).expect("there is room");
         assert_eq!(change.named.len(), sectors + 1);
         change.names_its_sectors();
         after::examine(&change);
@@ -61,8 +61,8 @@ fn every_place() {
 }
 
 /// A gather that was cut can be asked for again, and leaves the same disk.
-fn gathered_after_the_cut(change: &Change, left: &[u8]) {
-    let again = Change::gather(left, 2).expect("there is room still");
+fn gathered_after_the_cut(change: &AcceptedChange, left: &[u8]) {
+    let again = AcceptedChange::gather(left, 2).expect("there is room still");
     assert!(again.new == change.new, "another disk than without the cut");
     assert_eq!(again.named, change.named);
 }
@@ -80,11 +80,11 @@ fn the_largest_gather() {
                 files: vec![(2, sectors)],
                 end: None,
                 order: Order::Falling,
-                ground: Ground::Rubbish,
+                background: Background::Rubbish,
                 tidy: false,
             };
             let disk = disks::of_shape(&shape, random);
-            match Change::gather(&disk.image, 2) {
+            match AcceptedChange::gather(&disk.image, 2) {
                 Some(change) => {
                     assert!(moves, "{sectors} of {data}");
                     assert_eq!(change.named.len(), sectors + 1);
@@ -102,13 +102,16 @@ fn a_file_in_a_row() {
     for (extra, sectors) in [(0, 1), (0, 2), (0, 700), (1, 1), (35, 200)] {
         let random = &mut Random::new(8_960_000 + sectors as u64);
         let disk = disk(extra, sectors, Order::Rising, random);
-        let change = Change::gather(&disk.image, 3).expect("it is left");
+        let change = AcceptedChange::gather(&disk.image, 3).expect("it is left");
         assert!(change.named.is_empty() && change.new == disk.image);
         cut(&change, &mut Counts::default(), random);
         // With n above 0 the first file has track 4 sector 1, and the second lies behind the directory.
-        let change = Change::gather(&disk.image, 2).expect("it is left");
+        let change = AcceptedChange::gather(&disk.image, 2).expect("it is left");
         let live = &change.facts.live[1];
-        assert_eq!(gathers::goes(&disk.image, &change.facts, live), Goes::Nowhere);
+        assert_eq!(
+            gathers::gather_result(&disk.image, &change.facts, live),
+            GatherResult::InPlace
+        );
         assert!(change.named.is_empty());
     }
 }

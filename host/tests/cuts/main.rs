@@ -6,7 +6,7 @@
 //! - `change`: the drawn change, the sectors it names, and what it leaves.
 //! - `after`: what a change must leave, once more from document 01.
 //! - `gathering`: gathers cut after every sector.
-//! - `handful`: names erased at once, where each sector counts as a change of its own.
+//! - `erase_many`: names erased at once, where each sector counts as a change of its own.
 //! - `recording`: each piece of a recording, and its close.
 //! - `answers`: the questions, and the answers on the old disk and on a cut one.
 //!
@@ -18,17 +18,17 @@ mod support;
 mod after;
 mod answers;
 mod change;
+mod erase_many;
 mod gathering;
-mod handful;
 mod recording;
 
 use answers::Answers;
-use change::Change;
+use change::AcceptedChange;
 use support::calls::{CHANGES, Call};
 use support::disks;
 use support::random::Random;
 use support::settings::{Round, Rounds};
-use support::shapes::{Ground, Order, Shape};
+use support::shapes::{Background, Order, Shape};
 
 /// How many changes of each sort were cut, at how many places, and how many answers were compared.
 #[derive(Default)]
@@ -61,7 +61,7 @@ fn every_change_cut_anywhere() {
             .into_iter()
             .chain([Call::Save, Call::Save, Call::Gather, Call::Gather])
         {
-            if let Some(change) = Change::draw(call, &disk.image, random) {
+            if let Some(change) = AcceptedChange::draw(call, &disk.image, random) {
                 cut(&change, &mut counts, random);
             }
         }
@@ -140,7 +140,7 @@ fn saves_into(extra: usize, end: usize, counts: &mut Counts) {
         if end < last {
             disk.slot_mut(end + 1)[..2].copy_from_slice(&next);
         }
-        let change = Change::save(&disk.image, 700, random).expect("it has room");
+        let change = AcceptedChange::save(&disk.image, 700, random).expect("it has room");
         assert_eq!(change.facts.taken, Some(end));
         assert_eq!(change.facts.cleared, (end < last && next[1] != 0).then_some(end + 1));
         cut(&change, counts, random);
@@ -154,7 +154,7 @@ fn ending(extra: usize, end: usize) -> Shape {
         files: (1..end).map(|slot| (slot, 1)).collect(),
         end: Some(end),
         order: Order::Scattered,
-        ground: Ground::Rubbish,
+        background: Background::Rubbish,
         tidy: false,
     }
 }
@@ -165,13 +165,13 @@ fn the_largest_save_cut_anywhere() {
     let random = &mut Random::new(9_000_000);
     let shape = Shape::with(0, 0, random);
     let disk = disks::of_shape(&shape, random);
-    let change = Change::save(&disk.image, 795_591, random).expect("an empty disk takes it");
+    let change = AcceptedChange::save(&disk.image, 795_591, random).expect("an empty disk takes it");
     assert_eq!(change.named.len(), 1_561);
     cut(&change, &mut Counts::default(), random);
     // All sectors but that of a file before the end, and two of the directory.
     let mut disk = disks::of_shape(&ending(0, 2), random);
     disk.slot_mut(3)[..2].copy_from_slice(b"\xffX");
-    let change = Change::save(&disk.image, 795_591 - 510, random).expect("the room is there");
+    let change = AcceptedChange::save(&disk.image, 795_591 - 510, random).expect("the room is there");
     assert_eq!((change.named.len(), &change.named[1_559..]), (1_561, &[1, 0][..]));
     cut(&change, &mut Counts::default(), random);
     // All sectors there are, beside a directory, and two of the directory's: the longest list.
@@ -179,12 +179,12 @@ fn the_largest_save_cut_anywhere() {
     shape.files = vec![(1, 0)];
     let mut disk = disks::of_shape(&shape, random);
     disk.slot_mut(3)[..2].copy_from_slice(b"\xffX");
-    let change = Change::save(&disk.image, 795_591, random).expect("no sector is taken");
+    let change = AcceptedChange::save(&disk.image, 795_591, random).expect("no sector is taken");
     assert_eq!((change.named.len(), &change.named[1_560..]), (1_562, &[1, 0][..]));
     cut(&change, &mut Counts::default(), random);
 }
 
-fn cut(change: &Change, counts: &mut Counts, random: &mut Random) {
+fn cut(change: &AcceptedChange, counts: &mut Counts, random: &mut Random) {
     change.names_its_sectors();
     after::examine(change);
     let answers = Answers::of(change, random);

@@ -2,19 +2,19 @@
 //! wherever it is cut and where it is not; a close is a change like a save, and can be made again.
 
 use crate::answers::{self, Answers};
-use crate::change::Change;
+use crate::change::AcceptedChange;
 use crate::ending;
-use crate::support::asking::Asked;
 use crate::support::calls::{self, BODY};
 use crate::support::compare;
-use crate::support::disks::{self, Disk};
+use crate::support::disks::{self, DrawnDisk};
 use crate::support::facts::Facts;
 use crate::support::geometry::{PAYLOAD, SECTOR, address, bit_place, fills};
 use crate::support::margins::Margins;
 use crate::support::random::Random;
 use crate::support::recordings::Recording;
+use crate::support::requests::OwnedRequest;
+use crate::support::save_requests;
 use crate::support::settings::{Round, Rounds};
-use crate::support::wishes;
 
 #[derive(Default, Debug)]
 struct Counts {
@@ -28,7 +28,7 @@ struct Counts {
 }
 
 /// The refusal of a request.
-fn refusal(asked: &Asked, disk: &[u8]) -> u8 {
+fn refusal(asked: &OwnedRequest, disk: &[u8]) -> u8 {
     calls::refusal(compare::ask(&asked.on(disk), &mut Margins::default()).answer)
 }
 
@@ -42,7 +42,7 @@ fn is_linked(recording: &Recording, disk: &[u8]) -> bool {
 
 /// Adds a piece, cut after every sector, and gives the disk with all of them.
 fn piece(recording: &mut Recording, piece: &[u8], old: &[u8], counts: &mut Counts, random: &mut Random) -> Vec<u8> {
-    let change = Change::of(recording.add(piece, 3_116), old).expect("it fits");
+    let change = AcceptedChange::of(recording.add(piece, 3_116), old).expect("it fits");
     *recording = recording.with(piece);
     change.names_its_sectors();
     let answers = Answers::of(&change, random);
@@ -70,7 +70,7 @@ fn piece(recording: &mut Recording, piece: &[u8], old: &[u8], counts: &mut Count
 
 /// Closes it, cut after every sector.
 fn close(recording: &Recording, old: &[u8], counts: &mut Counts, random: &mut Random) {
-    let change = Change::of(recording.close(8), old).expect("nothing stands against it");
+    let change = AcceptedChange::of(recording.close(8), old).expect("nothing stands against it");
     change.names_its_sectors();
     let answers = Answers::of(&change, random);
     for k in 0..=change.named.len() {
@@ -88,7 +88,7 @@ fn close(recording: &Recording, old: &[u8], counts: &mut Counts, random: &mut Ra
             continue;
         }
         counts.answers += answers.same_on(&disk);
-        let again = Change::of(recording.close(8), &disk).expect("it can be made again");
+        let again = AcceptedChange::of(recording.close(8), &disk).expect("it can be made again");
         assert!(again.new == change.new, "another disk than without the cut");
     }
     counts.recordings += 1;
@@ -97,7 +97,7 @@ fn close(recording: &Recording, old: &[u8], counts: &mut Counts, random: &mut Ra
 /// A recording of this body, in pieces of drawn lengths, each of them and the close cut after every sector.
 fn record(image: &[u8], body: &[u8], counts: &mut Counts, random: &mut Random) {
     let facts = Facts::of(image);
-    let mut recording = Recording::of(&wishes::good(&facts, random), &facts);
+    let mut recording = Recording::of(&save_requests::accepted(&facts, random), &facts);
     let (mut rest, mut image) = (body, image.to_vec());
     while !rest.is_empty() {
         let length = random.pick(&[1, 300, 510, 511, 1_100, 2_000]).min(rest.len());
@@ -135,7 +135,7 @@ fn recordings_into_the_end_cut_anywhere() {
     let mut counts = Counts::default();
     for (extra, end) in [(0, 1), (0, 2), (0, 20), (0, 80), (1, 80), (1, 98), (35, 777), (35, 778)] {
         let random = &mut Random::new(23_500_000 + end as u64);
-        let mut disk: Disk = disks::of_shape(&ending(extra, end), random);
+        let mut disk: DrawnDisk = disks::of_shape(&ending(extra, end), random);
         if end < disk.slots() {
             disk.slot_mut(end + 1)[..2].copy_from_slice(&[19, b'X']);
         }
@@ -155,13 +155,13 @@ fn links_that_are_there_already() {
     let random = &mut Random::new(23_600_000);
     let disk = disks::of_shape(&ending(0, 3), random);
     let facts = Facts::of(&disk.image);
-    let recording = Recording::of(&wishes::good(&facts, random), &facts);
+    let recording = Recording::of(&save_requests::accepted(&facts, random), &facts);
     let saved = recording.with(&random.bytes(2_300)).save();
     let saved = saved.with(BODY, random.bytes(2_300));
-    let mut old = Change::of(saved, &disk.image).expect("it has room").new;
+    let mut old = AcceptedChange::of(saved, &disk.image).expect("it has room").new;
     old[crate::support::geometry::slot_place(3)] = 0;
     let mut counts = Counts::default();
-    let mut again = Recording::of(&wishes::good(&Facts::of(&old), random), &Facts::of(&old));
+    let mut again = Recording::of(&save_requests::accepted(&Facts::of(&old), random), &Facts::of(&old));
     let body = random.bytes(2_300);
     let image = piece(&mut again, &body, &old, &mut counts, random);
     assert_eq!((counts.moved, counts.linked), (0, 3));

@@ -3,10 +3,10 @@
 
 use crate::support::calls::{self, Call, NAME, OUT, Request};
 use crate::support::compare;
-use crate::support::disks::{self, Disk, File};
+use crate::support::directories;
+use crate::support::disks::{self, DrawnDisk, DrawnFile};
 use crate::support::facts::Facts;
 use crate::support::fields;
-use crate::support::folders;
 use crate::support::geometry::{bit_place, number};
 use crate::support::margins::Margins;
 use crate::support::random::Random;
@@ -32,7 +32,7 @@ fn drawn_disks_answer_what_was_drawn() {
 }
 
 /// 258 bytes for each live slot, rising: its number, low byte first, and its bytes; then what stood there.
-fn listed(disk: &Disk, lender: &mut Margins) {
+fn listed(disk: &DrawnDisk, lender: &mut Margins) {
     let mut expected = Vec::new();
     for file in &disk.files {
         expected.extend((file.slot as u16).to_le_bytes());
@@ -50,9 +50,9 @@ fn listed(disk: &Disk, lender: &mut Margins) {
 }
 
 /// The tree of the root and of each directory, and 13 for each file; or what refuses them all. Gives how many trees there are.
-fn nested(disk: &Disk, lender: &mut Margins) -> usize {
+fn nested(disk: &DrawnDisk, lender: &mut Margins) -> usize {
     let facts = Facts::of(&disk.image);
-    let refused = folders::refused(&facts);
+    let refused = directories::refused(&facts);
     let mut trees = 0;
     for live in [None].into_iter().chain(facts.live.iter().map(Some)) {
         let name = live.map_or(&[][..], |live| &live.name);
@@ -64,7 +64,7 @@ fn nested(disk: &Disk, lender: &mut Margins) -> usize {
             (Some(refused), _) => assert_eq!(given, refused),
             (None, Some(live)) if !live.is_directory() => assert_eq!(given, (13, live.slot)),
             (None, _) => {
-                let slots = folders::beneath(&facts, live);
+                let slots = directories::beneath(&facts, live);
                 let mut expected: Vec<u8> = slots.iter().flat_map(|&slot| (slot as u16).to_le_bytes()).collect();
                 expected.resize(out.len(), 0x5c);
                 assert_eq!((given, calls::value(left.answer)), ((0, 0), slots.len()));
@@ -76,7 +76,7 @@ fn nested(disk: &Disk, lender: &mut Margins) -> usize {
     trees
 }
 
-fn read(disk: &Disk, file: &File, lender: &mut Margins) {
+fn read(disk: &DrawnDisk, file: &DrawnFile, lender: &mut Margins) {
     let out = vec![0x5c; file.body.len() + 9];
     let left = compare::ask(
         &Request::new(Call::Read, &disk.image).with(NAME, &file.name).with(OUT, &out),
@@ -93,7 +93,7 @@ fn read(disk: &Disk, file: &File, lender: &mut Margins) {
 }
 
 /// The body's length, and where it begins.
-fn opened(disk: &Disk, file: &File, lender: &mut Margins) {
+fn opened(disk: &DrawnDisk, file: &DrawnFile, lender: &mut Margins) {
     let answer = compare::ask(&Request::new(Call::Open, &disk.image).with(NAME, &file.name), lender).answer;
     if !fields::is_readable(file.kind) {
         return assert_eq!((calls::refusal(answer), calls::slot(answer)), (13, file.slot));
@@ -107,7 +107,7 @@ fn opened(disk: &Disk, file: &File, lender: &mut Margins) {
     assert_eq!(given, (0, file.body.len(), number(bit_place(file.chain[0])), 9));
 }
 
-fn started(disk: &Disk, file: &File, lender: &mut Margins) {
+fn started(disk: &DrawnDisk, file: &DrawnFile, lender: &mut Margins) {
     let answer = compare::ask(&Request::new(Call::Start, &disk.image).with(NAME, &file.name), lender).answer;
     let given = (calls::refusal(answer), calls::slot(answer), calls::value(answer));
     let expected = match fields::start(disk.slot(file.slot)) {

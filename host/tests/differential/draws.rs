@@ -1,29 +1,29 @@
 //! Drawn disks with drawn requests, whole disks and damaged ones, and a count of which call gave which refusal.
 
-use crate::support::asking::{self, WRONG_LENGTHS};
 use crate::support::calls::{CALLS, CHANGES, Call, OUT, Request, refusal, slot};
-use crate::support::compare::{self, Left};
-use crate::support::damage::{self, Outcome};
-use crate::support::disks::{self, Disk};
+use crate::support::compare::{self, Returned};
+use crate::support::damage::{self, Expected};
+use crate::support::directories;
+use crate::support::disks::{self, DrawnDisk};
 use crate::support::facts::Facts;
-use crate::support::folders;
 use crate::support::geometry::IMAGE;
 use crate::support::margins::Margins;
 use crate::support::random::Random;
+use crate::support::requests::{self, WRONG_LENGTHS};
 use crate::support::settings::{Round, Rounds};
 use crate::support::tally::Tally;
 use crate::support::waste;
 
 /// What all drawn requests go through.
 #[derive(Default)]
-struct Run {
+struct Comparison {
     lender: Margins,
     tally: Tally,
     disks: usize,
 }
 
-impl Run {
-    fn ask(&mut self, request: &Request) -> Left {
+impl Comparison {
+    fn ask(&mut self, request: &Request) -> Returned {
         let left = compare::ask(request, &mut self.lender);
         self.tally.count(request.call, left.answer);
         left
@@ -35,10 +35,10 @@ impl Run {
         let room = vec![0x5c; 2 * facts.live.len()];
         let left = self.ask(&Request::new(Call::Tree, image).with(OUT, &room));
         let given = (refusal(left.answer), slot(left.answer));
-        match folders::refused(&facts) {
+        match directories::refused(&facts) {
             Some(refused) => assert_eq!(given, refused, "the tree"),
             None => {
-                let slots: Vec<u8> = folders::beneath(&facts, None)
+                let slots: Vec<u8> = directories::beneath(&facts, None)
                     .iter()
                     .flat_map(|&slot| (slot as u16).to_le_bytes())
                     .collect();
@@ -67,8 +67,8 @@ impl Run {
 
 #[test]
 fn every_call_answers_as_the_paper() {
-    let mut run = Run::default();
-    let parts: [fn(&mut Run) -> bool; 5] = [whole, damaged, much_damaged, wrong_lengths, histories];
+    let mut run = Comparison::default();
+    let parts: [fn(&mut Comparison) -> bool; 5] = [whole, damaged, much_damaged, wrong_lengths, histories];
     let enough = parts.map(|part| part(&mut run));
     let table = run.tally.table();
     println!(
@@ -88,7 +88,7 @@ fn every_call_answers_as_the_paper() {
 }
 
 /// Disks that are accepted, several requests of every call on each.
-fn whole(run: &mut Run) -> bool {
+fn whole(run: &mut Comparison) -> bool {
     let rounds = Rounds::new(1_000_000, 700);
     for seed in rounds.seeds() {
         let _round = Round(seed);
@@ -98,7 +98,7 @@ fn whole(run: &mut Run) -> bool {
         let facts = Facts::of(&disk.image);
         for call in CALLS {
             for _ in 0..3 {
-                run.ask(&asking::draw(call, &facts, random).on(&disk.image));
+                run.ask(&requests::draw(call, &facts, random).on(&disk.image));
             }
         }
     }
@@ -106,7 +106,7 @@ fn whole(run: &mut Run) -> bool {
 }
 
 /// One damage on each disk, every sort of damage in turn.
-fn damaged(run: &mut Run) -> bool {
+fn damaged(run: &mut Comparison) -> bool {
     let all = damage::all();
     let rounds = Rounds::new(2_000_000, 12 * all.len() as u64);
     for seed in rounds.seeds() {
@@ -120,7 +120,7 @@ fn damaged(run: &mut Run) -> bool {
 }
 
 /// Two damages or more on each disk: the order of the table decides.
-fn much_damaged(run: &mut Run) -> bool {
+fn much_damaged(run: &mut Comparison) -> bool {
     let rounds = Rounds::new(3_000_000, 400);
     for seed in rounds.seeds() {
         let _round = Round(seed);
@@ -132,17 +132,17 @@ fn much_damaged(run: &mut Run) -> bool {
 }
 
 /// The check says what follows from the damage; every other call that looks at the directory refuses alike.
-fn on_damaged(run: &mut Run, disk: &Disk, outcome: Outcome, title: &str, random: &mut Random) {
+fn on_damaged(run: &mut Comparison, disk: &DrawnDisk, outcome: Expected, title: &str, random: &mut Random) {
     let check = run.check(&disk.image);
     let given = (refusal(check), slot(check));
     match outcome {
-        Outcome::Open => {}
-        Outcome::Accepted | Outcome::Ends(_) => assert_eq!(given, (0, 0), "{title}: must be accepted"),
-        Outcome::Refused(number, slot) => assert_eq!(given, (number, slot), "{title}: another refusal follows"),
+        Expected::Open => {}
+        Expected::Accepted | Expected::Ends(_) => assert_eq!(given, (0, 0), "{title}: must be accepted"),
+        Expected::Refused(number, slot) => assert_eq!(given, (number, slot), "{title}: another refusal follows"),
     }
     let facts = Facts::of(&disk.image);
     for call in CALLS {
-        let answer = run.ask(&asking::draw(call, &facts, random).on(&disk.image)).answer;
+        let answer = run.ask(&requests::draw(call, &facts, random).on(&disk.image)).answer;
         assert!(
             check == 0 || call.is_raw() || call == Call::CheckRelease || answer == check,
             "{title}: {call:?} and check differ"
@@ -151,7 +151,7 @@ fn on_damaged(run: &mut Run, disk: &Disk, outcome: Outcome, title: &str, random:
 }
 
 /// Images that are too short or too long.
-fn wrong_lengths(run: &mut Run) -> bool {
+fn wrong_lengths(run: &mut Comparison) -> bool {
     let rounds = Rounds::new(4_000_000, 2 * WRONG_LENGTHS.len() as u64);
     for seed in rounds.seeds() {
         let _round = Round(seed);
@@ -162,7 +162,7 @@ fn wrong_lengths(run: &mut Run) -> bool {
         disk.image.resize(length, 0);
         assert_eq!(run.check(&disk.image), 1, "{length} bytes");
         for call in CALLS {
-            let answer = run.ask(&asking::draw(call, &facts, random).on(&disk.image)).answer;
+            let answer = run.ask(&requests::draw(call, &facts, random).on(&disk.image)).answer;
             let as_it_should = call.is_report() || answer == call.answer_to_no_image();
             assert!(as_it_should, "{call:?} on {length} bytes");
         }
@@ -171,7 +171,7 @@ fn wrong_lengths(run: &mut Run) -> bool {
 }
 
 /// Change after change on one disk, each on what the one before left.
-fn histories(run: &mut Run) -> bool {
+fn histories(run: &mut Comparison) -> bool {
     let rounds = Rounds::new(5_000_000, 60);
     for seed in rounds.seeds() {
         let _round = Round(seed);
@@ -187,7 +187,7 @@ fn histories(run: &mut Run) -> bool {
                 8 => Call::EraseMany,
                 _ => random.pick(&CHANGES),
             };
-            let asked = asking::draw(call, &Facts::of(&image), random);
+            let asked = requests::draw(call, &Facts::of(&image), random);
             let left = run.ask(&asked.on(&image));
             image = left.image.unwrap_or(image);
         }

@@ -1,27 +1,27 @@
 //! Every file of drawn disks gathered, by what was drawn: the expectation comes from the disk's own bytes.
 
-use crate::support::asking::Asked;
 use crate::support::calls::{self, Call, NAME, OUT, Request};
-use crate::support::compare::{self, Left};
-use crate::support::disks::{self, Disk, File};
+use crate::support::compare::{self, Returned};
+use crate::support::disks::{self, DrawnDisk, DrawnFile};
 use crate::support::facts::Facts;
 use crate::support::fields;
-use crate::support::gathers::{self, Goes};
+use crate::support::gathers::{self, GatherResult};
 use crate::support::margins::Margins;
 use crate::support::random::Random;
+use crate::support::requests::OwnedRequest;
 use crate::support::settings::{Round, Rounds};
 
 /// How many files moved, were left, and could not move; and how many directories were refused.
 type Counts = [usize; 4];
 
-fn gather(image: &[u8], file: &File, lender: &mut Margins) -> Left {
+fn gather(image: &[u8], file: &DrawnFile, lender: &mut Margins) -> Returned {
     let room = vec![0x5c; 2 * (file.chain.len() + 1)];
-    let asked = Asked::new(Call::Gather).with(NAME, file.name).with(OUT, room);
+    let asked = OwnedRequest::new(Call::Gather).with(NAME, file.name).with(OUT, room);
     compare::ask(&asked.on(image), lender)
 }
 
 /// Gathers a file of an image and compares the answer with what the image's bytes ask for. Gives the image left.
-fn gathered(image: &[u8], file: &File, lender: &mut Margins, counts: &mut Counts) -> Vec<u8> {
+fn gathered(image: &[u8], file: &DrawnFile, lender: &mut Margins, counts: &mut Counts) -> Vec<u8> {
     let facts = Facts::of(image);
     let live = facts.live.iter().find(|live| live.slot == file.slot).expect("it is live");
     let left = gather(image, file, lender);
@@ -36,13 +36,13 @@ fn gathered(image: &[u8], file: &File, lender: &mut Margins, counts: &mut Counts
         counts[3] += 1;
         return new;
     }
-    match gathers::goes(image, &facts, live) {
-        Goes::Nowhere => {
+    match gathers::gather_result(image, &facts, live) {
+        GatherResult::InPlace => {
             assert_eq!(given, (0, 0, 0));
             assert!(new == image);
             counts[1] += 1;
         }
-        Goes::To(start) => {
+        GatherResult::MovedTo(start) => {
             assert_eq!(given, (0, 0, file.chain.len() + 1));
             let facts = Facts::of(&new);
             let live = facts.live.iter().find(|live| live.slot == file.slot).expect("it is live");
@@ -51,7 +51,7 @@ fn gathered(image: &[u8], file: &File, lender: &mut Margins, counts: &mut Counts
             assert_eq!(gather(&new, file, lender).answer, 0, "gathered again it is left");
             counts[0] += 1;
         }
-        Goes::Stuck => {
+        GatherResult::NoRun => {
             assert_eq!(given, (32, 0, 0));
             counts[2] += 1;
         }
@@ -60,7 +60,7 @@ fn gathered(image: &[u8], file: &File, lender: &mut Margins, counts: &mut Counts
 }
 
 /// Every body that can be read is what was drawn.
-fn reads_as_drawn(disk: &Disk, image: &[u8], lender: &mut Margins) {
+fn reads_as_drawn(disk: &DrawnDisk, image: &[u8], lender: &mut Margins) {
     for file in disk.files.iter().filter(|file| fields::is_readable(file.kind)) {
         let out = vec![0x5c; file.body.len()];
         let request = Request::new(Call::Read, image).with(NAME, &file.name).with(OUT, &out);
@@ -84,7 +84,7 @@ fn every_file_of_drawn_disks() {
         let random = &mut Random::new(seed);
         let disk = disks::draw(random);
         let some = disk.files.iter().filter(|_| disk.files.len() < 20 || random.one_in(10));
-        let some: Vec<&File> = some.collect();
+        let some: Vec<&DrawnFile> = some.collect();
         for file in &some {
             gathered(&disk.image, file, &mut lender, &mut alone);
         }

@@ -7,10 +7,10 @@
 //! - `sectors`: every drive, track and sector of the raw sector call.
 //! - `gathers`: every file of drawn disks gathered, alone and one after the other.
 //! - `pieces`: readers, however the asking is cut, and readers of any three numbers.
-//! - `handfuls`: names erased at once, and one after the other.
+//! - `erase_many`: names erased at once, and one after the other.
 //! - `recordings`: saves whose body comes in pieces, alone and among other changes.
-//! - `reports`: shelves in numbers, and reports of any bytes.
-//! - `ticks`: marks in either order, marks of two phones merged, and renames taken back.
+//! - `reports`: disks in numbers, and reports of any bytes.
+//! - `mark_order`: marks in either order, marks of two phones merged, and renames taken back.
 //!
 //! `VARNUCHT_SEED` and `VARNUCHT_ROUNDS` draw other tests, or a single one again. `VARNUCHT_TABLE` names a file for the table
 //! of counts, which `--nocapture` shows too.
@@ -21,10 +21,10 @@ mod support;
 mod drawn;
 mod draws;
 mod edges;
+mod erase_many;
 mod gathers;
-mod handfuls;
+mod mark_order;
 mod pieces;
 mod recordings;
 mod reports;
 mod sectors;
-mod ticks;

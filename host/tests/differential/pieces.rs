@@ -1,16 +1,16 @@
 //! Readers. Every piece is compared with `paper`, and with what was drawn or what a walk byte by byte gives, so that these
 //! cannot be wrong together. The image is lent once for many pieces, each of which has a buffer of its own.
 
-use crate::support::asking::WRONG_LENGTHS;
-use crate::support::calls::{self, Call, NAME, NOTHING, NOTHING_COMES, OUT, Part, Request, SLICES, ask_c};
+use crate::support::calls::{self, Call, NAME, NOTHING, NOTHING_COMES, OUT, RawSlice, Request, SLICES, ask_c};
 use crate::support::compare::{self, Lend};
 use crate::support::damage;
-use crate::support::disks::{self, Disk, File};
+use crate::support::disks::{self, DrawnDisk, DrawnFile};
 use crate::support::fields;
 use crate::support::geometry::{BITS, IMAGE, LONGEST, PAYLOAD, SECTORS, address, bit_place, fills, number};
 use crate::support::margins::Margins;
 use crate::support::random::Random;
-use crate::support::readers::{self, END, Spot};
+use crate::support::readers::{self, END, Position};
+use crate::support::requests::WRONG_LENGTHS;
 use crate::support::settings::{Round, Rounds};
 use crate::support::shapes::Shape;
 use paper::Reader;
@@ -19,7 +19,7 @@ use paper::Reader;
 struct Lent<'a> {
     image: &'a [u8],
     lender: Margins,
-    part: Part,
+    part: RawSlice,
     pieces: usize,
 }
 
@@ -36,7 +36,7 @@ impl<'a> Lent<'a> {
     }
 
     /// Asks for the next piece; both sides give one answer, and leave one buffer. Gives what came, and where the next stands.
-    fn next(&mut self, numbers: [u32; 3], room: usize) -> (Vec<u8>, Spot) {
+    fn next(&mut self, numbers: [u32; 3], room: usize) -> (Vec<u8>, Position) {
         let rubbish = 0x5c ^ self.pieces as u8;
         let mut parts = [NOTHING; SLICES];
         parts[calls::IMAGE] = self.part;
@@ -47,10 +47,10 @@ impl<'a> Lent<'a> {
         let (mut reader, mut out) = (Reader { sector, offset, left }, vec![rubbish; room]);
         let came = paper::next(self.image, &mut reader, &mut out);
         let what = || format!("{numbers:?}, room {room}, {}", compare::read_out(answer));
-        let spot = (reader.sector as usize, reader.offset as usize);
+        let position = (reader.sector as usize, reader.offset as usize);
         assert_eq!(calls::refusal(answer), 0, "{}", what());
         assert_eq!(calls::value(answer), came, "{}", what());
-        assert_eq!((calls::slot(answer), calls::free(answer)), spot, "{}", what());
+        assert_eq!((calls::slot(answer), calls::free(answer)), position, "{}", what());
         assert!(self.lender.bytes(OUT) == out, "the buffers differ: {}", what());
         assert!(
             out[came..].iter().all(|&byte| byte == rubbish),
@@ -60,7 +60,7 @@ impl<'a> Lent<'a> {
         assert!(self.lender.around(OUT), "bytes around it are changed: {}", what());
         self.pieces += 1;
         out.truncate(came);
-        (out, spot)
+        (out, position)
     }
 
     /// The same, and what came is what a walk byte by byte gives.
@@ -82,7 +82,7 @@ impl<'a> Lent<'a> {
 }
 
 /// What the C layer says a file's reader begins with; the same as was drawn.
-fn opened(disk: &Disk, file: &File) -> [u32; 3] {
+fn opened(disk: &DrawnDisk, file: &DrawnFile) -> [u32; 3] {
     let request = Request::new(Call::Open, &disk.image).with(NAME, &file.name);
     let answer = compare::ask(&request, &mut Margins::default()).answer;
     let numbers = [calls::slot(answer), calls::free(answer), calls::value(answer)];
@@ -91,7 +91,7 @@ fn opened(disk: &Disk, file: &File) -> [u32; 3] {
 }
 
 /// Where byte `at` of a file's body stands, by the chain that was drawn.
-fn spot(file: &File, at: usize) -> Spot {
+fn position(file: &DrawnFile, at: usize) -> Position {
     let at = at + fields::HEADER;
     let sector = file.chain.get(at / PAYLOAD).map(|&bit| number(bit_place(bit)));
     sector.map_or(END, |sector| (sector, at % PAYLOAD))
@@ -99,7 +99,7 @@ fn spot(file: &File, at: usize) -> Spot {
 
 /// Reads a file with rooms as they come, until all has come and three times more. Every piece is the part of the body that was
 /// drawn, and fills its buffer where the body has so many.
-fn read(lent: &mut Lent, disk: &Disk, file: &File, mut room: impl FnMut(usize) -> usize) {
+fn read(lent: &mut Lent, disk: &DrawnDisk, file: &DrawnFile, mut room: impl FnMut(usize) -> usize) {
     let [mut sector, mut offset, mut left] = opened(disk, file);
     let (mut at, mut after) = (0, 0);
     while after < 3 {
@@ -111,14 +111,14 @@ fn read(lent: &mut Lent, disk: &Disk, file: &File, mut room: impl FnMut(usize) -
             "another piece at {at}"
         );
         at += bytes.len();
-        assert_eq!(stands, spot(file, at), "after {at} bytes");
+        assert_eq!(stands, position(file, at), "after {at} bytes");
         (sector, offset) = (stands.0 as u32, stands.1 as u32);
         left -= bytes.len() as u32;
     }
 }
 
 /// Each file of a disk: by rooms of one length, by edges in turn, by drawn ones, and whole.
-fn cut(disk: &Disk, random: &mut Random) -> usize {
+fn cut(disk: &DrawnDisk, random: &mut Random) -> usize {
     const SAME: [usize; 6] = [9, 509, 510, 511, 512, 4_096];
     let mut lent = Lent::new(&disk.image);
     for file in disk.files.iter().filter(|file| fields::is_readable(file.kind)) {
@@ -172,7 +172,7 @@ fn the_longest_body() {
 /// A file whose body ends at the end of a sector that is not its last: the reader then stands in the sector behind.
 #[test]
 fn a_body_that_ends_before_its_sectors() {
-    let fits = |file: &File| fields::is_carried(file.kind) && !file.body.is_empty();
+    let fits = |file: &DrawnFile| fields::is_carried(file.kind) && !file.body.is_empty();
     let drawn = (8_300_000..).map(|seed| {
         let random = &mut Random::new(seed);
         disks::of_shape(&Shape::with(1, 5, random), random)
@@ -349,8 +349,8 @@ fn images_of_other_lengths() {
             let out = random.bytes(600);
             let request = Request::new(Call::Next, &image).with(OUT, &out).numbers(numbers);
             let left = compare::ask(&request, &mut Margins::default());
-            assert_eq!(left.answer, NOTHING_COMES, "{}", compare::tell(&request));
-            assert!(left.out == out, "{}", compare::tell(&request));
+            assert_eq!(left.answer, NOTHING_COMES, "{}", compare::describe(&request));
+            assert!(left.out == out, "{}", compare::describe(&request));
         }
     }
 }

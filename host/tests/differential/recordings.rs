@@ -1,24 +1,24 @@
 //! Recordings on drawn disks: each call leaves what follows from the rule, whatever `paper` says, and the closed disk is that of
-//! one save, however the body is cut. With other changes and cuts in between, what was accepted leaves a good disk.
+//! one save, however the body is cut. With other changes and cuts in between, what was accepted leaves an accepted disk.
 
-use crate::support::asking::{self, Asked};
 use crate::support::calls::{self, CHANGES, Call, OUT, RECORD, Request};
-use crate::support::compare::{self, Left};
+use crate::support::compare::{self, Returned};
 use crate::support::disks;
 use crate::support::facts::Facts;
 use crate::support::geometry::{SECTOR, SLOT, fills, sectors_for, slot_place};
 use crate::support::margins::Margins;
 use crate::support::random::Random;
 use crate::support::recordings::{self, Recording};
+use crate::support::requests::{self, OwnedRequest};
+use crate::support::save_requests;
 use crate::support::settings::{Round, Rounds};
-use crate::support::wishes;
 
-fn ask(asked: &Asked, image: &[u8]) -> Left {
+fn ask(asked: &OwnedRequest, image: &[u8]) -> Returned {
     compare::ask(&asked.on(image), &mut Margins::default())
 }
 
 /// The numbers in a list.
-fn listed(left: &Left) -> Vec<usize> {
+fn listed(left: &Returned) -> Vec<usize> {
     let pairs = left.out.chunks_exact(2).take(calls::value(left.answer));
     pairs.map(|pair| usize::from(pair[0]) + 256 * usize::from(pair[1])).collect()
 }
@@ -44,9 +44,9 @@ fn pieces_make_the_disk_of_one_save() {
         let random = &mut Random::new(seed);
         let disk = disks::draw(random);
         let facts = Facts::of(&disk.image);
-        let wish = wishes::good(&facts, random);
-        let body = wish.slices[calls::BODY].clone();
-        let opening = recordings::opening(wish, random.bytes(recordings::LENGTH));
+        let save_request = save_requests::accepted(&facts, random);
+        let body = save_request.slices[calls::BODY].clone();
+        let opening = recordings::opening(save_request, random.bytes(recordings::LENGTH));
         let opened = ask(&opening, &disk.image);
         if facts.taken.is_none() || facts.free == 0 {
             assert_eq!(calls::refusal(opened.answer), if facts.taken.is_none() { 18 } else { 19 });
@@ -123,7 +123,7 @@ struct Counts {
 }
 
 /// A recording, and whether anything but its own calls touched the disk since it was opened.
-struct Open {
+struct OpenRecording {
     recording: Recording,
     record: Vec<u8>,
     touched: bool,
@@ -138,7 +138,7 @@ fn among_other_changes() {
         let _round = Round(seed);
         let random = &mut Random::new(seed);
         let mut image = disks::draw(random).image;
-        let mut open: Vec<Open> = Vec::new();
+        let mut open: Vec<OpenRecording> = Vec::new();
         for _ in 0..40 {
             let facts = Facts::of(&image);
             match random.below(8) {
@@ -156,7 +156,7 @@ fn among_other_changes() {
                         Some(open) if change == 6 => takes_the_name(&open.recording, &facts, random),
                         _ => None,
                     };
-                    let asked = asked.unwrap_or_else(|| asking::draw(random.pick(&CHANGES), &facts, random));
+                    let asked = asked.unwrap_or_else(|| requests::draw(random.pick(&CHANGES), &facts, random));
                     image = cut(&image, ask(&asked, &image), random).0;
                     open.iter_mut().for_each(|open| open.touched = true);
                 }
@@ -173,10 +173,10 @@ fn among_other_changes() {
     );
 }
 
-fn opened(image: &[u8], facts: &Facts, random: &mut Random) -> Option<Open> {
-    let opening = recordings::opening(wishes::good(facts, random), vec![0; recordings::LENGTH]);
+fn opened(image: &[u8], facts: &Facts, random: &mut Random) -> Option<OpenRecording> {
+    let opening = recordings::opening(save_requests::accepted(facts, random), vec![0; recordings::LENGTH]);
     let left = ask(&opening, image);
-    (left.answer == 0).then(|| Open {
+    (left.answer == 0).then(|| OpenRecording {
         recording: Recording::of(&opening, facts),
         record: left.record,
         touched: false,
@@ -184,17 +184,24 @@ fn opened(image: &[u8], facts: &Facts, random: &mut Random) -> Option<Open> {
 }
 
 /// A rename of some file that takes the name of a recording; none where there is no file.
-fn takes_the_name(recording: &Recording, facts: &Facts, random: &mut Random) -> Option<Asked> {
+fn takes_the_name(recording: &Recording, facts: &Facts, random: &mut Random) -> Option<OwnedRequest> {
     let names: Vec<_> = facts.live.iter().map(|live| live.name).collect();
     let rename = |name| {
-        let asked = Asked::new(Call::Rename).with(calls::NAME, name).with(OUT, [0x5c; 2]);
+        let asked = OwnedRequest::new(Call::Rename).with(calls::NAME, name).with(OUT, [0x5c; 2]);
         asked.with(calls::NEW, recording.name)
     };
     (!names.is_empty()).then(|| rename(random.pick(&names)))
 }
 
 /// Adds a drawn piece to one of the recordings, and cuts it or not. What is seen stays.
-fn added(open: &mut [Open], at: usize, image: Vec<u8>, facts: &Facts, counts: &mut Counts, random: &mut Random) -> Vec<u8> {
+fn added(
+    open: &mut [OpenRecording],
+    at: usize,
+    image: Vec<u8>,
+    facts: &Facts,
+    counts: &mut Counts,
+    random: &mut Random,
+) -> Vec<u8> {
     let (length, room) = match random.below(12) {
         0 => (fills(facts.free + 1), 3_116),
         1 => (random.between(1_100, 3_000), random.below(3)),
@@ -222,7 +229,7 @@ fn added(open: &mut [Open], at: usize, image: Vec<u8>, facts: &Facts, counts: &m
 
 /// Closes one of the recordings, and cuts that or not.
 fn closed(
-    open: &mut Vec<Open>,
+    open: &mut Vec<OpenRecording>,
     at: usize,
     image: Vec<u8>,
     facts: &Facts,
@@ -247,7 +254,7 @@ fn closed(
         open.touched |= other != at;
     }
     if whole {
-        let Open { recording, touched, .. } = open.remove(at);
+        let OpenRecording { recording, touched, .. } = open.remove(at);
         counts.between += usize::from(touched);
         reads_as_recorded(&recording, touched, &after);
     }
@@ -258,7 +265,9 @@ fn closed(
 /// The closed file has as many bytes as came, and reads as its sectors do: those that came, where nothing came in between.
 fn reads_as_recorded(recording: &Recording, touched: bool, image: &[u8]) {
     let room = vec![0x5c; recording.body.len()];
-    let read = Asked::new(Call::Read).with(calls::NAME, recording.name).with(OUT, room);
+    let read = OwnedRequest::new(Call::Read)
+        .with(calls::NAME, recording.name)
+        .with(OUT, room);
     let left = ask(&read, image);
     assert_eq!(left.answer, (recording.body.len() as u64) << 24);
     if !touched {
@@ -287,7 +296,7 @@ fn same_files(old: &[u8], new: &[u8], facts: &Facts) {
 }
 
 /// What a change leaves: mostly all of it, else the old disk with some of its first sectors. And whether it is all.
-fn cut(old: &[u8], left: Left, random: &mut Random) -> (Vec<u8>, bool) {
+fn cut(old: &[u8], left: Returned, random: &mut Random) -> (Vec<u8>, bool) {
     let named = listed(&left);
     let Some(new) = left.image else {
         return (old.to_vec(), true);

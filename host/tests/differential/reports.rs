@@ -3,13 +3,13 @@
 
 use crate::support::calls::{Call, OUT, Request, TWO};
 use crate::support::compare;
-use crate::support::damage::{self, Outcome};
-use crate::support::disks::{self, Disk};
+use crate::support::damage::{self, Expected};
+use crate::support::disks::{self, DrawnDisk};
 use crate::support::geometry::{data, extra};
 use crate::support::margins::Margins;
 use crate::support::random::Random;
 use crate::support::reports::{
-    Counts, DISKS, KEPT, MOST, NUMBERS, REPORT, disks as disks_in, number, report, set, with_disks,
+    DISKS, KEPT, MOST, NUMBERS, REPORT, ReportCounts, disks as disks_in, number, report, set, with_disks,
 };
 use crate::support::settings::{Round, Rounds};
 use crate::support::tally::possible;
@@ -35,55 +35,59 @@ fn holds(disks: usize) -> u64 {
 }
 
 /// A drawn image, and what is counted of it: known from the drawing, or by the check's number alone.
-fn image(random: &mut Random, all: &[&'static damage::Damage]) -> (Vec<u8>, Option<Counts>) {
+fn image(random: &mut Random, all: &[&'static damage::Damage]) -> (Vec<u8>, Option<ReportCounts>) {
     if random.one_in(3) {
         let disk = disks::draw(random);
-        let counts = Counts::accepted(&disk.files, disk.data());
+        let counts = ReportCounts::accepted(&disk.files, disk.data());
         return (disk.image, Some(counts));
     }
     let (mut disk, outcome) = damage::one(random.pick(all), random);
     if random.one_in(12) {
         disk.image.truncate(random.pick(&[0, 1, 40_960, 819_199]));
-        return (disk.image, Some(Counts::refused(1)));
+        return (disk.image, Some(ReportCounts::refused(1)));
     }
     let counts = known(&disk, outcome);
     (disk.image, counts)
 }
 
 /// What is counted of a damaged disk, where that is known: files behind an end that the damage made are none.
-fn known(disk: &Disk, outcome: Outcome) -> Option<Counts> {
+fn known(disk: &DrawnDisk, outcome: Expected) -> Option<ReportCounts> {
     match outcome {
-        Outcome::Refused(number, _) => Some(Counts::refused(number)),
-        Outcome::Ends(end) => {
+        Expected::Refused(number, _) => Some(ReportCounts::refused(number)),
+        Expected::Ends(end) => {
             let before = disk.files.partition_point(|file| file.slot < end);
-            Some(Counts::accepted(&disk.files[..before], disk.data()))
+            Some(ReportCounts::accepted(&disk.files[..before], disk.data()))
         }
-        Outcome::Open | Outcome::Accepted => None,
+        Expected::Open | Expected::Accepted => None,
     }
 }
 
-/// Shelves of some disks, whole and damaged: every number is what was drawn, the classes add up to the files, and every cut
+/// Reports over some disks, whole and damaged: every number is what was drawn, the classes add up to the files, and every cut
 /// of the list in two gives the same report, joined in either order.
 #[test]
-fn drawn_shelves() {
+fn drawn_disks_are_counted() {
     let (all, rounds) = (damage::all(), Rounds::new(9_000_000, 200));
     let mut numbers = [0_u32; DISKS];
     for seed in rounds.seeds() {
         let _round = Round(seed);
         let random = &mut Random::new(seed);
         let many = random.between(1, 8);
-        let shelf: Vec<_> = (0..many).map(|_| image(random, &all)).collect();
-        let whole = over(&shelf);
+        let images: Vec<_> = (0..many).map(|_| image(random, &all)).collect();
+        let whole = over(&images);
         let sum = |from: usize, to: usize| (from..to).map(|at| number(&whole, at)).sum::<u32>();
         assert_eq!(sum(33, 97), sum(99, KEPT), "the classes add up to the files");
-        assert_eq!(sum(97, 99) as usize, shelf_data(&shelf), "a data sector is a file's or free");
+        assert_eq!(
+            sum(97, 99) as usize,
+            data_sectors_of(&images),
+            "a data sector is a file's or free"
+        );
         assert_eq!(disks_in(&whole), many as u64);
         assert!(whole[4 * KEPT..].iter().all(|byte| *byte == 0));
         let cut = random.below(many + 1);
-        let (one, two) = (over(&shelf[..cut]), over(&shelf[cut..]));
+        let (one, two) = (over(&images[..cut]), over(&images[cut..]));
         assert_eq!(join(&one, &two), (holds(many), whole.clone()));
         assert_eq!(join(&two, &one), (holds(many), whole.clone()));
-        random_order(&shelf, &whole, random);
+        random_order(&images, &whole, random);
         (0..DISKS).for_each(|at| numbers[at] += number(&whole, at));
     }
     println!("disks accepted, and refused by number: {numbers:?}");
@@ -93,21 +97,21 @@ fn drawn_shelves() {
     assert!(!rounds.enough() || all_given, "{numbers:?}");
 }
 
-/// How many data sectors the accepted disks of a shelf have.
-fn shelf_data(shelf: &[(Vec<u8>, Option<Counts>)]) -> usize {
+/// How many data sectors the accepted disks of these have.
+fn data_sectors_of(images: &[(Vec<u8>, Option<ReportCounts>)]) -> usize {
     let accepted = |image: &&Vec<u8>| compare::ask(&Request::new(Call::Check, image), &mut Margins::default()).answer == 0;
-    let images = shelf.iter().map(|(image, _)| image).filter(accepted);
+    let images = images.iter().map(|(image, _)| image).filter(accepted);
     images.map(|image| data(extra(image))).sum()
 }
 
 /// The report over a list of drawn images, each number followed.
-fn over(shelf: &[(Vec<u8>, Option<Counts>)]) -> Vec<u8> {
+fn over(images: &[(Vec<u8>, Option<ReportCounts>)]) -> Vec<u8> {
     let mut report = vec![0; REPORT];
-    for (before, (image, counts)) in shelf.iter().enumerate() {
+    for (before, (image, counts)) in images.iter().enumerate() {
         let (answer, after) = add(image, &report);
         assert_eq!(answer, holds(before + 1));
         if let Some(counts) = counts {
-            assert_eq!(Counts::of(&after), Counts::of(&report).and(counts));
+            assert_eq!(ReportCounts::of(&after), ReportCounts::of(&report).and(counts));
         }
         report = after;
     }
@@ -115,8 +119,8 @@ fn over(shelf: &[(Vec<u8>, Option<Counts>)]) -> Vec<u8> {
 }
 
 /// The same disks in another order.
-fn random_order(shelf: &[(Vec<u8>, Option<Counts>)], whole: &[u8], random: &mut Random) {
-    let mut order: Vec<_> = shelf.to_vec();
+fn random_order(images: &[(Vec<u8>, Option<ReportCounts>)], whole: &[u8], random: &mut Random) {
+    let mut order: Vec<_> = images.to_vec();
     random.shuffle(&mut order);
     assert!(over(&order) == whole, "another order gives another report");
 }
@@ -130,8 +134,8 @@ fn refused_by_number() {
         let (answer, after) = add(&disk.image, &[0; REPORT]);
         assert_eq!(answer, holds(1), "{}", damage.title);
         match known(&disk, outcome) {
-            Some(counts) => assert_eq!(Counts::of(&after), counts, "{}", damage.title),
-            None if outcome == Outcome::Accepted => assert_eq!(number(&after, 0), 1, "{}", damage.title),
+            Some(counts) => assert_eq!(ReportCounts::of(&after), counts, "{}", damage.title),
+            None if outcome == Expected::Accepted => assert_eq!(number(&after, 0), 1, "{}", damage.title),
             None => {}
         }
     }
@@ -152,9 +156,9 @@ fn reports_of_any_bytes() {
         two.extend(random.bytes(rest));
         let disk = random.pick(&[&small, &long]);
         for (at, more, by, (answer, after)) in [
-            (0, 1, Counts::accepted(&disk.files, disk.data()), add(&disk.image, &one)),
-            (0, 1, Counts::refused(1), add(&one, &one)),
-            (1, disks_in(&two), Counts::of(&two), join(&one, &two)),
+            (0, 1, ReportCounts::accepted(&disk.files, disk.data()), add(&disk.image, &one)),
+            (0, 1, ReportCounts::refused(1), add(&one, &one)),
+            (1, disks_in(&two), ReportCounts::of(&two), join(&one, &two)),
         ] {
             let together = disks_in(&one) + more;
             tally[at][usize::from(together > MOST)] += 1;
@@ -163,7 +167,7 @@ fn reports_of_any_bytes() {
                 continue;
             }
             assert_eq!(answer, holds(together as usize));
-            assert_eq!(Counts::of(&after), Counts::of(&one).and(&by));
+            assert_eq!(ReportCounts::of(&after), ReportCounts::of(&one).and(&by));
             assert!(after[4 * KEPT..] == one[4 * KEPT..], "what is kept is changed");
         }
     }
@@ -230,22 +234,22 @@ fn lengths_of_reports() {
     let image = disks::draw(random).image;
     let mut full = random.bytes(REPORT);
     with_disks(&mut full, 65_536, random);
-    let mut good = random.bytes(REPORT);
-    with_disks(&mut good, 7, random);
+    let mut small = random.bytes(REPORT);
+    with_disks(&mut small, 7, random);
     for length in 0..REPORT {
-        for report in [&full, &good] {
+        for report in [&full, &small] {
             assert_eq!(add(&image, &report[..length]).0, 20, "{length}");
-            assert_eq!(join(&report[..length], &good).0, 20, "{length}");
-            assert_eq!(join(report, &good[..length]).0, 20, "{length}");
+            assert_eq!(join(&report[..length], &small).0, 20, "{length}");
+            assert_eq!(join(report, &small[..length]).0, 20, "{length}");
         }
     }
-    assert_eq!(join(&full[..495], &good[..495]).0, 20);
+    assert_eq!(join(&full[..495], &small[..495]).0, 20);
     assert_eq!(
-        (add(&image, &full).0, join(&full, &good).0, join(&good, &full).0),
+        (add(&image, &full).0, join(&full, &small).0, join(&small, &full).0),
         (31, 31, 31)
     );
     for more in [0, 1, 2, 3, 4, 100, 496, 900_000] {
-        let mut long = good.clone();
+        let mut long = small.clone();
         long.extend(random.bytes(more));
         let (answer, after) = add(&image, &long);
         assert!(answer == holds(8) && after[REPORT..] == long[REPORT..], "{more} behind it");

@@ -1,11 +1,11 @@
 //! The raw sector call: every track and sector of both drives, what lies beside them, and images of wrong lengths.
 
-use crate::support::asking::WRONG_LENGTHS;
 use crate::support::calls::{self, Call, Request, SLICES, TWO, ask_c, ask_paper};
 use crate::support::compare::{self, Lend};
 use crate::support::geometry::{IMAGE, is_track, place};
 use crate::support::margins::Margins;
 use crate::support::random::Random;
+use crate::support::requests::WRONG_LENGTHS;
 
 const DRIVES: [u32; 9] = [0, 1, 2, 3, 255, 257, 1 << 16 | 1, 1 << 31, u32::MAX];
 
@@ -25,12 +25,12 @@ fn every_drive_track_and_sector() {
                 // Safety: the parts are two copies that nobody else has, and the call only reads.
                 let answer = unsafe { ask_c(Call::Sector, numbers, &parts) };
                 let request = Request::new(Call::Sector, &one).with(TWO, &two).numbers(numbers);
-                assert_eq!(answer, ask_paper(&request).packed, "{}", compare::tell(&request));
+                assert_eq!(answer, ask_paper(&request).packed, "{}", compare::describe(&request));
                 assert_eq!(
                     answer,
                     expected(drive, track as usize, sector as usize),
                     "{}",
-                    compare::tell(&request)
+                    compare::describe(&request)
                 );
                 places += usize::from(calls::refusal(answer) == 0);
             }
@@ -67,7 +67,7 @@ fn images_of_wrong_lengths() {
                 } else {
                     1
                 };
-                assert_eq!(answer, number, "{}", compare::tell(&request));
+                assert_eq!(answer, number, "{}", compare::describe(&request));
             }
         }
     }

@@ -2,7 +2,7 @@
 
 /// A call: its name, and each argument's name and type, the type in Rust's words.
 #[derive(Clone, Debug, PartialEq, Eq, PartialOrd, Ord)]
-pub struct Call {
+pub struct Declaration {
     pub name: String,
     pub arguments: Vec<(String, String)>,
 }
@@ -28,7 +28,7 @@ fn between<'a>(text: &'a str, opening: &str, closing: &str) -> Vec<&'a str> {
 }
 
 /// `name(arguments` taken apart; an empty last argument, after a comma, is none.
-fn taken_apart(declared: &str, argument: impl Fn(&str) -> (String, String)) -> Call {
+fn taken_apart(declared: &str, argument: impl Fn(&str) -> (String, String)) -> Declaration {
     let (name, arguments) = declared.split_once('(').expect("a call has arguments");
     let arguments = arguments
         .split(',')
@@ -36,7 +36,7 @@ fn taken_apart(declared: &str, argument: impl Fn(&str) -> (String, String)) -> C
         .filter(|one| !one.is_empty())
         .map(argument)
         .collect();
-    Call {
+    Declaration {
         name: name.trim().to_string(),
         arguments,
     }
@@ -73,9 +73,9 @@ fn rust_argument(argument: &str) -> (String, String) {
 }
 
 /// The calls of the header, sorted: its declarations, and not the functions written out there.
-pub fn of_header(text: &str) -> Vec<Call> {
+pub fn of_header(text: &str) -> Vec<Declaration> {
     let plain = without_comments(text);
-    let mut calls: Vec<Call> = between(&plain, "uint64_t varnucht_", ");")
+    let mut calls: Vec<Declaration> = between(&plain, "uint64_t varnucht_", ");")
         .into_iter()
         .filter(|one| !one.contains('{'))
         .map(|one| taken_apart(one, c_argument))
@@ -85,8 +85,8 @@ pub fn of_header(text: &str) -> Vec<Call> {
 }
 
 /// The calls of `raw.rs`, sorted. Every one answers a `u64`.
-pub fn of_raw(text: &str) -> Vec<Call> {
-    let mut calls: Vec<Call> = between(text, "pub fn varnucht_", ") -> u64;")
+pub fn of_raw(text: &str) -> Vec<Declaration> {
+    let mut calls: Vec<Declaration> = between(text, "pub fn varnucht_", ") -> u64;")
         .into_iter()
         .map(|one| taken_apart(one, rust_argument))
         .collect();

@@ -3,8 +3,8 @@
 
 #include "expect.h"
 
-/* `good` has one file, TUNES. Each call runs on `image`, which is made like it before. */
-static uint8_t good[VARNUCHT_IMAGE_BYTES], image[VARNUCHT_IMAGE_BYTES], other[VARNUCHT_IMAGE_BYTES];
+/* `accepted` has one file, TUNES. Each call runs on `image`, which is made like it before. */
+static uint8_t accepted[VARNUCHT_IMAGE_BYTES], image[VARNUCHT_IMAGE_BYTES], other[VARNUCHT_IMAGE_BYTES];
 static uint8_t out[VARNUCHT_LISTING_BYTES], list[VARNUCHT_SAVE_LIST_BYTES];
 static const uint8_t tunes[] = {'T', 'U', 'N', 'E', 'S'}, hymns[] = {'H', 'Y', 'M', 'N', 'S'}, bytes[11] = {1, 2, 3};
 
@@ -92,7 +92,7 @@ static uint64_t on_protect(const int *how) { return on_change(varnucht_protect, 
 static uint64_t on_release(const int *how) { return on_change(varnucht_release, how); }
 
 /* Each call with its slices, and the refusal that each gives when it alone is empty; 0: accepted. The next piece refuses
- * nothing: pieces.c has it. reports.c has the calls on reports, tree.c the tree, gather.c the gather, handful.c the erase
+ * nothing: pieces.c has it. reports.c has the calls on reports, tree.c the tree, gather.c the gather, erase_many.c the erase
  * of many and recording.c the calls of a recording. */
 static const struct {
     const char *name;
@@ -118,7 +118,7 @@ static const struct {
 
 /* All buffers as before a call. */
 static void lay_out(void) {
-    memcpy(image, good, sizeof image);
+    memcpy(image, accepted, sizeof image);
     memset(out, 170, sizeof out);
     memset(list, 170, sizeof list);
 }
@@ -133,7 +133,7 @@ static int filled(const uint8_t *at, size_t len) {
 }
 
 static int untouched(void) {
-    return memcmp(image, good, sizeof image) == 0 && filled(out, sizeof out) && filled(list, sizeof list);
+    return memcmp(image, accepted, sizeof image) == 0 && filled(out, sizeof out) && filled(list, sizeof list);
 }
 
 /* One call with one slice empty, lent as NULL and then as no bytes: the refusal, and the same image and list after both. */
@@ -183,7 +183,7 @@ void check_empty_slices(void) {
     memcpy(exec_bytes, bytes, 3);
     memcpy(info_bytes, bytes, 11);
     memset(body_bytes, 7, sizeof body_bytes);
-    uint64_t answer = varnucht_save(good, sizeof good, 19, tunes, 5, 1, 32768, bytes, 3, bytes, 11, body_bytes, 600, list,
+    uint64_t answer = varnucht_save(accepted, sizeof accepted, 19, tunes, 5, 1, 32768, bytes, 3, bytes, 11, body_bytes, 600, list,
                                     sizeof list);
     expect(varnucht_refusal(answer) == 0, "a file to begin with", 0);
     for (size_t c = 0; c < sizeof calls / sizeof calls[0]; c++) {

@@ -53,15 +53,15 @@ static void check_name_lengths(void) {
     }
 }
 
-struct wish {
+struct save_request {
     uint32_t kind, page, offset;
     size_t body_len;
     uint8_t name[10], exec[3], info[11];
     size_t name_len;
 };
 
-static struct wish draw_wish(unsigned i) {
-    struct wish w;
+static struct save_request draw_request(unsigned i) {
+    struct save_request w;
     w.kind = (uint32_t)(16 + drawn() % 5);
     w.page = (uint32_t)(drawn() % 32);
     w.offset = (uint32_t)(32768 + drawn() % 16384);
@@ -80,7 +80,7 @@ static struct wish draw_wish(unsigned i) {
     return w;
 }
 
-static void save_wish(const struct wish *w, unsigned long at) {
+static void save_requested(const struct save_request *w, unsigned long at) {
     uint64_t answer = varnucht_save(image, sizeof image, w->kind, w->name, w->name_len, w->page, w->offset, w->exec, 3,
                                     w->info, 11, body, w->body_len, sectors, sizeof sectors);
     expect(varnucht_refusal(answer) == VARNUCHT_ACCEPTED, "a save is accepted", at);
@@ -95,7 +95,7 @@ static void save_wish(const struct wish *w, unsigned long at) {
 }
 
 /* What the entry says is what was saved; and the name of the entry finds the file. */
-static void check_saved(const uint8_t *entry, const struct wish *w, unsigned long at) {
+static void check_saved(const uint8_t *entry, const struct save_request *w, unsigned long at) {
     uint64_t answer = varnucht_start(image, sizeof image, varnucht_entry_name(entry), 10);
     expect(varnucht_entry_slot(entry) == at + 1, "slot number of a saved file", at);
     expect(varnucht_entry_hidden(entry) == (at % 3 == 0), "hidden of a saved file", at);
@@ -115,17 +115,17 @@ static void check_saved(const uint8_t *entry, const struct wish *w, unsigned lon
 }
 
 static void check_saved_files(void) {
-    static struct wish wishes[40];
+    static struct save_request requests[40];
     for (unsigned i = 0; i < 40; i++) {
-        wishes[i] = draw_wish(i);
-        save_wish(&wishes[i], i);
+        requests[i] = draw_request(i);
+        save_requested(&requests[i], i);
     }
     uint64_t answer = varnucht_list(image, sizeof image, listing, sizeof listing);
     expect(varnucht_refusal(answer) == VARNUCHT_ACCEPTED && varnucht_value(answer) == 40, "forty files are listed", 0);
     unsigned used = 0;
     for (unsigned i = 0; i < 40; i++) {
         const uint8_t *entry = varnucht_entry(listing, i);
-        check_saved(entry, &wishes[i], i);
+        check_saved(entry, &requests[i], i);
         used += varnucht_entry_sectors(entry);
     }
     expect(varnucht_free(answer) == VARNUCHT_DATA_SECTORS - used, "free sectors are those that no file takes", used);

@@ -128,7 +128,7 @@ fn the_readmes_program_shows_names_as_the_tool_does() {
     for (place, name) in names.into_iter().enumerate() {
         image[256 * place + 1..][..10].copy_from_slice(name);
     }
-    let disk = Disk::open(Image::from_bytes(image.clone()).expect("an image")).expect("a sound disk");
+    let disk = Disk::open(Image::from_bytes(image.clone()).expect("an image")).expect("an accepted disk");
     let lines = disk.listing().entries().iter().map(|entry| {
         let name = entry.name().to_string();
         format!("{:>3} {name:<10}    1 sectors\n", entry.slot().number())
@@ -246,10 +246,10 @@ fn the_recorder_saves_as_it_comes() {
 
 /// A shelf is counted, with what is no disk; a file that is not there is named and the rest is counted.
 #[test]
-fn the_shelf_is_counted() {
+fn the_report_counts() {
     for language in BOTH {
-        let folder = Folder::new(&format!("shelf-{language:?}"));
-        let shelf = build(language, &["-O2"], &[root().join("examples/shelf.c")], &folder, "shelf");
+        let folder = Folder::new(&format!("report-{language:?}"));
+        let report = build(language, &["-O2"], &[root().join("examples/report.c")], &folder, "report");
         let (disk, _) = saved(&vec![0; IMAGE], b"TUNES", &some_bytes(2_000));
         let images = [
             folder.write("disk", &disk),
@@ -258,17 +258,17 @@ fn the_shelf_is_counted() {
             folder.write("long", vec![0; IMAGE + 1]),
         ];
         let paths: Vec<&Path> = images.iter().map(PathBuf::as_path).collect();
-        let counted = String::from_utf8(done(run(&shelf, &paths))).expect("text");
+        let counted = String::from_utf8(done(run(&report, &paths))).expect("text");
         let lines: Vec<&str> = counted.lines().map(str::trim_start).collect();
         assert_eq!(lines[..2], ["2 accepted", "2 refused 1: the image is not 819,200 bytes"]);
         assert_eq!((lines.len(), lines[5]), (15, "1 files of 4 or more sectors"));
         assert_eq!(lines[14], "3116 sectors free");
         let nowhere = folder.file("nowhere");
-        let output = run(&shelf, &[&nowhere, &images[0]]);
+        let output = run(&report, &[&nowhere, &images[0]]);
         assert_eq!(output.status.code(), Some(1));
         assert!(String::from_utf8_lossy(&output.stderr).contains("nowhere: "));
         assert!(String::from_utf8_lossy(&output.stdout).starts_with("         1 accepted\n"));
-        assert!(done(run(&shelf, &[])).starts_with(b"         0 accepted\n"));
+        assert!(done(run(&report, &[])).starts_with(b"         0 accepted\n"));
     }
 }
 

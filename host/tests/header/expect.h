@@ -21,7 +21,7 @@ void check_reports(void);
 void check_bigger(void);
 void check_trees(void);
 void check_gathering(void);
-void check_handfuls(void);
+void check_erase_many(void);
 void check_recordings(void);
 
 #endif

@@ -47,7 +47,7 @@ int main(int argc, char **argv) {
     run("bigger directories", check_bigger);
     run("trees", check_trees);
     run("gathering", check_gathering);
-    run("handfuls", check_handfuls);
+    run("erase many", check_erase_many);
     run("recordings", check_recordings);
     printf("held %lu, failed %lu\n", held, failed);
     return failed != 0;

@@ -67,7 +67,7 @@ static void check_refusals(void) {
     uint64_t answer = varnucht_reader_open(&reader, image, sizeof image, tunes, 5);
     expect(answer == VARNUCHT_WRONG_KIND + 256 * 1, "a kind that cannot be read", 0);
     image[0] = 63;
-    expect(varnucht_reader_open(&reader, image, sizeof image, tunes, 5) == VARNUCHT_KIND_UNKNOWN + 256 * 1, "a bad disk", 0);
+    expect(varnucht_reader_open(&reader, image, sizeof image, tunes, 5) == VARNUCHT_KIND_UNKNOWN + 256 * 1, "a refused disk", 0);
     image[0] = status;
     expect(reader.sector == 1 && reader.offset == 2 && reader.left == 3, "a refusal leaves the reader", 0);
 }

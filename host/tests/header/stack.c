@@ -24,7 +24,7 @@ static uint8_t image[VARNUCHT_IMAGE_BYTES];
 static uint8_t body[VARNUCHT_BODY_BYTES], list[VARNUCHT_SAVE_LIST_BYTES];
 static uint8_t recorded[VARNUCHT_IMAGE_BYTES], record[VARNUCHT_RECORD_BYTES];
 static size_t piece_len;
-static uint8_t report[VARNUCHT_REPORT_BYTES], shelf[VARNUCHT_REPORT_BYTES];
+static uint8_t report[VARNUCHT_REPORT_BYTES], other_report[VARNUCHT_REPORT_BYTES];
 static const uint8_t name[] = {'A', '0'}, other[] = {'T', 'U', 'N', 'E', 'S'};
 static uint8_t names[VARNUCHT_NAME_BYTES * VARNUCHT_SLOTS], answers[VARNUCHT_SLOTS];
 static unsigned refusal;
@@ -76,7 +76,7 @@ static void hide(void) { refusal = varnucht_refusal(varnucht_hide(image, sizeof 
 static void show(void) { refusal = varnucht_refusal(varnucht_show(image, sizeof image, name, 2, list, 2)); }
 static void protect(void) { refusal = varnucht_refusal(varnucht_protect(image, sizeof image, name, 2, list, 2)); }
 static void report_add(void) { refusal = varnucht_refusal(varnucht_report_add(image, sizeof image, report, sizeof report)); }
-static void report_join(void) { refusal = varnucht_refusal(varnucht_report_join(report, sizeof report, shelf, sizeof shelf)); }
+static void report_join(void) { refusal = varnucht_refusal(varnucht_report_join(report, sizeof report, other_report, sizeof other_report)); }
 static void release(void) { refusal = varnucht_refusal(varnucht_release(image, sizeof image, name, 2, list, 2)); }
 static void gather(void) { refusal = varnucht_refusal(varnucht_gather(image, sizeof image, name, 2, list, sizeof list)); }
 

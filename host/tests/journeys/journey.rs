@@ -1,22 +1,22 @@
 //! The disk on its way, and the ledger beside it.
 
-use crate::drawing::{self, Turn};
-use crate::lending::{ask, named, refused};
-use crate::reached::Reached;
-use crate::recording::Open;
-use crate::support::asking::Asked;
+use crate::coverage::Coverage;
+use crate::drawing::{self, Event};
+use crate::in_place::{ask, named, refused};
+use crate::recording::OpenRecording;
 use crate::support::calls::{self, ANSWERS, BODY, Call, EXEC, INFO, NAME, NAMES, NEW};
 use crate::support::facts::Facts;
 use crate::support::geometry::SECTOR;
 use crate::support::random::Random;
-use paper::{Change, Ledger, Mark, Refused, Wish};
+use crate::support::requests::OwnedRequest;
+use paper::{Change, Ledger, Mark, Refused, SaveRequest};
 
 pub struct Journey {
     pub image: Vec<u8>,
     /// The same bytes while nothing is asked; a change is asked here, and goes to the image as far as it is not cut.
     pub new: Vec<u8>,
     pub ledger: Ledger,
-    pub open: Vec<Open>,
+    pub open: Vec<OpenRecording>,
 }
 
 impl Journey {
@@ -30,36 +30,36 @@ impl Journey {
     }
 
     /// The next request. Gives what the disk showed before it.
-    pub fn step(&mut self, reached: &mut Reached, random: &mut Random) -> Facts {
+    pub fn step(&mut self, coverage: &mut Coverage, random: &mut Random) -> Facts {
         let facts = Facts::of(&self.image);
-        match drawing::turn(self.open.len(), &facts, random) {
-            Turn::Change(call) => {
+        match drawing::next_event(self.open.len(), &facts, random) {
+            Event::Change(call) => {
                 let mut asked = drawing::change(call, &facts, random);
                 if call == Call::Rename && !self.open.is_empty() && random.coin() {
                     // To the name of a recording, which then cannot be closed.
                     asked.slices[NEW] = self.open[0].name().to_vec();
                 }
-                self.change(asked, reached, random);
+                self.change(asked, coverage, random);
             }
-            Turn::Handful => self.handful(drawing::handful(&facts, random), reached, random),
-            Turn::Open => self.open(&facts, reached, random),
-            Turn::Piece => self.piece(reached, random),
-            Turn::Close => self.close(reached, random),
+            Event::EraseMany => self.erase_many(drawing::names_to_erase(&facts, random), coverage, random),
+            Event::Open => self.open(&facts, coverage, random),
+            Event::Piece => self.piece(coverage, random),
+            Event::Close => self.close(coverage, random),
         }
         facts
     }
 
     /// A change that is entered as a whole.
-    fn change(&mut self, mut asked: Asked, reached: &mut Reached, random: &mut Random) {
+    fn change(&mut self, mut asked: OwnedRequest, coverage: &mut Coverage, random: &mut Random) {
         let expected = self.ledger.refuses(&change(&asked));
         let answer = ask(&mut asked, &mut self.new);
-        if !self.is_taken(asked.call, answer, expected, reached) {
+        if !self.is_taken(asked.call, answer, expected, coverage) {
             return;
         }
         let sectors = named(answer, &asked);
         let k = written(sectors.len(), random);
         self.write(&sectors, k);
-        reached.ended(asked.call, k, sectors.len());
+        coverage.ended(asked.call, k, sectors.len());
         self.touch(None, k);
         if k == sectors.len() {
             self.ledger.enter(&change(&asked)).expect("it is accepted");
@@ -67,10 +67,10 @@ impl Journey {
     }
 
     /// Names erased at once: each sector counts as a change of its own.
-    fn handful(&mut self, mut asked: Asked, reached: &mut Reached, random: &mut Random) {
+    fn erase_many(&mut self, mut asked: OwnedRequest, coverage: &mut Coverage, random: &mut Random) {
         let expected = self.ledger.refuses_many(&asked.slices[NAMES]);
         let answer = ask(&mut asked, &mut self.new);
-        if !self.is_taken(Call::EraseMany, answer, expected, reached) {
+        if !self.is_taken(Call::EraseMany, answer, expected, coverage) {
             return;
         }
         let (answers, _) = self.ledger.without(&asked.slices[NAMES]);
@@ -78,15 +78,15 @@ impl Journey {
         let sectors = named(answer, &asked);
         let k = written(sectors.len(), random);
         self.write(&sectors, k);
-        reached.ended(Call::EraseMany, k, sectors.len());
+        coverage.ended(Call::EraseMany, k, sectors.len());
         self.touch(None, k);
         self.ledger.enter_many(&asked.slices[NAMES], k);
     }
 
     /// Whether it is accepted. It is refused what the ledger says; with 20 the ledger says nothing against it, and of a disk on
     /// which it is refused 30 the ledger knows nothing. A refused call changes no byte.
-    pub fn is_taken(&self, call: Call, answer: u64, expected: Result<(), Refused>, reached: &mut Reached) -> bool {
-        reached.tally.count(call, answer);
+    pub fn is_taken(&self, call: Call, answer: u64, expected: Result<(), Refused>, coverage: &mut Coverage) -> bool {
+        coverage.tally.count(call, answer);
         match calls::refusal(answer) {
             30 => {}
             20 => assert_eq!(expected, Ok(()), "{call:?} is refused 20"),
@@ -132,10 +132,10 @@ pub fn written(named: usize, random: &mut Random) -> usize {
 }
 
 /// The change that a request asks for.
-fn change(asked: &Asked) -> Change<'_> {
+fn change(asked: &OwnedRequest) -> Change<'_> {
     let name = &asked.slices[NAME][..];
     match asked.call {
-        Call::Save => Change::Save(wish(asked)),
+        Call::Save => Change::Save(save_request(asked)),
         Call::Erase => Change::Erase(name),
         Call::Rename => Change::Rename(name, &asked.slices[NEW]),
         Call::Hide => Change::Mark(Mark::Hide, name),
@@ -148,9 +148,9 @@ fn change(asked: &Asked) -> Change<'_> {
 }
 
 /// What a save or the opening of a recording asks for.
-pub fn wish(asked: &Asked) -> Wish<'_> {
+pub fn save_request(asked: &OwnedRequest) -> SaveRequest<'_> {
     let [kind, page, offset] = asked.numbers;
-    Wish {
+    SaveRequest {
         kind,
         name: &asked.slices[NAME],
         page,

@@ -3,13 +3,13 @@
 //! which exactly the changes are entered whose last sector was written. Listing, bodies, start addresses, trees, the check
 //! before a release and every refusal but 20 and 30 are the ledger's. The C layer is under test.
 //!
-//! - `beginnings`: the disks that journeys begin with.
-//! - `lending`: a request to the C layer on the disk itself, without a copy.
+//! - `start_disks`: the disks that journeys begin with.
+//! - `in_place`: a request to the C layer on the disk itself, without a copy.
 //! - `drawing`: which request comes next.
 //! - `journey`: the disk, the ledger beside it, and a change of each sort.
 //! - `recording`: recordings, several open at once.
 //! - `answers`: what the disk answers, and the ledger.
-//! - `reached`: what was accepted, cut and refused on the way.
+//! - `coverage`: what was accepted, cut and refused on the way.
 //!
 //! `VARNUCHT_SEED` and `VARNUCHT_ROUNDS` draw other journeys, or a single one again.
 
@@ -17,15 +17,15 @@
 mod support;
 
 mod answers;
-mod beginnings;
+mod coverage;
 mod drawing;
+mod in_place;
 mod journey;
-mod lending;
-mod reached;
 mod recording;
+mod start_disks;
 
+use coverage::Coverage;
 use journey::Journey;
-use reached::Reached;
 use support::random::Random;
 use support::settings::{Round, Rounds};
 
@@ -37,22 +37,22 @@ const WHOLE: usize = 40;
 
 #[test]
 fn journeys_go_as_the_ledger_says() {
-    let mut reached = Reached::default();
+    let mut coverage = Coverage::default();
     let rounds = Rounds::new(31_000_000, 4);
     for seed in rounds.seeds() {
         let _round = Round(seed);
         let random = &mut Random::new(seed);
-        let mut journey = Journey::from(beginnings::draw(seed, random).image);
+        let mut journey = Journey::from(start_disks::draw(seed, random).image);
         for step in 1..=STEPS {
-            let facts = journey.step(&mut reached, random);
-            journey.answers_as_the_ledger(step % WHOLE == 0, &facts, &mut reached, random);
+            let facts = journey.step(&mut coverage, random);
+            journey.answers_as_the_ledger(step % WHOLE == 0, &facts, &mut coverage, random);
         }
-        reached.arrived();
+        coverage.end_journey();
     }
-    println!("{reached}");
+    println!("{coverage}");
     assert!(
-        !rounds.enough() || reached.missing().is_empty(),
+        !rounds.enough() || coverage.missing().is_empty(),
         "never: {:?}",
-        reached.missing()
+        coverage.missing()
     );
 }

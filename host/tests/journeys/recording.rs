@@ -1,20 +1,20 @@
 //! Recordings on a journey, several open at once. One is entered at its close: as the joined pieces where no other change and no
 //! cut came since its opening, else as what its sectors then read.
 
-use crate::journey::{Journey, wish, written};
-use crate::lending::{ask, named};
-use crate::reached::Reached;
-use crate::support::asking::{self, Asked};
+use crate::coverage::Coverage;
+use crate::in_place::{ask, named};
+use crate::journey::{Journey, save_request, written};
 use crate::support::calls::{BODY, Call, OUT, RECORD};
 use crate::support::facts::Facts;
 use crate::support::geometry::{PAYLOAD, bit_place, fills};
 use crate::support::names::Name;
 use crate::support::random::Random;
 use crate::support::recordings::{self, Recording};
-use crate::support::wishes;
-use paper::{Change, Wish};
+use crate::support::requests::{self, OwnedRequest};
+use crate::support::save_requests;
+use paper::{Change, SaveRequest};
 
-pub struct Open {
+pub struct OpenRecording {
     /// What it was opened with, and the joined pieces.
     recording: Recording,
     /// Its record, as the calls gave it back.
@@ -23,23 +23,23 @@ pub struct Open {
     pub touched: bool,
 }
 
-impl Open {
+impl OpenRecording {
     pub fn name(&self) -> &Name {
         &self.recording.name
     }
 }
 
 impl Journey {
-    pub fn open(&mut self, facts: &Facts, reached: &mut Reached, random: &mut Random) {
+    pub fn open(&mut self, facts: &Facts, coverage: &mut Coverage, random: &mut Random) {
         let mut asked = if random.one_in(3) {
             recordings::draw_open(facts, random)
         } else {
-            recordings::opening(wishes::good(facts, random), random.bytes(recordings::LENGTH))
+            recordings::opening(save_requests::accepted(facts, random), random.bytes(recordings::LENGTH))
         };
-        let expected = self.ledger.refuses_save(&wish(&asked), 0);
+        let expected = self.ledger.refuses_save(&save_request(&asked), 0);
         let answer = ask(&mut asked, &mut self.new);
-        if self.is_taken(Call::RecordOpen, answer, expected, reached) {
-            self.open.push(Open {
+        if self.is_taken(Call::RecordOpen, answer, expected, coverage) {
+            self.open.push(OpenRecording {
                 recording: Recording::of(&asked, facts),
                 record: asked.slices[RECORD].clone(),
                 touched: false,
@@ -48,25 +48,25 @@ impl Journey {
     }
 
     /// A piece for one of those that are open. Nothing is entered.
-    pub fn piece(&mut self, reached: &mut Reached, random: &mut Random) {
+    pub fn piece(&mut self, coverage: &mut Coverage, random: &mut Random) {
         let at = random.below(self.open.len());
         let came = self.open[at].recording.body.len();
         let length = piece(self.ledger.free(), came, random);
         let list = if random.one_in(12) { random.below(8) } else { 3_116 };
-        let mut asked = Asked::new(Call::RecordAdd)
+        let mut asked = OwnedRequest::new(Call::RecordAdd)
             .with(BODY, random.bytes(length))
             .with(RECORD, self.open[at].record.clone())
             .with(OUT, vec![0x5c; list]);
         let expected = self.ledger.has_room(came + asked.slices[BODY].len());
         let answer = ask(&mut asked, &mut self.new);
-        if !self.is_taken(Call::RecordAdd, answer, expected, reached) {
+        if !self.is_taken(Call::RecordAdd, answer, expected, coverage) {
             self.give_up(at, answer, random);
             return;
         }
         let sectors = named(answer, &asked);
         let k = written(sectors.len(), random);
         self.write(&sectors, k);
-        reached.ended(Call::RecordAdd, k, sectors.len());
+        coverage.ended(Call::RecordAdd, k, sectors.len());
         self.touch(Some(at), k);
         let open = &mut self.open[at];
         open.recording = open.recording.with(&asked.slices[BODY]);
@@ -74,41 +74,41 @@ impl Journey {
         open.touched |= k < sectors.len();
     }
 
-    pub fn close(&mut self, reached: &mut Reached, random: &mut Random) {
+    pub fn close(&mut self, coverage: &mut Coverage, random: &mut Random) {
         let at = random.below(self.open.len());
         let room = if random.one_in(6) { random.below(8) } else { 8 };
-        let mut asked = Asked::new(Call::RecordClose)
+        let mut asked = OwnedRequest::new(Call::RecordClose)
             .with(RECORD, self.open[at].record.clone())
-            .with(OUT, asking::buffer(room, random));
+            .with(OUT, requests::buffer(room, random));
         let recording = self.open[at].recording.clone();
-        let wish = particulars(&recording);
-        let expected = self.ledger.refuses_save(&wish, recording.body.len());
+        let save_request = particulars(&recording);
+        let expected = self.ledger.refuses_save(&save_request, recording.body.len());
         let answer = ask(&mut asked, &mut self.new);
-        if !self.is_taken(Call::RecordClose, answer, expected, reached) {
+        if !self.is_taken(Call::RecordClose, answer, expected, coverage) {
             self.give_up(at, answer, random);
             return;
         }
         let sectors = named(answer, &asked);
         let k = written(sectors.len(), random);
         self.write(&sectors, k);
-        reached.ended(Call::RecordClose, k, sectors.len());
+        coverage.ended(Call::RecordClose, k, sectors.len());
         self.touch(Some(at), k);
         self.open[at].touched |= k < sectors.len();
         if k == sectors.len() {
             let touched = self.open.swap_remove(at).touched;
-            reached.closes[usize::from(touched)] += 1;
-            self.enter(&wish, touched);
+            coverage.closes[usize::from(touched)] += 1;
+            self.enter(&save_request, touched);
         }
     }
 
-    fn enter(&mut self, wish: &Wish, touched: bool) {
+    fn enter(&mut self, save_request: &SaveRequest, touched: bool) {
         let entered = if touched {
             let sector = |bit: usize| &self.image[bit_place(bit)..][..PAYLOAD];
-            let chain = self.ledger.chain_for(wish.body.len());
+            let chain = self.ledger.chain_for(save_request.body.len());
             let payload = chain.into_iter().flat_map(sector).copied().collect();
-            self.ledger.enter_recording(wish, payload)
+            self.ledger.enter_recording(save_request, payload)
         } else {
-            self.ledger.enter(&Change::Save(*wish))
+            self.ledger.enter(&Change::Save(*save_request))
         };
         entered.expect("it is accepted");
     }
@@ -132,9 +132,9 @@ fn piece(free: usize, came: usize, random: &mut Random) -> usize {
 }
 
 /// What a save of the whole would ask for.
-fn particulars(recording: &Recording) -> Wish<'_> {
+fn particulars(recording: &Recording) -> SaveRequest<'_> {
     let [kind, page, offset] = recording.numbers;
-    Wish {
+    SaveRequest {
         kind,
         name: &recording.name,
         page,

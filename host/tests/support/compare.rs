@@ -1,22 +1,24 @@
 //! The same request to the C layer and to `paper`, each with copies of its own of all buffers: equal answers, and every buffer
 //! equal at return, those too that are only read.
 
-use super::calls::{self, ANSWERS, Answer, BODY, Call, IMAGE, OUT, Part, RECORD, ROLES, Request, SLICES, ask_c, ask_paper};
+use super::calls::{
+    self, ANSWERS, BODY, Call, IMAGE, OUT, PaperAnswer, RECORD, ROLES, RawSlice, Request, SLICES, ask_c, ask_paper,
+};
 
 /// A way to lend buffers to the C layer.
 pub trait Lend {
     /// A copy of the bytes, for this role of a request.
-    fn lend(&mut self, role: usize, bytes: &[u8], may_change: bool) -> Part;
+    fn lend(&mut self, role: usize, bytes: &[u8], may_change: bool) -> RawSlice;
     /// What stands in it now.
     fn bytes(&self, role: usize) -> &[u8];
     /// Whether the bytes around it are untouched.
     fn around(&self, role: usize) -> bool;
     /// Stands for slices that the call does not take.
-    fn nothing(&self) -> Part;
+    fn nothing(&self) -> RawSlice;
 }
 
 /// What a request left, the same on both sides.
-pub struct Left {
+pub struct Returned {
     pub answer: u64,
     /// None: unchanged, or the call does not change it.
     pub image: Option<Vec<u8>>,
@@ -26,7 +28,7 @@ pub struct Left {
 }
 
 /// Asks both and fails where they differ.
-pub fn ask(request: &Request, lender: &mut impl Lend) -> Left {
+pub fn ask(request: &Request, lender: &mut impl Lend) -> Returned {
     let answer = ask_lent(request, lender);
     let paper = ask_paper(request);
     assert!(answer == paper.packed, "{}", differ(request, answer, paper.packed));
@@ -45,14 +47,14 @@ pub fn ask(request: &Request, lender: &mut impl Lend) -> Left {
             lender.around(role),
             "bytes around it are changed: {}\n{}",
             ROLES[role],
-            tell(request)
+            describe(request)
         );
         if calls::refusal(answer) != 0 {
             same(request, role, left, old, "a refused call changed a slice");
         }
     }
     let image = if calls::refusal(answer) == 0 { paper.image } else { None };
-    Left {
+    Returned {
         answer,
         image,
         out: paper.out,
@@ -71,7 +73,7 @@ pub fn ask_lent(request: &Request, lender: &mut impl Lend) -> u64 {
     unsafe { ask_c(request.call, request.numbers, &parts) }
 }
 
-fn left<'a>(paper: &'a Answer, role: usize, old: &'a [u8]) -> &'a [u8] {
+fn left<'a>(paper: &'a PaperAnswer, role: usize, old: &'a [u8]) -> &'a [u8] {
     match role {
         OUT => &paper.out,
         ANSWERS => &paper.answers,
@@ -84,7 +86,7 @@ fn left<'a>(paper: &'a Answer, role: usize, old: &'a [u8]) -> &'a [u8] {
 /// Accepted: the slot is 0, or the place of a reader's next byte stands there. Refused: value and free are 0.
 fn form(request: &Request, answer: u64) {
     let accepted = calls::refusal(answer) == 0;
-    let good = if accepted {
+    let has_form = if accepted {
         match request.call {
             Call::Open => calls::slot(answer) < 1_600 && calls::free(answer) == 9,
             Call::Next => calls::slot(answer) <= 1_600 && calls::free(answer) < 510,
@@ -93,7 +95,12 @@ fn form(request: &Request, answer: u64) {
     } else {
         calls::value(answer) == 0 && calls::free(answer) == 0
     };
-    assert!(good, "the answer {} has no such form\n{}", read_out(answer), tell(request));
+    assert!(
+        has_form,
+        "the answer {} has no such form\n{}",
+        read_out(answer),
+        describe(request)
+    );
 }
 
 fn same(request: &Request, role: usize, one: &[u8], other: &[u8], fault: &str) {
@@ -107,7 +114,7 @@ fn same(request: &Request, role: usize, one: &[u8], other: &[u8], fault: &str) {
         ROLES[role],
         one[at],
         other[at],
-        tell(request)
+        describe(request)
     );
 }
 
@@ -116,7 +123,7 @@ fn differ(request: &Request, c: u64, paper: u64) -> String {
         "the C layer answers {}, the paper {}\n{}",
         read_out(c),
         read_out(paper),
-        tell(request)
+        describe(request)
     )
 }
 
@@ -130,7 +137,7 @@ pub fn read_out(answer: u64) -> String {
 }
 
 /// The request in words; of long slices the length alone.
-pub fn tell(request: &Request) -> String {
+pub fn describe(request: &Request) -> String {
     let mut text = format!("{:?}", request.call);
     if matches!(request.call, Call::Save | Call::RecordOpen | Call::Sector | Call::Next) {
         text += &format!(" numbers {:?}", request.numbers);

@@ -1,14 +1,14 @@
 //! Drawn disks that the rules accept, written byte by byte from document 01, with what was written kept beside the image.
 
+use super::directories;
 use super::fields;
-use super::folders;
 use super::geometry::{self, EXTRA, PAYLOAD, SECTOR, SLOT, address, bit_place, fills, slot_place};
 use super::names::{self, Name};
 use super::random::Random;
 use super::shapes::Shape;
 
 #[derive(Clone)]
-pub struct File {
+pub struct DrawnFile {
     pub slot: usize,
     pub kind: u8,
     pub name: Name,
@@ -19,33 +19,33 @@ pub struct File {
 }
 
 #[derive(Clone)]
-pub struct Disk {
+pub struct DrawnDisk {
     pub image: Vec<u8>,
     /// The directory tracks beyond four.
     pub extra: usize,
     /// By rising slot.
-    pub files: Vec<File>,
+    pub files: Vec<DrawnFile>,
     /// The first slot whose first name byte is 0; no file stands there or behind it.
     pub end: Option<usize>,
 }
 
-pub fn draw(random: &mut Random) -> Disk {
+pub fn draw(random: &mut Random) -> DrawnDisk {
     let shape = Shape::draw(random);
     of_shape(&shape, random)
 }
 
-pub fn of_shape(shape: &Shape, random: &mut Random) -> Disk {
+pub fn of_shape(shape: &Shape, random: &mut Random) -> DrawnDisk {
     made(shape, None, random)
 }
 
 /// The same, where the files take these map bits, one after the other, whatever order the shape has.
-pub fn on_bits(shape: &Shape, bits: Vec<usize>, random: &mut Random) -> Disk {
+pub fn on_bits(shape: &Shape, bits: Vec<usize>, random: &mut Random) -> DrawnDisk {
     made(shape, Some(bits), random)
 }
 
-fn made(shape: &Shape, bits: Option<Vec<usize>>, random: &mut Random) -> Disk {
-    let mut disk = Disk {
-        image: shape.ground.image(random),
+fn made(shape: &Shape, bits: Option<Vec<usize>>, random: &mut Random) -> DrawnDisk {
+    let mut disk = DrawnDisk {
+        image: shape.background.image(random),
         extra: shape.extra,
         files: Vec::new(),
         end: shape.end,
@@ -65,7 +65,7 @@ fn made(shape: &Shape, bits: Option<Vec<usize>>, random: &mut Random) -> Disk {
             }
         }
     }
-    folders::arrange(&mut disk, random);
+    directories::arrange(&mut disk, random);
     disk.image[EXTRA] = match shape.extra {
         0 => random.pick(&[0, 0, 255]),
         extra => extra as u8,
@@ -73,7 +73,7 @@ fn made(shape: &Shape, bits: Option<Vec<usize>>, random: &mut Random) -> Disk {
     disk
 }
 
-impl Disk {
+impl DrawnDisk {
     pub fn slot(&self, slot: usize) -> &[u8] {
         &self.image[slot_place(slot)..][..SLOT]
     }
@@ -127,10 +127,10 @@ impl Disk {
         self.data() - self.files.iter().map(|file| file.chain.len()).sum::<usize>()
     }
 
-    fn write(&mut self, slot: usize, chain: Vec<usize>, shape: &Shape, random: &mut Random) -> File {
+    fn write(&mut self, slot: usize, chain: Vec<usize>, shape: &Shape, random: &mut Random) -> DrawnFile {
         let kind = kind(&chain, random);
         let name = names::draw(random, &self.names());
-        let mut bytes = shape.ground.bytes(SLOT, random);
+        let mut bytes = shape.background.bytes(SLOT, random);
         bytes[0] = kind | random.byte() & (fields::HIDDEN | fields::PROTECTED);
         bytes[fields::NAME..fields::COUNT].copy_from_slice(&name);
         fields::set_count(&mut bytes, chain.len());
@@ -155,7 +155,7 @@ impl Disk {
             Vec::new()
         };
         self.slot_mut(slot).copy_from_slice(&bytes);
-        File {
+        DrawnFile {
             slot,
             kind,
             name,
@@ -190,7 +190,7 @@ impl Disk {
     }
 
     /// The first sector of a file.
-    pub fn first(&self, file: &File) -> &[u8] {
+    pub fn first(&self, file: &DrawnFile) -> &[u8] {
         &self.image[bit_place(file.chain[0])..][..SECTOR]
     }
 
@@ -217,13 +217,13 @@ impl Disk {
     /// A slot at the directory's end or behind it: anything, such as a live slot's bytes, whole, erased or damaged, which would
     /// be refused if they were read. The end itself has no name.
     fn unread(&mut self, slot: usize, random: &mut Random) {
-        let ground = random.below(5);
-        if ground > 1 {
+        let background = random.below(5);
+        if background > 1 {
             self.copy_of_a_file(slot, random);
         }
         let end = self.end == Some(slot);
         let bytes = self.slot_mut(slot);
-        match ground {
+        match background {
             0 => random.fill(bytes),
             2 => bytes[0] = 0,
             3 => {

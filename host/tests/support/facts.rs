@@ -5,7 +5,7 @@ use super::fields;
 use super::geometry::{self, SLOT, bit_of, bit_place, number, sectors_for, slot_place, slot_sector};
 use super::names::{self, Name};
 
-pub struct Live {
+pub struct LiveSlot {
     pub slot: usize,
     pub name: Name,
     pub kind: u8,
@@ -20,7 +20,7 @@ pub struct Live {
     pub parent: u8,
 }
 
-impl Live {
+impl LiveSlot {
     pub fn is_directory(&self) -> bool {
         fields::is_directory(self.kind)
     }
@@ -29,7 +29,7 @@ impl Live {
 pub struct Facts {
     /// The directory tracks beyond four.
     pub extra: usize,
-    pub live: Vec<Live>,
+    pub live: Vec<LiveSlot>,
     /// Names that stand in erased slots, and from the directory's end on.
     pub erased: Vec<Name>,
     pub free: usize,
@@ -50,7 +50,7 @@ impl Facts {
         let end = end(image);
         let read = |slot: usize| end.is_none_or(|end| slot < end);
         let live = slots().filter(|&(slot, bytes)| read(slot) && bytes[0] != 0);
-        let live = live.map(|(slot, bytes)| Live {
+        let live = live.map(|(slot, bytes)| LiveSlot {
             slot,
             name: fields::name(bytes),
             kind: fields::kind(bytes),
@@ -60,7 +60,7 @@ impl Facts {
             code: bytes[fields::CODE],
             parent: bytes[fields::PARENT],
         });
-        let live: Vec<Live> = live.collect();
+        let live: Vec<LiveSlot> = live.collect();
         let erased = slots().filter(|&(slot, bytes)| !read(slot) || bytes[0] == 0);
         let taken = slots().find(|(_, bytes)| bytes[0] == 0 || bytes[fields::NAME] == 0);
         let taken = taken.map(|(slot, _)| slot);
@@ -90,7 +90,7 @@ impl Facts {
     }
 
     /// The live slot that a name asked for finds, capitals or not.
-    pub fn find(&self, given: &[u8]) -> Option<&Live> {
+    pub fn find(&self, given: &[u8]) -> Option<&LiveSlot> {
         let usable = (1..=10).contains(&given.len()) && given[0] != 0;
         usable
             .then(|| names::filled(given))
@@ -117,7 +117,7 @@ pub fn end(image: &[u8]) -> Option<usize> {
 }
 
 /// How many sectors the live maps have together.
-fn used(live: &[Live]) -> usize {
+fn used(live: &[LiveSlot]) -> usize {
     let mut used: Vec<usize> = live.iter().flat_map(|live| live.sectors.iter().copied()).collect();
     used.sort_unstable();
     used.dedup();

@@ -1,21 +1,21 @@
 //! What a gather does to a file, by document 02, M-112, from the bytes of an accepted disk.
 
-use super::disks::{self, Disk};
-use super::facts::{Facts, Live};
+use super::disks::{self, DrawnDisk};
+use super::facts::{Facts, LiveSlot};
 use super::fields;
 use super::geometry::{self, BITS, PAYLOAD, SECTOR, SECTORS, SLOT, bit_of, bit_place, number, slot_place};
 use super::random::Random;
-use super::shapes::{Ground, Order, Shape};
+use super::shapes::{Background, Order, Shape};
 
 /// A disk with a file for each of these chains, in slots 1 on, and behind them a directory and the directory's end.
-pub fn disk(extra: usize, chains: &[Vec<usize>], random: &mut Random) -> Disk {
+pub fn disk(extra: usize, chains: &[Vec<usize>], random: &mut Random) -> DrawnDisk {
     let counts = chains.iter().map(Vec::len).chain([0]);
     let shape = Shape {
         extra,
         files: (1..).zip(counts).collect(),
         end: Some(chains.len() + 2),
         order: Order::Rising,
-        ground: Ground::Filled(0xe5),
+        background: Background::Filled(0xe5),
         tidy: false,
     };
     disks::on_bits(&shape, chains.concat(), random)
@@ -23,17 +23,17 @@ pub fn disk(extra: usize, chains: &[Vec<usize>], random: &mut Random) -> Disk {
 
 /// Where a file goes.
 #[derive(Clone, Copy, Debug, PartialEq, Eq)]
-pub enum Goes {
+pub enum GatherResult {
     /// It lies on consecutive bits already, rising.
-    Nowhere,
+    InPlace,
     /// To the run that begins at this bit.
-    To(usize),
+    MovedTo(usize),
     /// It must move, and no run is long enough.
-    Stuck,
+    NoRun,
 }
 
 /// The map bits of a file in the order of its chain; none of a directory.
-pub fn chain(image: &[u8], live: &Live) -> Vec<usize> {
+pub fn chain(image: &[u8], live: &LiveSlot) -> Vec<usize> {
     let slot = &image[slot_place(live.slot)..][..SLOT];
     let first = bit_of([slot[fields::FIRST], slot[fields::FIRST + 1]]);
     let next = |&bit: &usize| {
@@ -64,9 +64,9 @@ pub fn lowest_run(free: &[bool], length: usize) -> Option<usize> {
 }
 
 /// Where this file goes.
-pub fn goes(image: &[u8], facts: &Facts, live: &Live) -> Goes {
+pub fn gather_result(image: &[u8], facts: &Facts, live: &LiveSlot) -> GatherResult {
     if in_a_row(&chain(image, live)) {
-        return Goes::Nowhere;
+        return GatherResult::InPlace;
     }
-    lowest_run(&free(facts), live.sectors.len()).map_or(Goes::Stuck, Goes::To)
+    lowest_run(&free(facts), live.sectors.len()).map_or(GatherResult::NoRun, GatherResult::MovedTo)
 }

@@ -4,7 +4,7 @@
 //!
 //! A fault is not caught: it ends the test program by a signal, and that fails the test. Linux on x86-64 alone.
 
-use super::calls::{NOTHING, Part, SLICES};
+use super::calls::{NOTHING, RawSlice, SLICES};
 use super::compare::Lend;
 use std::ffi::{c_int, c_void};
 use std::ptr;
@@ -26,7 +26,7 @@ const CANARY: u8 = 0xa7;
 
 /// Which of the two closed pages a buffer touches.
 #[derive(Clone, Copy, Debug, PartialEq, Eq)]
-pub enum Flush {
+pub enum Edge {
     Front,
     End,
 }
@@ -75,10 +75,10 @@ impl Pages {
     }
 
     /// Where a buffer of this length stands.
-    pub fn part(&self, length: usize, flush: Flush) -> Part {
-        let from = if flush == Flush::End { self.open - length } else { 0 };
+    pub fn part(&self, length: usize, edge: Edge) -> RawSlice {
+        let from = if edge == Edge::End { self.open - length } else { 0 };
         // Safety: it lies between the closed pages.
-        Part {
+        RawSlice {
             front: unsafe { self.front().add(from) },
             length,
         }
@@ -100,15 +100,15 @@ impl Drop for Pages {
 
 /// Lends every slice of a request in this way.
 pub struct Guarded {
-    flush: Flush,
+    edge: Edge,
     empty: Empty,
     lent: [Option<(Pages, usize)>; SLICES],
 }
 
 impl Guarded {
-    pub fn new(flush: Flush, empty: Empty) -> Guarded {
+    pub fn new(edge: Edge, empty: Empty) -> Guarded {
         Guarded {
-            flush,
+            edge,
             empty,
             lent: Default::default(),
         }
@@ -116,18 +116,18 @@ impl Guarded {
 
     /// Where the slice stands among the open bytes.
     fn from(&self, pages: &Pages, length: usize) -> usize {
-        pages.part(length, self.flush).front as usize - pages.front() as usize
+        pages.part(length, self.edge).front as usize - pages.front() as usize
     }
 }
 
 impl Lend for Guarded {
-    fn lend(&mut self, role: usize, bytes: &[u8], may_change: bool) -> Part {
+    fn lend(&mut self, role: usize, bytes: &[u8], may_change: bool) -> RawSlice {
         self.lent[role] = None;
         if bytes.is_empty() && self.empty == Empty::Null {
             return NOTHING;
         }
         let pages = Pages::new(bytes.len());
-        let part = pages.part(bytes.len(), self.flush);
+        let part = pages.part(bytes.len(), self.edge);
         // Safety: the open pages can be written, and the slice lies inside.
         unsafe {
             ptr::write_bytes(pages.front(), CANARY, part.front as usize - pages.front() as usize);
@@ -157,7 +157,7 @@ impl Lend for Guarded {
         before.iter().chain(&rest[*length..]).all(|&byte| byte == CANARY)
     }
 
-    fn nothing(&self) -> Part {
+    fn nothing(&self) -> RawSlice {
         NOTHING
     }
 }

@@ -1,6 +1,6 @@
 //! Buffers lent to the C layer at an odd address, with known bytes on both sides that must stay.
 
-use super::calls::{NOTHING, Part, SLICES};
+use super::calls::{NOTHING, RawSlice, SLICES};
 use super::compare::Lend;
 
 const MARGIN: usize = 48;
@@ -21,7 +21,7 @@ struct Buffer {
 }
 
 impl Lend for Margins {
-    fn lend(&mut self, role: usize, bytes: &[u8], _may_change: bool) -> Part {
+    fn lend(&mut self, role: usize, bytes: &[u8], _may_change: bool) -> RawSlice {
         self.turn += 1;
         self.buffers[role].lend(bytes, self.turn % 8 * 2 + 1)
     }
@@ -37,14 +37,14 @@ impl Lend for Margins {
         before.iter().chain(&rest[buffer.length..]).all(|&byte| byte == CANARY)
     }
 
-    fn nothing(&self) -> Part {
+    fn nothing(&self) -> RawSlice {
         NOTHING
     }
 }
 
 impl Buffer {
     /// Puts the bytes at an address that is `odd` mod 16.
-    fn lend(&mut self, bytes: &[u8], odd: usize) -> Part {
+    fn lend(&mut self, bytes: &[u8], odd: usize) -> RawSlice {
         let size = bytes.len() + 2 * MARGIN + 16;
         self.store.clear();
         self.store.reserve(size);
@@ -56,7 +56,7 @@ impl Buffer {
         self.store.resize(size, CANARY);
         let front = self.store[self.from..].as_mut_ptr();
         assert_eq!(front as usize % 16, odd, "the buffer does not stand where it should");
-        Part {
+        RawSlice {
             front,
             length: bytes.len(),
         }

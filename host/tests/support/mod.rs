@@ -9,10 +9,10 @@
 //! - `calls`: one request, asked of the C layer and of `paper`.
 //! - `compare`: the same request to both, with every buffer compared at return.
 //! - `margins`, `guarded`: two ways to lend the buffers to the C layer.
-//! - `folders`: codes of directories, and what lies beneath them.
+//! - `directories`: codes of directories, and what lies beneath them.
 //! - `gathers`: where a scattered file goes.
-//! - `handfuls`: names that are erased at once, and what becomes of them.
-//! - `facts`, `asking`, `wishes`, `readers`: drawn requests that fit a disk.
+//! - `erase_many`: names that are erased at once, and what becomes of them.
+//! - `facts`, `requests`, `save_requests`, `readers`: drawn requests that fit a disk.
 //! - `recordings`: drawn recordings, their records, and what each call writes.
 //! - `reports`: drawn reports, and what is counted of a disk.
 //! - `tally`: how often each call gave each refusal.
@@ -20,26 +20,26 @@
 // Every test program takes this whole folder and uses a part of it.
 #![allow(dead_code)]
 
-pub mod asking;
 pub mod calls;
 pub mod compare;
 pub mod damage;
+pub mod directories;
 pub mod disks;
+pub mod erase_many;
 pub mod facts;
 pub mod fields;
-pub mod folders;
 pub mod gathers;
 pub mod geometry;
 pub mod guarded;
-pub mod handfuls;
 pub mod margins;
 pub mod names;
 pub mod random;
 pub mod readers;
 pub mod recordings;
 pub mod reports;
+pub mod requests;
+pub mod save_requests;
 pub mod settings;
 pub mod shapes;
 pub mod tally;
 pub mod waste;
-pub mod wishes;

@@ -1,19 +1,19 @@
 //! Drawn readers: three numbers and a room for the next piece. And a third opinion on what comes of them, byte by byte.
 
-use super::asking::Asked;
 use super::calls::{Call, OUT};
 use super::facts::Facts;
 use super::geometry::{LONGEST, PAYLOAD, SECTOR, SECTORS, bit_of, bit_place, number};
 use super::random::Random;
+use super::requests::OwnedRequest;
 
 /// Where a reader's next byte stands: its sector and its offset there.
-pub type Spot = (usize, usize);
+pub type Position = (usize, usize);
 
-/// The spot of a reader that has no next byte.
-pub const END: Spot = (SECTORS, 0);
+/// The position of a reader that has no next byte.
+pub const END: Position = (SECTORS, 0);
 
 /// A request for the next piece: of a reader in a file mostly, else of rubbish.
-pub fn draw(facts: &Facts, random: &mut Random) -> Asked {
+pub fn draw(facts: &Facts, random: &mut Random) -> OwnedRequest {
     let sectors: Vec<usize> = facts.live.iter().flat_map(|live| live.sectors.iter().copied()).collect();
     let sector = match random.below(8) {
         0 => sector(random),
@@ -22,7 +22,7 @@ pub fn draw(facts: &Facts, random: &mut Random) -> Asked {
         _ => random.pick(&sectors) as u32,
     };
     let left = left(random);
-    let mut asked = Asked::new(Call::Next).with(OUT, buffer(left as usize, random));
+    let mut asked = OwnedRequest::new(Call::Next).with(OUT, buffer(left as usize, random));
     asked.numbers = [sector, offset(random), left];
     asked
 }
@@ -77,8 +77,8 @@ fn buffer(left: usize, random: &mut Random) -> Vec<u8> {
     random.bytes(room)
 }
 
-/// One byte further than a byte's spot: in the sector, or past its last byte at the first of the data sector that it leads to.
-fn onward(image: &[u8], (sector, offset): Spot) -> Spot {
+/// One byte further than a byte's position: in the sector, or past its last byte at the first of the data sector that it leads to.
+fn onward(image: &[u8], (sector, offset): Position) -> Position {
     if offset + 1 < PAYLOAD {
         return (sector, offset + 1);
     }
@@ -86,16 +86,16 @@ fn onward(image: &[u8], (sector, offset): Spot) -> Spot {
     bit_of([image[link], image[link + 1]]).map_or(END, |bit| (number(bit_place(bit)), 0))
 }
 
-/// The bytes that a piece has by the rule, and the spot after them: one after the other, until as many have come as are wanted
+/// The bytes that a piece has by the rule, and the position after them: one after the other, until as many have come as are wanted
 /// or none stands there.
-pub fn by_bytes(image: &[u8], numbers: [u32; 3], room: usize) -> (Vec<u8>, Spot) {
+pub fn by_bytes(image: &[u8], numbers: [u32; 3], room: usize) -> (Vec<u8>, Position) {
     let [sector, offset, left] = numbers.map(|number| number as usize);
     let can_be = image.len() == SECTORS * SECTOR && sector < SECTORS && offset < PAYLOAD && left <= LONGEST;
-    let mut spot = if can_be { (sector, offset) } else { END };
+    let mut position = if can_be { (sector, offset) } else { END };
     let mut bytes = Vec::new();
-    while spot != END && bytes.len() < left.min(room) {
-        bytes.push(image[spot.0 * SECTOR + spot.1]);
-        spot = onward(image, spot);
+    while position != END && bytes.len() < left.min(room) {
+        bytes.push(image[position.0 * SECTOR + position.1]);
+        position = onward(image, position);
     }
-    (bytes, spot)
+    (bytes, position)
 }

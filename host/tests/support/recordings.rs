@@ -1,13 +1,13 @@
 //! Recordings (document 02, M-109): drawn ones, the bytes of their records, and a third opinion on what each call writes.
 
-use super::asking::{self, Asked};
 use super::calls::{BODY, Call, EXEC, INFO, NAME, OUT, RECORD};
 use super::facts::Facts;
 use super::gathers;
 use super::geometry::{BITS, PAYLOAD, SECTOR, address, bit_place, fills, is_data, number, sectors_for};
 use super::names::{self, Name};
 use super::random::Random;
-use super::wishes;
+use super::requests::{self, OwnedRequest};
+use super::save_requests;
 
 /// How many bytes a record has.
 pub const LENGTH: usize = 2_048;
@@ -43,7 +43,7 @@ pub struct Recording {
 
 impl Recording {
     /// Opened by such a request on a disk that shows this.
-    pub fn of(asked: &Asked, facts: &Facts) -> Recording {
+    pub fn of(asked: &OwnedRequest, facts: &Facts) -> Recording {
         Recording {
             numbers: asked.numbers,
             name: names::filled(&asked.slices[NAME]),
@@ -115,16 +115,16 @@ impl Recording {
     }
 
     /// A request for a piece, with this room in the list.
-    pub fn add(&self, piece: &[u8], list: usize) -> Asked {
-        Asked::new(Call::RecordAdd)
+    pub fn add(&self, piece: &[u8], list: usize) -> OwnedRequest {
+        OwnedRequest::new(Call::RecordAdd)
             .with(BODY, piece)
             .with(RECORD, self.record())
             .with(OUT, vec![0x5c; list])
     }
 
     /// A request for the close, with this room in the list.
-    pub fn close(&self, list: usize) -> Asked {
-        Asked::new(Call::RecordClose)
+    pub fn close(&self, list: usize) -> OwnedRequest {
+        OwnedRequest::new(Call::RecordClose)
             .with(RECORD, self.record())
             .with(OUT, vec![0x5c; list])
     }
@@ -135,8 +135,8 @@ impl Recording {
     }
 
     /// A save of the whole.
-    pub fn save(&self) -> Asked {
-        let mut asked = Asked::new(Call::Save)
+    pub fn save(&self) -> OwnedRequest {
+        let mut asked = OwnedRequest::new(Call::Save)
             .with(NAME, self.name)
             .with(EXEC, &self.exec[..])
             .with(INFO, &self.info[..])
@@ -153,9 +153,9 @@ pub fn numbers(bits: &[usize]) -> Vec<usize> {
 }
 
 /// The request that opens what a save would save.
-pub fn opening(save: Asked, record: Vec<u8>) -> Asked {
+pub fn opening(save: OwnedRequest, record: Vec<u8>) -> OwnedRequest {
     let [_, _, name, _, exec, info, ..] = save.slices;
-    let mut asked = Asked::new(Call::RecordOpen)
+    let mut asked = OwnedRequest::new(Call::RecordOpen)
         .with(NAME, name)
         .with(EXEC, exec)
         .with(INFO, info)
@@ -164,14 +164,14 @@ pub fn opening(save: Asked, record: Vec<u8>) -> Asked {
     asked
 }
 
-pub fn draw_open(facts: &Facts, random: &mut Random) -> Asked {
-    opening(wishes::draw(facts, random), asking::buffer(LENGTH, random))
+pub fn draw_open(facts: &Facts, random: &mut Random) -> OwnedRequest {
+    opening(save_requests::draw(facts, random), requests::buffer(LENGTH, random))
 }
 
 /// A recording that the disk takes if it has room. Its sectors between the first and the last are not written, so that it mostly
 /// has none.
 fn short(facts: &Facts, random: &mut Random) -> Recording {
-    let mut recording = Recording::of(&wishes::good(facts, random), facts);
+    let mut recording = Recording::of(&save_requests::accepted(facts, random), facts);
     let length = match random.below(10) {
         0 => 0,
         1 => random.pick(&[1, 500, 501, 502, 1_010, 1_011]),
@@ -187,13 +187,13 @@ fn spoilt(recording: &Recording, facts: &Facts, random: &mut Random) -> Vec<u8> 
     let mut record = recording.record();
     for _ in 0..random.pick(&[0, 0, 0, 0, 1, 1, 1, 2]) {
         match random.below(12) {
-            0 => record[KIND] = wishes::bad_kind(random) as u8,
+            0 => record[KIND] = save_requests::refused_kind(random) as u8,
             1 => record[PAGE] = random.between(32, 255) as u8,
             2 => record[OFFSET + 1] = random.byte(),
             3 => record[EXTRA] = random.pick(&[0, 1, 35, 36, 255]),
             4 => record[OWN_NAME + random.below(10)] = random.pick(&[0, 31, 127, 255]),
             5 => {
-                let taken = asking::taken_name(facts, random).unwrap_or_else(|| recording.name.to_vec());
+                let taken = requests::taken_name(facts, random).unwrap_or_else(|| recording.name.to_vec());
                 record[OWN_NAME..EXECUTION].copy_from_slice(&names::filled(&taken));
             }
             6 => record[USED + random.below(195)] ^= 1 << random.below(8),
@@ -216,7 +216,7 @@ fn spoilt(recording: &Recording, facts: &Facts, random: &mut Random) -> Vec<u8> 
     record
 }
 
-pub fn draw_piece(facts: &Facts, random: &mut Random) -> Asked {
+pub fn draw_piece(facts: &Facts, random: &mut Random) -> OwnedRequest {
     let recording = short(facts, random);
     let length = match random.below(10) {
         0 => 0,
@@ -230,17 +230,17 @@ pub fn draw_piece(facts: &Facts, random: &mut Random) -> Asked {
     let fits = recording.with(&piece).sectors() <= facts.free;
     let list = match if fits { recording.completes(&piece).len() } else { 0 } {
         0 => random.pick(&[0, 0, 1, 2, 7]),
-        many => asking::list(many, random).len(),
+        many => requests::list(many, random).len(),
     };
-    Asked::new(Call::RecordAdd)
+    OwnedRequest::new(Call::RecordAdd)
         .with(BODY, piece)
         .with(RECORD, spoilt(&recording, facts, random))
         .with(OUT, random.bytes(list))
 }
 
-pub fn draw_close(facts: &Facts, random: &mut Random) -> Asked {
+pub fn draw_close(facts: &Facts, random: &mut Random) -> OwnedRequest {
     let recording = short(facts, random);
-    Asked::new(Call::RecordClose)
+    OwnedRequest::new(Call::RecordClose)
         .with(RECORD, spoilt(&recording, facts, random))
-        .with(OUT, asking::list(recording.close_sectors(facts), random))
+        .with(OUT, requests::list(recording.close_sectors(facts), random))
 }

@@ -1,9 +1,9 @@
 //! Drawn reports, and what a report says by the rule: a third opinion, in whole numbers.
 
-use super::asking::Asked;
 use super::calls::{Call, OUT, TWO};
-use super::disks::File;
+use super::disks::DrawnFile;
 use super::random::Random;
+use super::requests::OwnedRequest;
 
 pub const REPORT: usize = 496;
 pub const NUMBERS: usize = 124;
@@ -27,21 +27,21 @@ pub fn disks(report: &[u8]) -> u64 {
 
 /// What is counted of some disks.
 #[derive(Clone, PartialEq, Eq, Debug)]
-pub struct Counts([u64; KEPT]);
+pub struct ReportCounts([u64; KEPT]);
 
-impl Counts {
-    pub fn none() -> Counts {
-        Counts([0; KEPT])
+impl ReportCounts {
+    pub fn none() -> ReportCounts {
+        ReportCounts([0; KEPT])
     }
 
     /// The numbers of a report.
-    pub fn of(report: &[u8]) -> Counts {
-        Counts(std::array::from_fn(|at| number(report, at).into()))
+    pub fn of(report: &[u8]) -> ReportCounts {
+        ReportCounts(std::array::from_fn(|at| number(report, at).into()))
     }
 
     /// An accepted disk with these files, of so many data sectors.
-    pub fn accepted(files: &[File], data: usize) -> Counts {
-        let mut counts = Counts::none();
+    pub fn accepted(files: &[DrawnFile], data: usize) -> ReportCounts {
+        let mut counts = ReportCounts::none();
         counts.0[0] = 1;
         for file in files {
             let sectors = file.chain.len();
@@ -53,15 +53,15 @@ impl Counts {
         counts
     }
 
-    pub fn refused(number: u8) -> Counts {
-        let mut counts = Counts::none();
+    pub fn refused(number: u8) -> ReportCounts {
+        let mut counts = ReportCounts::none();
         counts.0[usize::from(number)] = 1;
         counts
     }
 
     /// Both together, modulo 2^32.
-    pub fn and(&self, other: &Counts) -> Counts {
-        Counts(std::array::from_fn(|at| (self.0[at] + other.0[at]) % (1 << 32)))
+    pub fn and(&self, other: &ReportCounts) -> ReportCounts {
+        ReportCounts(std::array::from_fn(|at| (self.0[at] + other.0[at]) % (1 << 32)))
     }
 }
 
@@ -72,8 +72,8 @@ fn class(sectors: usize) -> usize {
 }
 
 /// A request to add a disk or to join a report.
-pub fn draw(call: Call, random: &mut Random) -> Asked {
-    let asked = Asked::new(call).with(OUT, buffer(random));
+pub fn draw(call: Call, random: &mut Random) -> OwnedRequest {
+    let asked = OwnedRequest::new(call).with(OUT, buffer(random));
     match call {
         Call::ReportJoin => asked.with(TWO, buffer(random)),
         _ => asked,

@@ -12,7 +12,7 @@ pub struct Shape {
     /// The directory's end, behind every live slot; none where every slot has a name.
     pub end: Option<usize>,
     pub order: Order,
-    pub ground: Ground,
+    pub background: Background,
     /// Whether every carried file has no more sectors than it needs.
     pub tidy: bool,
 }
@@ -27,7 +27,7 @@ pub enum Order {
 
 /// What stands in unused sectors, erased and unread slots and bytes that no rule reads.
 #[derive(Clone, Copy)]
-pub enum Ground {
+pub enum Background {
     Clear,
     Filled(u8),
     Rubbish,
@@ -76,17 +76,17 @@ impl Shape {
         let end = end(extra, slots.last().copied().unwrap_or(0), random);
         let files = slots.into_iter().zip(counts).collect();
         let order = random.pick(&[Order::Scattered, Order::Scattered, Order::Rising, Order::Falling]);
-        let ground = match random.below(5) {
-            0 => Ground::Clear,
-            1 => Ground::Filled(random.pick(&[1, 4, 229, 255])),
-            _ => Ground::Rubbish,
+        let background = match random.below(5) {
+            0 => Background::Clear,
+            1 => Background::Filled(random.pick(&[1, 4, 229, 255])),
+            _ => Background::Rubbish,
         };
         Shape {
             extra,
             files,
             end,
             order,
-            ground,
+            background,
             tidy: random.one_in(4),
         }
     }
@@ -103,16 +103,16 @@ impl Shape {
     }
 }
 
-impl Ground {
+impl Background {
     pub fn image(self, random: &mut Random) -> Vec<u8> {
         self.bytes(IMAGE, random)
     }
 
     pub fn bytes(self, length: usize, random: &mut Random) -> Vec<u8> {
         match self {
-            Ground::Clear => vec![0; length],
-            Ground::Filled(byte) => vec![byte; length],
-            Ground::Rubbish => random.bytes(length),
+            Background::Clear => vec![0; length],
+            Background::Filled(byte) => vec![byte; length],
+            Background::Rubbish => random.bytes(length),
         }
     }
 }

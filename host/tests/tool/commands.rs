@@ -48,7 +48,7 @@ fn the_other_changes() {
     let folder = Folder::new();
     let image = folder.image(&disk(&[("ONE", 10), ("TWO", 600)]));
     let marks = || {
-        held(&image)
+        disk_in(&image)
             .listing()
             .entries()
             .iter()
@@ -77,14 +77,14 @@ fn the_other_changes() {
     for command in ["erase", "hide", "show", "protect", "release", "gather"] {
         on(command, &image, ["NEW"]).fails(1, "NEW: refusal 15: no live slot has the name, capitals or not\n");
     }
-    assert_eq!(held(&image).listing().entries().len(), 1);
+    assert_eq!(disk_in(&image).listing().entries().len(), 1);
     assert_eq!(on("read", &image, ["TWO"]).out, body(600));
 }
 
 #[test]
 fn sector_dumps_any_image() {
     let folder = Folder::new();
-    let mut bytes = vec![255; 819_200]; // no sound disk
+    let mut bytes = vec![255; 819_200]; // no accepted disk
     bytes[5_120..5_120 + 6].copy_from_slice(b"Hello\x07");
     let image = folder.file("disk.mgt", &bytes);
     let run = on("sector", &image, ["128", "1"]);

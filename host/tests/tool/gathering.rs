@@ -37,7 +37,7 @@ fn scattered() -> Disk {
 fn one_file() {
     let folder = Folder::new();
     let image = folder.image(&scattered());
-    let old = held(&image);
+    let old = disk_in(&image);
     assert_eq!(old.is_scattered(&name("TUNES")), Ok(true));
     let dry = on("gather", &image, ["tunes", "--dry-run"]);
     assert_eq!(
@@ -45,9 +45,9 @@ fn one_file() {
         "number  track  sector\n   103      5       4\n   104      5       5\n     0      0       1\n\
          3 sectors would be written, in this order; nothing is written\n"
     );
-    assert!(held(&image) == old);
+    assert!(disk_in(&image) == old);
     assert_eq!(on("gather", &image, ["TUNES"]).done(), "gathered TUNES: 3 sectors written\n");
-    let new = held(&image);
+    let new = disk_in(&image);
     assert_eq!(new.is_scattered(&name("TUNES")), Ok(false));
     assert_eq!(new.read(&name("TUNES")), old.read(&name("TUNES")));
     age(&image);
@@ -112,7 +112,7 @@ fn all_files() {
     ]);
     let image = folder.image(&disk);
     let names = ["FIRST", "LOW", "LONG", "WALL", "HIGH"];
-    let scattered = |image: &std::path::Path| names.map(|file| held(image).is_scattered(&name(file)).unwrap());
+    let scattered = |image: &std::path::Path| names.map(|file| disk_in(image).is_scattered(&name(file)).unwrap());
     assert_eq!(scattered(&image), [false, true, true, false, false]);
     let before = state(&image);
     let dry = on("gather", &image, ["--all", "--dry-run"]);
@@ -128,7 +128,7 @@ fn all_files() {
     assert_eq!((run.status, run.err.lines().count()), (1, 1));
     assert_eq!(scattered(&image), [false, false, true, false, false]);
     for file in names {
-        assert_eq!(held(&image).read(&name(file)), disk.read(&name(file)), "{file}");
+        assert_eq!(disk_in(&image).read(&name(file)), disk.read(&name(file)), "{file}");
     }
     on("erase", &image, ["WALL"]).done();
     on("erase", &image, ["LONG"]).done();

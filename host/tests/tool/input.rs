@@ -36,7 +36,7 @@ fn images_of_every_content() {
     let folder = Folder::new();
     let (mut accepted, mut refused) = (0, 0);
     for seed in 0..60u32 {
-        // A sound disk with some bytes of its directory and of its first data track changed.
+        // An accepted disk with some bytes of its directory and of its first data track changed.
         let mut bytes = disk(&[("ONE", 5_000), ("TWO", 300)]).into_image().into_bytes();
         for change in 0..seed % 4 {
             let mixed = (seed * 4 + change).wrapping_mul(2_654_435_761);
@@ -93,16 +93,16 @@ fn what_is_no_file() {
 #[test]
 fn images_and_bodies_from_a_pipe() {
     let folder = Folder::new();
-    let sound = disk(&[("ONE", 5_000)]);
-    assert_eq!(fed(["check", "/dev/stdin"], sound.image().as_bytes()).done(), ACCEPTED);
+    let accepted = disk(&[("ONE", 5_000)]);
+    assert_eq!(fed(["check", "/dev/stdin"], accepted.image().as_bytes()).done(), ACCEPTED);
     fed(["check", "/dev/stdin"], &[0; 1_000]).fails(1, "refusal 1: ");
-    let image = folder.image(&sound);
+    let image = folder.image(&accepted);
     for file in ["/dev/zero", "/dev/urandom"] {
         on("save", &image, ["LONG", file]).fails(1, "refusal 19: fewer free sectors than the save takes\n");
     }
     on("save", &image, ["NONE", "missing"]).fails(3, "missing: No such file");
     on("save", &image, ["NONE".into(), folder.path("").into_os_string()]).fails(3, "directory");
-    assert!(fs::read(&image).unwrap() == sound.image().as_bytes());
+    assert!(fs::read(&image).unwrap() == accepted.image().as_bytes());
     on("save", &image, ["EMPTY", "/dev/null"]).done();
     assert_eq!(on("read", &image, ["EMPTY"]).done(), "");
 }

@@ -57,7 +57,7 @@ fn a_change_waits_for_a_lock() {
     lock.lock().unwrap();
     let run = waits(&["hide", path, "ONE"], lock);
     assert_eq!((run.status, run.text()), (0, "hid ONE: 1 sector written\n"));
-    assert!(held(&image).listing().entries()[0].hidden());
+    assert!(disk_in(&image).listing().entries()[0].hidden());
 }
 
 /// What is read is read while nobody writes; readers do not wait for each other.
@@ -110,7 +110,7 @@ fn a_change_that_waited_sees_the_change_before() {
         child.wait_with_output().unwrap().stdout,
         b"renamed TWO to THREE: 1 sector written\n"
     );
-    assert_eq!(held(&image).listing().entries()[0].name().to_string(), "THREE");
+    assert_eq!(disk_in(&image).listing().entries()[0].name().to_string(), "THREE");
 }
 
 /// Many tools at once on one image: every change is there in the end.
@@ -130,7 +130,7 @@ fn many_at_once_lose_nothing() {
         let output = child.wait_with_output().unwrap();
         assert!(output.status.success(), "{}", String::from_utf8_lossy(&output.stderr));
     }
-    assert_eq!(held(&image).listing().entries().len(), MANY + 1);
+    assert_eq!(disk_in(&image).listing().entries().len(), MANY + 1);
     for number in 0..MANY {
         assert!(on("read", &image, [format!("NEW{number}")]).out == body(600 * number));
     }

@@ -135,7 +135,7 @@ fn names_in_capitals_or_not() {
     on("save", &image, ["songs 2", "/dev/null"]).fails(1, "songs 2: refusal 16 at slot 2: ");
     assert_eq!(on("erase", &image, ["tUNES"]).done(), "erased tUNES: 1 sector written\n");
     assert_eq!(names(), ["Songs 2", "x"]);
-    // Two files whose names differ in their capitals alone are no sound disk.
+    // Two files whose names differ in their capitals alone are no accepted disk.
     let mut bytes = disk(&[("TUNES", 10), ("SONGS", 20)]).into_image().into_bytes();
     bytes[256 + 1..][..5].copy_from_slice(b"tunes");
     let image = folder.file("disk.mgt", &bytes);

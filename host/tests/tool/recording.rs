@@ -16,7 +16,7 @@ fn words<'a>(image: &'a Path, more: &[&'a str]) -> Vec<&'a str> {
 }
 
 /// A folder with an image of two files.
-fn scene() -> (Folder, PathBuf) {
+fn fixture() -> (Folder, PathBuf) {
     let folder = Folder::new();
     let image = folder.image(&disk(&[("ONE", 10), ("TWO", 600)]));
     (folder, image)
@@ -28,7 +28,7 @@ fn a_recording_is_a_save() {
     let options = "--kind screen --page 0x1f --offset=49151 --exec 0102FF --info 0a0b";
     for (length, sectors) in [(0, 2), (1, 2), (501, 2), (502, 3), (1_012, 4), (20_000, 41), (100_000, 198)] {
         for options in ["", options].map(|options| options.split_whitespace().collect::<Vec<_>>()) {
-            let (folder, image) = scene();
+            let (folder, image) = fixture();
             let bytes = body(length);
             let more = [&["TUNE"][..], &options].concat();
             let recorded = fed(words(&image, &more), &bytes);
@@ -50,7 +50,7 @@ fn a_recording_is_a_save() {
 fn started(image: &Path) -> Child {
     let mut command = tool(words(image, &["TUNE"]));
     command.stdin(Stdio::piped()).stdout(Stdio::piped()).stderr(Stdio::piped());
-    heeding(&mut command).spawn().expect("the tool runs")
+    with_signals(&mut command).spawn().expect("the tool runs")
 }
 
 /// Waits until the image is no longer what it was, and gives what it is then.
@@ -69,16 +69,16 @@ fn changed(image: &Path, before: &[u8]) -> Vec<u8> {
 /// What comes is written while more is waited for; and till the input ends the files are the old ones.
 #[test]
 fn it_is_saved_as_it_comes() {
-    let (_folder, image) = scene();
-    let (old, bytes) = (held(&image), body(3_000));
+    let (_folder, image) = fixture();
+    let (old, bytes) = (disk_in(&image), body(3_000));
     let mut child = started(&image);
     let mut input = child.stdin.take().expect("it has an input");
     let mut before = fs::read(&image).unwrap();
     for piece in bytes.chunks(1_500) {
         input.write_all(piece).unwrap();
         before = changed(&image, &before);
-        assert_eq!(held(&image).listing().entries(), old.listing().entries());
-        assert_eq!(held(&image).listing().free(), old.listing().free());
+        assert_eq!(disk_in(&image).listing().entries(), old.listing().entries());
+        assert_eq!(disk_in(&image).listing().free(), old.listing().free());
     }
     on("hide", &image, ["ONE", "--no-wait"]).fails(3, "another program has locked it");
     drop(input);
@@ -91,8 +91,8 @@ fn it_is_saved_as_it_comes() {
 #[test]
 fn a_signal_gives_it_up() {
     for (signal, number) in [("-INT", 2), ("-TERM", 15), ("-HUP", 1), ("-KILL", 9)] {
-        let (_folder, image) = scene();
-        let old = held(&image);
+        let (_folder, image) = fixture();
+        let old = disk_in(&image);
         let mut child = started(&image);
         let mut input = child.stdin.take().expect("it has an input");
         input.write_all(&body(5_000)).unwrap();
@@ -101,7 +101,7 @@ fn a_signal_gives_it_up() {
         assert!(status.expect("`kill` runs").success());
         let output = child.wait_with_output().unwrap();
         assert_eq!((output.status.signal(), output.stdout.len()), (Some(number), 0));
-        assert_eq!(held(&image).listing().entries(), old.listing().entries());
+        assert_eq!(disk_in(&image).listing().entries(), old.listing().entries());
         for name in ["ONE", "TWO"] {
             assert_eq!(
                 on("read", &image, [name]).out,
@@ -116,12 +116,12 @@ fn a_signal_gives_it_up() {
     }
 }
 
-/// A signal between two sectors: `meddle.c` sends it when the third is flushed.
+/// A signal between two sectors: `interpose.c` sends it when the third is flushed.
 #[test]
 fn a_signal_while_it_writes() {
-    let (folder, image) = scene();
-    let old = held(&image);
-    let library = library(&folder, "meddle.c");
+    let (folder, image) = fixture();
+    let old = disk_in(&image);
+    let library = library(&folder, "interpose.c");
     let input = folder.file("body", &body(4_000));
     for (at, said) in [
         ("flush 3", "the signal INT came: the recording is given up."),
@@ -133,9 +133,9 @@ fn a_signal_while_it_writes() {
         command
             .stdin(File::open(&input).unwrap())
             .env("LD_PRELOAD", &library)
-            .env("MEDDLE_AT", at)
-            .env("MEDDLE", "kill -INT $PPID");
-        let output = heeding(&mut command).output().unwrap();
+            .env("INTERPOSE_AT", at)
+            .env("INTERPOSE_LINE", "kill -INT $PPID");
+        let output = with_signals(&mut command).output().unwrap();
         let err = String::from_utf8_lossy(&output.stderr);
         assert_eq!((output.status.signal(), output.stdout.len()), (Some(2), 0), "{at}: {err}");
         assert!(err.contains(said), "{at}: {err}");
@@ -143,7 +143,7 @@ fn a_signal_while_it_writes() {
             err.ends_with("The old disk is still there and reads as before.\n"),
             "{at}: {err}"
         );
-        assert_eq!(held(&image).listing().entries(), old.listing().entries(), "{at}");
+        assert_eq!(disk_in(&image).listing().entries(), old.listing().entries(), "{at}");
     }
 }
 
@@ -152,19 +152,19 @@ fn a_signal_while_it_writes() {
 fn a_disk_that_gets_full() {
     let folder = Folder::new();
     let image = folder.image(&disk(&[("ONE", 10), ("LONG", 780_000)]));
-    let old = held(&image);
+    let old = disk_in(&image);
     assert_eq!(old.listing().free(), 29);
     let mut command = tool(words(&image, &["TUNE"]));
     let run = Run::of(command.stdin(File::open("/dev/zero").unwrap()).output().unwrap());
     run.fails(1, "disk.mgt: TUNE: refusal 19: fewer free sectors than the save takes\n");
-    assert_eq!(held(&image).listing().entries(), old.listing().entries());
-    assert_eq!(held(&image).listing().free(), old.listing().free());
+    assert_eq!(disk_in(&image).listing().entries(), old.listing().entries());
+    assert_eq!(disk_in(&image).listing().free(), old.listing().free());
 }
 
 /// What is refused at the start is refused before any byte is read, and nothing is written.
 #[test]
 fn refused_in_the_papers_order() {
-    let (folder, image) = scene();
+    let (folder, image) = fixture();
     age(&image);
     let before = state(&image);
     let wrong = ["--kind", "21", "--page", "32"];
@@ -189,7 +189,7 @@ fn refused_in_the_papers_order() {
 /// On a terminal a line follows the recording, and goes away before it is confirmed. Each flush takes 30 milliseconds.
 #[test]
 fn a_slow_recording_shows_how_far_it_is() {
-    let (folder, image) = scene();
+    let (folder, image) = fixture();
     let input = folder.file("body", &body(20_000));
     let slow = library(&folder, "terminal.c");
     for (terminals, shows) in [("2", true), ("01", false)] {

@@ -29,7 +29,7 @@ fn a_file_takes_the_place_of_an_older_one() {
     let file = folder.file("body", &body(3_000));
     let run = replace(&image, &file, &["--kind", "screen"]);
     assert_eq!(run.done(), "replaced TUNES: 9 sectors written\n");
-    let disk = held(&image);
+    let disk = disk_in(&image);
     let entry = found(&disk, "TUNES").unwrap();
     assert_eq!(entry.name().to_string(), "TUNES", "as it is typed now");
     assert_eq!((entry.kind().number(), entry.hidden(), entry.parent_code()), (20, false, 0));
@@ -196,7 +196,7 @@ fn a_replacement_that_fails() {
     let run = limited(&["save", image.to_str().unwrap(), "TUNES", file.to_str().unwrap(), "--replace"]);
     run.fails(3, "varnucht: the older TUNES is there as it was\n");
     run.fails(3, " sectors were written, and then: File too large");
-    assert!(held(&image).listing() == old.listing());
+    assert!(disk_in(&image).listing() == old.listing());
     assert_eq!(on("read", &image, ["TUNES"]).out, body(2_000));
     assert_eq!(replace(&image, &file, &[]).done(), "replaced TUNES: 396 sectors written\n");
 }
@@ -215,7 +215,7 @@ fn killed_at_any_moment() {
         let image = folder.image(&old);
         let words = ["save", image.to_str().unwrap(), "TUNES", file.to_str().unwrap(), "--replace"];
         let mut command = tool(words);
-        heeding(&mut command)
+        with_signals(&mut command)
             .env("LD_PRELOAD", &slow)
             .stderr(Stdio::piped())
             .stdout(Stdio::null());
@@ -226,7 +226,7 @@ fn killed_at_any_moment() {
         Command::new("sh").args(["-c", &kill]).status().expect("the shell runs");
         let output = child.wait_with_output().expect("the tool ends");
         let said = String::from_utf8(output.stderr).expect("messages are text");
-        let left = held(&image);
+        let left = disk_in(&image);
         let read = |name: &str| found(&left, name).map(|entry| left.read(&entry.name()).unwrap());
         assert_eq!(read("ONE"), Some(body(700)), "{signal} {round}");
         let state = match (read("TUNES"), read("NEW~1")) {

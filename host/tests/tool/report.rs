@@ -1,4 +1,4 @@
-//! `report`: shelves counted from paths, folders and lists, on one thread and on several.
+//! `report`: images counted from paths, folders and lists, on one thread and on several.
 use crate::support::*;
 use std::ffi::OsStr;
 use std::fs::{self, File};
@@ -8,8 +8,8 @@ use std::os::unix::fs::symlink;
 use std::process::{Command, Stdio};
 use std::time::{Duration, Instant};
 
-/// A folder with some images: one with files, a blank one, an unsound one, one that is too short, and a text.
-fn scene() -> Folder {
+/// A folder with some images: one with files, a blank one, a refused one, one that is too short, and a text.
+fn fixture() -> Folder {
     let folder = Folder::new();
     let files = disk(&[
         ("ONE", 100),
@@ -20,9 +20,9 @@ fn scene() -> Folder {
     ]);
     folder.file("files.mgt", files.image().as_bytes());
     folder.file("blank.DSK", disk::<&str>(&[]).image().as_bytes());
-    let mut unsound = files.into_image().into_bytes();
-    unsound[0] = 63;
-    folder.file("unsound", &unsound);
+    let mut refused = files.into_image().into_bytes();
+    refused[0] = 63;
+    folder.file("refused", &refused);
     folder.file("short.img", b"no disk");
     folder.file("notes.txt", b"what is on the disks");
     folder
@@ -99,13 +99,13 @@ const JSON: &str = "{\"disks\":4,\"accepted\":2,\"refused\":[\
 
 /// By a folder, by paths and by a list, in any order, on any number of threads: one table, one object.
 #[test]
-fn a_shelf_is_counted() {
-    let folder = scene();
-    folder.file("list", b"short.img\n\nunsound\n\n\nblank.DSK");
+fn images_are_counted() {
+    let folder = fixture();
+    folder.file("list", b"short.img\n\nrefused\n\n\nblank.DSK");
     let ways: [&[&str]; 6] = [
         &["."],
-        &["files.mgt", "blank.DSK", "unsound", "short.img"],
-        &["short.img", "unsound", "blank.DSK", "files.mgt"],
+        &["files.mgt", "blank.DSK", "refused", "short.img"],
+        &["short.img", "refused", "blank.DSK", "files.mgt"],
         &["--files-from", "list", "files.mgt"],
         &["files.mgt", "--files-from=list", "files.mgt", ".", "./files.mgt"],
         &["--no-wait", "."],
@@ -121,13 +121,13 @@ fn a_shelf_is_counted() {
     assert!(painted.text().contains("\x1b[0;32m####"), "{}", painted.text());
     assert_eq!(plain(painted.done()), TABLE);
     let names = folder.names();
-    assert_eq!(names, ["blank.DSK", "files.mgt", "list", "notes.txt", "short.img", "unsound"]);
+    assert_eq!(names, ["blank.DSK", "files.mgt", "list", "notes.txt", "refused", "short.img"]);
 }
 
 /// What is taken in folders, and what is passed over. Every file is taken once, whatever leads to it, and rings end.
 #[test]
 fn folders_are_searched() {
-    let folder = scene();
+    let folder = fixture();
     fs::create_dir_all(folder.path("deep/er/and deeper")).unwrap();
     fs::create_dir_all(folder.path(".hidden")).unwrap();
     let blank = vec![0; 819_200];
@@ -186,7 +186,7 @@ fn folders_are_searched() {
 /// Lists: empty lines, any bytes, a line that is no path, a list on standard input, and lists that cannot be read.
 #[test]
 fn lists() {
-    let folder = scene();
+    let folder = fixture();
     let odd = OsStr::from_bytes(b"\xff odd\rname .mgt");
     fs::copy(folder.path("blank.DSK"), folder.path("").join(odd)).unwrap();
     fs::copy(folder.path("blank.DSK"), folder.path("-")).unwrap();
@@ -221,7 +221,7 @@ fn lists() {
 /// While a list is still being written, what it has named is read, and what could not be is said.
 #[test]
 fn a_list_that_comes_slowly() {
-    let folder = scene();
+    let folder = fixture();
     for threads in ["--threads=1", "--threads=2", "--threads=9"] {
         let mut command = tool(["report", "--files-from=-", "--json", threads]);
         command.current_dir(folder.path(""));
@@ -243,7 +243,7 @@ fn a_list_that_comes_slowly() {
 /// What cannot be read is named in the order in which it was met, and counted; the rest is done. A lock is waited for.
 #[test]
 fn what_cannot_be_read() {
-    let folder = scene();
+    let folder = fixture();
     let words = [
         "no\nsuch",
         "files.mgt",
@@ -295,7 +295,7 @@ fn what_cannot_be_read() {
 /// Command lines that are not understood, standard input as an image, and an output that is closed.
 #[test]
 fn words_and_standard_files() {
-    let folder = scene();
+    let folder = fixture();
     let usage: [(&[&str], &str); 7] = [
         (&[], "`report` takes IMAGE... or `--files-from LIST`: neither is given"),
         (&["--json"], "neither is given"),
@@ -358,7 +358,7 @@ fn no_more_than_65535_disks() {
 /// written late, so that there is something to wait for.
 #[test]
 fn progress_on_a_terminal() {
-    let folder = scene();
+    let folder = fixture();
     let library = library(&folder, "terminal.c");
     let pipe = folder.path("pipe");
     assert!(
@@ -397,9 +397,9 @@ fn progress_on_a_terminal() {
 }
 
 /// A number from a file of the system's about the tool, in bytes or kilobytes as it stands there.
-fn told(child: u32, file: &str, name: &str) -> u64 {
+fn proc_value(child: u32, file: &str, name: &str) -> u64 {
     let text = fs::read_to_string(format!("/proc/{child}/{file}")).expect("the tool is there");
-    let line = text.lines().find_map(|line| line.strip_prefix(name)).expect("it is told");
+    let line = text.lines().find_map(|line| line.strip_prefix(name)).expect("it is there");
     let word = line.split_whitespace().next().expect("a number");
     word.parse().expect("a number")
 }
@@ -422,11 +422,11 @@ fn memory_does_not_grow_with_the_images() {
             writeln!(list, "{name}").unwrap();
         }
         let began = Instant::now();
-        while told(child.id(), "io", "rchar:") < to as u64 * 819_200 {
+        while proc_value(child.id(), "io", "rchar:") < to as u64 * 819_200 {
             assert!(began.elapsed() < Duration::from_secs(60), "the tool does not read");
             std::thread::sleep(Duration::from_millis(5));
         }
-        told(child.id(), "status", "VmHWM:")
+        proc_value(child.id(), "status", "VmHWM:")
     };
     let (few, many) = (feed(0, 100), feed(100, 3_000));
     drop(list);

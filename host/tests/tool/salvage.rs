@@ -1,4 +1,4 @@
-//! `check --all` and `salvage`: every fault is named, and a copy is made of what is sound.
+//! `check --all` and `salvage`: every fault is named, and a copy is made of what is accepted.
 use crate::support::*;
 use std::fs;
 use std::path::{Path, PathBuf};
@@ -35,7 +35,7 @@ fn broken(image: &mut Image, slot: usize) {
 }
 
 /// A disk of six files with a fault of its own in three slots, and two that share a sector and a name.
-fn scene() -> Image {
+fn fixture() -> Image {
     let mut image = image_of(&[
         ("GOOD", 600),
         ("CHAIN", 2_000),
@@ -71,7 +71,7 @@ fn salvage(image: &Path, new: &Path, words: &[&str]) -> Run {
 #[test]
 fn check_all_names_every_fault() {
     let folder = Folder::new();
-    let image = file(&folder, &scene());
+    let image = file(&folder, &fixture());
     on("check", &image, NONE).fails(1, "disk.mgt: refusal 2 at slot 3: the kind is not known\n");
     let run = on("check", &image, ["--all"]);
     run.fails(1, "");
@@ -87,11 +87,11 @@ fn check_all_names_every_fault() {
     let said: String = said.iter().map(|line| format!("varnucht: {path}: {line}\n")).collect();
     assert_eq!(run.err, said);
     // Beside others each has its lines, and the greatest status is given.
-    let good = folder.file("good.mgt", disk(&[("ONE", 10)]).image().as_bytes());
-    let both = run_words(["check", "--all", good.to_str().unwrap(), path]);
+    let accepted = folder.file("accepted.mgt", disk(&[("ONE", 10)]).image().as_bytes());
+    let both = run_words(["check", "--all", accepted.to_str().unwrap(), path]);
     assert_eq!((both.status, both.err), (1, said));
-    assert_eq!(both.out, format!("{}: {ACCEPTED}", good.display()).into_bytes());
-    assert_eq!(on("check", &good, ["--all"]).done(), ACCEPTED);
+    assert_eq!(both.out, format!("{}: {ACCEPTED}", accepted.display()).into_bytes());
+    assert_eq!(on("check", &accepted, ["--all"]).done(), ACCEPTED);
 }
 
 /// Runs the tool with words that are no image's.
@@ -120,9 +120,9 @@ fn check_all_before_a_release() {
 }
 
 #[test]
-fn salvage_copies_what_is_sound() {
+fn salvage_copies_what_is_accepted() {
     let folder = Folder::new();
-    let whole = scene();
+    let whole = fixture();
     let image = file(&folder, &whole);
     let new = folder.path("new.mgt");
     let run = salvage(&image, &new, &[]);
@@ -159,7 +159,7 @@ fn salvage_copies_what_is_sound() {
 #[test]
 fn salvage_keeps_what_is_asked_for() {
     let folder = Folder::new();
-    let whole = scene();
+    let whole = fixture();
     let image = file(&folder, &whole);
     let new = folder.path("new.mgt");
     let run = salvage(&image, &new, &["--keep", "7,0x6"]);
@@ -175,7 +175,7 @@ fn salvage_keeps_what_is_asked_for() {
         "{}",
         run.err
     );
-    let names: Vec<String> = held(&new)
+    let names: Vec<String> = disk_in(&new)
         .listing()
         .entries()
         .iter()
@@ -213,7 +213,7 @@ fn a_third_is_not_lost_for_one_that_is_left_out() {
     assert_eq!(run.err.matches("both are doubtful").count(), 2, "{}", run.err);
     let new = folder.path("new.mgt");
     salvage(&image, &new, &[]);
-    let slots: Vec<u16> = held(&new)
+    let slots: Vec<u16> = disk_in(&new)
         .listing()
         .entries()
         .iter()
@@ -223,7 +223,7 @@ fn a_third_is_not_lost_for_one_that_is_left_out() {
 }
 
 #[test]
-fn a_sound_disk_is_copied_as_it_is() {
+fn an_accepted_disk_is_copied_as_it_is() {
     let folder = Folder::new();
     let mut whole = image_of(&[("ONE", 10), ("TWO", 600)]);
     *byte(&mut whole, 1, 0) |= 0xc0; // its marks
@@ -268,7 +268,7 @@ fn what_cannot_be_salvaged() {
 #[test]
 fn wrong_use_of_salvage() {
     let folder = Folder::new();
-    let image = file(&folder, &scene());
+    let image = file(&folder, &fixture());
     on("salvage", &image, NONE).fails(
         2,
         "`salvage` takes `-o NEW`, where the copy goes\nTry `varnucht help salvage`.",
@@ -285,14 +285,14 @@ fn wrong_use_of_salvage() {
     );
     assert_eq!(fs::read(&older).unwrap(), b"precious");
     assert_eq!(salvage(&image, &older, &["--force"]).status, 1);
-    assert_eq!(held(&older).listing().entries().len(), 2);
+    assert_eq!(disk_in(&older).listing().entries().len(), 2);
     run_words(["salvage", "none.mgt", "-o", "new.mgt"]).fails(3, "none.mgt: ");
     assert_eq!(folder.names(), ["disk.mgt", "older"], "nothing is left beside them");
 }
 
 /// A directory that is left out: what was in it stays, and the tree alone is refused.
 #[test]
-fn what_was_in_a_bad_directory_stays() {
+fn what_was_in_a_refused_directory_stays() {
     let folder = Folder::new();
     let mut image = image_of(&[("PONG", 10), ("TUNE", 10)]);
     let games = place(&image, 3);
@@ -311,7 +311,7 @@ fn what_was_in_a_bad_directory_stays() {
     let stays = format!("varnucht: {path}: slot 1 PONG stays, and its directory is left out\n");
     let tree = format!("varnucht: {path}: `tree` refuses the copy: refusal 27 at slot 1: ");
     assert!(run.err.contains(&format!("{stays}{tree}")), "{}", run.err);
-    assert_eq!(held(&new).listing().entries().len(), 2);
+    assert_eq!(disk_in(&new).listing().entries().len(), 2);
     on("tree", &new, NONE).fails(1, "refusal 27 at slot 1: ");
     assert_eq!(on("read", &new, ["PONG"]).out, body(10));
 }
@@ -328,7 +328,7 @@ fn the_largest_directory() {
     let new = folder.path("new.mgt");
     let run = salvage(&path, &new, &[]);
     assert_eq!(run.err.lines().count(), 2, "{}", run.err);
-    assert_eq!(held(&new).listing().entries().len(), 776);
+    assert_eq!(disk_in(&new).listing().entries().len(), 776);
     for slot in 1..=778 {
         let name = place(&image, slot) + 1;
         image.as_bytes_mut()[name..name + 10].copy_from_slice(b"ALL OF ONE");
@@ -336,18 +336,18 @@ fn the_largest_directory() {
     let path = file(&folder, &image);
     let run = salvage(&path, &folder.path("one.mgt"), &["--keep", "400"]);
     assert_eq!(run.err.lines().count(), 777, "{}", run.err);
-    let disk = held(&folder.path("one.mgt"));
+    let disk = disk_in(&folder.path("one.mgt"));
     assert_eq!(disk.read(&Name::new("all of one").unwrap()).unwrap(), body(10));
     assert_eq!(disk.listing().entries()[0].slot().number(), 400);
 }
 
 /// Drawn damage: whatever bytes of the directory and of the files are altered, the copy is accepted, differs from the image in
-/// the first bytes of bad slots alone, and has every file that is good by itself and shares nothing.
+/// the first bytes of refused slots alone, and has every file that is accepted by itself and shares nothing.
 #[test]
 fn drawn_damage() {
     let folder = Folder::new();
     let files: Vec<(String, usize)> = (0..24).map(|number| (format!("FILE {number}"), number * 130)).collect();
-    let sound = disk(&files).into_image();
+    let accepted = disk(&files).into_image();
     let mut draw = 0x2545_f491_4f6c_dd1d_u64;
     let mut next = |below: usize| {
         draw ^= draw << 13;
@@ -356,7 +356,7 @@ fn drawn_damage() {
         (draw % below as u64) as usize
     };
     for round in 0..60 {
-        let mut image = sound.clone();
+        let mut image = accepted.clone();
         for _ in 0..=next(12) {
             match next(3) {
                 0 => {
@@ -375,7 +375,7 @@ fn drawn_damage() {
         let new = folder.path("new.mgt");
         let run = salvage(&path, &new, &["--force"]);
         assert_eq!(run.status, i32::from(image.check().is_err()), "round {round}: {run:?}");
-        let mut copy = held(&new).into_image();
+        let mut copy = disk_in(&new).into_image();
         let out: Vec<usize> = (1..=80)
             .filter(|slot| *byte(&mut copy, *slot, 0) != *byte(&mut image, *slot, 0))
             .collect();
@@ -386,7 +386,7 @@ fn drawn_damage() {
             );
             *byte(&mut copy, *slot, 0) = *byte(&mut image, *slot, 0);
             // With it the copy is refused.
-            let mut without = held(&new).into_image();
+            let mut without = disk_in(&new).into_image();
             *byte(&mut without, *slot, 0) = *byte(&mut image, *slot, 0);
             assert!(without.check().is_err(), "round {round}, slot {slot}: it could have stayed");
         }

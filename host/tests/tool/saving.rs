@@ -23,7 +23,7 @@ fn save_by_all_its_options() {
         .into_iter()
         .chain(options.map(Into::into));
     assert_eq!(on("save", &image, words).done(), "saved PICTURE: 3 sectors written\n");
-    let disk = held(&image);
+    let disk = disk_in(&image);
     let entry = disk.listing().find(&Name::new("PICTURE").unwrap()).unwrap();
     assert_eq!(
         (entry.kind().number(), entry.start().map(|start| start.address())),
@@ -42,7 +42,7 @@ fn save_by_its_usual_values() {
     let image = folder.image(&disk::<&str>(&[]));
     let words = ["save".into(), image.clone().into_os_string(), "CODE".into(), "-".into()];
     assert_eq!(fed(words, &body(502)).done(), "saved CODE: 3 sectors written\n");
-    let disk = held(&image);
+    let disk = disk_in(&image);
     let entry = disk.listing().find(&Name::new("CODE").unwrap()).unwrap();
     assert_eq!(
         (
@@ -79,7 +79,7 @@ fn save_by_every_kind() {
         let words = [format!("FILE{place}").into(), file.clone(), "--kind".into(), kind.into()];
         on("save", &image, words).done();
     }
-    let numbers: Vec<u8> = held(&image)
+    let numbers: Vec<u8> = disk_in(&image)
         .listing()
         .entries()
         .iter()

@@ -6,7 +6,7 @@ use std::path::Path;
 use varnucht::{Directory, Disk, Image, Name, NewName};
 
 /// A disk with a name, a directory with a file in it, a Spectrum file, and a name that needs escapes.
-fn scene() -> Disk {
+fn fixture() -> Disk {
     let mut image = disk(&[("ONE", 10), ("TWO", 600), ("THREE", 20)]).into_image();
     let bytes = image.as_bytes_mut();
     bytes[210..220].copy_from_slice(b"MY \"DISK\\ ");
@@ -48,7 +48,7 @@ fn with_path(text: &str, image: &Path) -> String {
 #[test]
 fn list_as_json() {
     let folder = Folder::new();
-    let image = folder.image(&scene());
+    let image = folder.image(&fixture());
     assert_eq!(on("list", &image, ["--json"]).done(), with_path(LIST, &image));
     // A full disk has no room, and one without a name has none.
     let full: Vec<(String, usize)> = (0..80).map(|number| (number.to_string(), 0)).collect();
@@ -104,12 +104,12 @@ fn check_as_json() {
         on("check", &image, ["--json", "--all"]).done(),
         format!("{said},\"faults\":[]}}\n")
     );
-    let mut bad = disk(&[("ONE", 10), ("TWO", 10), ("three", 10), ("ONE MORE", 10)]).into_image();
-    bad.as_bytes_mut()[0] = 13;
-    let name = bad.as_bytes()[513..523].to_vec();
-    bad.as_bytes_mut()[257..267].copy_from_slice(&name.to_ascii_uppercase());
-    let bad = folder.file("bad.mgt", bad.as_bytes());
-    let run = run(["check", "--json", "--all", bad.to_str().unwrap(), image.to_str().unwrap()]);
+    let mut refused = disk(&[("ONE", 10), ("TWO", 10), ("three", 10), ("ONE MORE", 10)]).into_image();
+    refused.as_bytes_mut()[0] = 13;
+    let name = refused.as_bytes()[513..523].to_vec();
+    refused.as_bytes_mut()[257..267].copy_from_slice(&name.to_ascii_uppercase());
+    let refused = folder.file("refused.mgt", refused.as_bytes());
+    let run = run(["check", "--json", "--all", refused.to_str().unwrap(), image.to_str().unwrap()]);
     assert_eq!((run.status, run.err.as_str()), (1, ""), "the object says it");
     let faults = concat!(
         r#"{"image":"IMAGE","accepted":false,"refusal":2,"slot":1,"words":"the kind is not known","more":null,"faults":["#,
@@ -119,7 +119,7 @@ fn check_as_json() {
         r#""words":"the name is an earlier live slot's, capitals or not"}]}"#,
         "\n"
     );
-    assert_eq!(run.text(), with_path(faults, &bad) + &said + ",\"faults\":[]}\n");
+    assert_eq!(run.text(), with_path(faults, &refused) + &said + ",\"faults\":[]}\n");
 }
 
 #[test]
@@ -143,7 +143,7 @@ fn refused_as_json() {
 #[test]
 fn names_for_scripts() {
     let folder = Folder::new();
-    let image = folder.image(&scene());
+    let image = folder.image(&fixture());
     for option in ["-0", "--null"] {
         assert_eq!(on("list", &image, [option]).done(), "ONE\0T\"W\\\\O\\x07\0THREE\0GAMES\0");
     }
@@ -156,10 +156,10 @@ fn names_for_scripts() {
         run.out
             .starts_with(&[path, b"\0FOUR\0", image.as_os_str().as_bytes(), b"\0ONE\0"].concat())
     );
-    let bad = folder.file("bad.mgt", b"");
-    let run = crate::support::run([OsStr::new("check"), "-0".as_ref(), odd.as_os_str(), bad.as_os_str()]);
+    let refused = folder.file("refused.mgt", b"");
+    let run = crate::support::run([OsStr::new("check"), "-0".as_ref(), odd.as_os_str(), refused.as_os_str()]);
     assert_eq!((run.status, run.out), (1, [path, b"\0"].concat()));
-    assert!(run.err.contains("bad.mgt: refusal 1: "), "{}", run.err);
+    assert!(run.err.contains("refused.mgt: refusal 1: "), "{}", run.err);
     for command in ["check", "list"] {
         on(command, &image, ["-0", "--json"]).fails(2, "`--json` and `-0` are two forms, and one is printed");
     }
@@ -174,8 +174,8 @@ fn several_images_are_listed() {
     let both = format!("{}:\n{}\n{}:\n{}\n", one.display(), table(&one), two.display(), table(&two));
     assert_eq!(on("list", &one, [&two]).done(), both);
     let none = folder.path("none.mgt");
-    let bad = folder.file("bad.mgt", b"");
-    let run = on("list", &one, [&bad, &none, &two]);
+    let refused = folder.file("refused.mgt", b"");
+    let run = on("list", &one, [&refused, &none, &two]);
     assert_eq!((run.status, run.text()), (3, both.as_str()), "the others go on");
     assert_eq!(run.err.lines().count(), 2, "{}", run.err);
     on("list", Path::new("-"), ["-"]).fails(2, "standard input can be read once");

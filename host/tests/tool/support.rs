@@ -117,7 +117,7 @@ unsafe extern "C" {
 
 /// Lets a program heed HUP, INT and TERM, even where the tests themselves were started with some of them ignored, as by `nohup`:
 /// what is ignored stays so in all that is started, and a shell cannot take it back.
-pub fn heeding(command: &mut Command) -> &mut Command {
+pub fn with_signals(command: &mut Command) -> &mut Command {
     const USUAL: usize = 0;
     // SAFETY: between the fork and the start of the program this sets what signals do, and nothing else.
     unsafe {
@@ -198,7 +198,7 @@ pub fn plain(text: &str) -> String {
     })
 }
 
-/// What `check` says of a good disk with a directory of four tracks.
+/// What `check` says of an accepted disk with a directory of four tracks.
 pub const ACCEPTED: &str = "accepted, 4 directory tracks\n";
 
 /// No more words.
@@ -232,9 +232,9 @@ pub fn disk_with<S: AsRef<str>>(directory: Directory, files: &[(S, usize)]) -> D
 }
 
 /// The disk that an image file holds.
-pub fn held(path: &Path) -> Disk {
+pub fn disk_in(path: &Path) -> Disk {
     let image = Image::from_bytes(fs::read(path).expect("the file is there")).expect("it is an image");
-    Disk::open(image).expect("it is a sound disk")
+    Disk::open(image).expect("it is an accepted disk")
 }
 
 /// A file's bytes and the time of its last change.

@@ -128,12 +128,12 @@ fn a_slow_save_without_a_terminal_says_nothing_meanwhile() {
 fn a_signal_takes_the_line_away() {
     let folder = Folder::new();
     let mut command = slow_save(&folder, "2");
-    let both = [library(&folder, "meddle.c"), folder.path("terminal.so")].map(|path| path.to_str().unwrap().to_string());
+    let both = [library(&folder, "interpose.c"), folder.path("terminal.so")].map(|path| path.to_str().unwrap().to_string());
     command
         .env("LD_PRELOAD", both.join(":"))
-        .env("MEDDLE_AT", "flush 12")
-        .env("MEDDLE", "kill -INT $PPID");
-    let output = heeding(&mut command).output().unwrap();
+        .env("INTERPOSE_AT", "flush 12")
+        .env("INTERPOSE_LINE", "kill -INT $PPID");
+    let output = with_signals(&mut command).output().unwrap();
     let shown = String::from_utf8_lossy(&output.stderr);
     assert_eq!((output.status.signal(), output.stdout.len()), (Some(2), 0), "{shown}");
     let (written, after) = followed(&shown);

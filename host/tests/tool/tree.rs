@@ -20,7 +20,7 @@ fn slot_bytes(image: &mut Image, slot: usize) -> &mut [u8] {
 }
 
 /// Four files and four directories: CHESS and ARCADE in GAMES, MUSIC and PONG in ARCADE, TUNE in MUSIC.
-fn shelf() -> Image {
+fn nested_disk() -> Image {
     let mut image = disk(&[("CHESS", 10), ("LETTER", 600), ("PONG", 10), ("TUNE", 10)]).into_image();
     for (slot, parent) in [(1, 7), (3, 3), (4, 200)] {
         slot_bytes(&mut image, slot)[254] = parent;
@@ -59,7 +59,7 @@ slot  name           kind       sectors
 #[test]
 fn trees_are_drawn() {
     let folder = Folder::new();
-    let path = folder.file("disk.mgt", shelf().as_bytes());
+    let path = folder.file("disk.mgt", nested_disk().as_bytes());
     let before = fs::read(&path).unwrap();
     assert_eq!(on("tree", &path, NONE).done(), WHOLE);
     assert_eq!(on("tree", &path, [""]).done(), WHOLE);
@@ -109,7 +109,7 @@ fn lines_go_on() {
 fn trees_that_cannot_be_drawn() {
     let folder = Folder::new();
     let spoilt = |slot: usize, place: usize, byte: u8| {
-        let mut image = shelf();
+        let mut image = nested_disk();
         slot_bytes(&mut image, slot)[place] = byte;
         folder.file("disk.mgt", image.as_bytes())
     };
@@ -126,7 +126,7 @@ fn trees_that_cannot_be_drawn() {
     fails(&spoilt(2, 254, 9), &words);
     let words = "refusal 28 at slot 5: a directory lies inside itself at some depth (tree): GAMES is in MUSIC";
     fails(&spoilt(5, 254, 200), words);
-    let path = folder.file("disk.mgt", shelf().as_bytes());
+    let path = folder.file("disk.mgt", nested_disk().as_bytes());
     on("tree", &path, ["LETTER"]).fails(1, ": LETTER: refusal 13 at slot 2: ");
     on("tree", &path, ["LETTER"]).fails(1, ": it is no directory but of kind code\n");
     on("tree", &path, ["NOTHING"]).fails(1, ": NOTHING: refusal 15: ");
@@ -143,7 +143,7 @@ fn trees_that_cannot_be_drawn() {
 #[test]
 fn lists_say_where_files_are() {
     let folder = Folder::new();
-    let mut image = shelf();
+    let mut image = nested_disk();
     slot_bytes(&mut image, 2)[254] = 99;
     let list = on("list", &folder.file("disk.mgt", image.as_bytes()), NONE);
     let lines: Vec<&str> = list.done().lines().collect();
@@ -176,7 +176,7 @@ fn lists_say_where_files_are() {
 #[test]
 fn maps_have_no_sign_for_directories() {
     let folder = Folder::new();
-    let map = on("map", &folder.file("disk.mgt", shelf().as_bytes()), NONE);
+    let map = on("map", &folder.file("disk.mgt", nested_disk().as_bytes()), NONE);
     let legend: Vec<&str> = map.done().lines().skip(24).collect();
     let signs = "A  1 CHESS (1)   B  2 LETTER (2)  C  3 PONG (1)    D  4 TUNE (1)";
     assert_eq!(legend, ["# directory (40)  . free (1555)", signs]);
@@ -185,12 +185,12 @@ fn maps_have_no_sign_for_directories() {
 #[test]
 fn directories_are_erased_when_they_are_empty() {
     let folder = Folder::new();
-    let path = folder.file("disk.mgt", shelf().as_bytes());
+    let path = folder.file("disk.mgt", nested_disk().as_bytes());
     let words = "disk.mgt: GAMES: refusal 29 at slot 5: a directory whose code, not 0, is another live slot's byte 254 (erase): \
                  it is not empty, and `tree` shows what is in it\n";
     on("erase", &path, ["GAMES"]).fails(1, words);
     on("erase", &path, ["GAMES", "--dry-run"]).fails(1, words);
-    assert!(fs::read(&path).unwrap() == shelf().as_bytes());
+    assert!(fs::read(&path).unwrap() == nested_disk().as_bytes());
     for name in ["TUNE", "MUSIC", "PONG", "ARCADE", "CHESS", "GAMES", "EMPTY"] {
         assert_eq!(
             on("erase", &path, [name]).done(),
@@ -199,7 +199,7 @@ fn directories_are_erased_when_they_are_empty() {
         on("check", &path, NONE).done();
     }
     assert!(on("tree", &path, NONE).done().ends_with("\n0 directories, 1 file\n"));
-    on("read", &folder.file("disk.mgt", shelf().as_bytes()), ["MUSIC"]).fails(1, "refusal 13 at slot 8: ");
+    on("read", &folder.file("disk.mgt", nested_disk().as_bytes()), ["MUSIC"]).fails(1, "refusal 13 at slot 8: ");
 }
 
 /// As deep as codes go, with a file in the last directory.
@@ -222,7 +222,7 @@ fn the_deepest_tree() {
 #[test]
 fn reports_count_directories() {
     let folder = Folder::new();
-    let path = folder.file("disk.mgt", shelf().as_bytes());
+    let path = folder.file("disk.mgt", nested_disk().as_bytes());
     let report = on("report", &path, ["--json"]);
     let text = report.done();
     for field in [

@@ -203,7 +203,7 @@ fn a_save_that_fails_leaves_the_old_disk() {
         expected.as_bytes_mut()[number.place()..][..512].copy_from_slice(bytes);
     }
     assert!(fs::read(&image).unwrap() == expected.as_bytes());
-    let cut = held(&image);
+    let cut = disk_in(&image);
     assert!(cut.listing() == old.listing());
     for name in ["ONE", "TWO"].map(|name| Name::new(name).unwrap()) {
         assert_eq!(cut.read(&name), old.read(&name));
@@ -239,7 +239,7 @@ fn a_change_that_fails_says_so() {
         "{}",
         run.err
     );
-    assert_eq!(held(&image).listing().entries().len(), 80);
+    assert_eq!(disk_in(&image).listing().entries().len(), 80);
 }
 
 /// Nobody reads standard output: no panic and no message.
@@ -266,7 +266,7 @@ fn a_closed_standard_output() {
     drop(reader);
     let run = Run::of(tool(["hide", path, "ONE"]).stdout(writer).output().unwrap());
     assert_eq!((run.status, run.err.as_str()), (0, ""));
-    assert!(held(&image).listing().entries()[0].hidden());
+    assert!(disk_in(&image).listing().entries()[0].hidden());
 }
 
 /// A reader that takes some and goes away.

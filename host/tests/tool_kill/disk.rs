@@ -4,7 +4,7 @@ use varnucht::raw;
 
 /// What a save takes.
 #[derive(Clone)]
-pub struct Wish {
+pub struct SaveRequest {
     pub kind: u32,
     pub name: Vec<u8>,
     pub page: u32,
@@ -16,7 +16,7 @@ pub struct Wish {
 
 /// A change of a file that is there.
 #[derive(Clone)]
-pub enum Change {
+pub enum FileChange {
     Erase,
     Rename(Vec<u8>),
     Hide,
@@ -82,23 +82,23 @@ fn numbers(list: &[u8], many: usize) -> Vec<usize> {
 }
 
 /// The disk after a save, and the sectors named.
-pub fn save(old: &[u8], wish: &Wish) -> (Vec<u8>, Vec<usize>) {
+pub fn save(old: &[u8], request: &SaveRequest) -> (Vec<u8>, Vec<usize>) {
     let (mut image, mut list) = (old.to_vec(), vec![0; 3124]);
     let answer = unsafe {
         raw::varnucht_save(
             image.as_mut_ptr(),
             image.len(),
-            wish.kind,
-            wish.name.as_ptr(),
-            wish.name.len(),
-            wish.page,
-            wish.offset,
-            wish.exec.as_ptr(),
-            wish.exec.len(),
-            wish.info.as_ptr(),
-            wish.info.len(),
-            wish.body.as_ptr(),
-            wish.body.len(),
+            request.kind,
+            request.name.as_ptr(),
+            request.name.len(),
+            request.page,
+            request.offset,
+            request.exec.as_ptr(),
+            request.exec.len(),
+            request.info.as_ptr(),
+            request.info.len(),
+            request.body.as_ptr(),
+            request.body.len(),
             list.as_mut_ptr(),
             list.len(),
         )
@@ -108,21 +108,23 @@ pub fn save(old: &[u8], wish: &Wish) -> (Vec<u8>, Vec<usize>) {
 }
 
 /// The disk after another change, and the sectors named.
-pub fn change(old: &[u8], name: &[u8], change: &Change) -> (Vec<u8>, Vec<usize>) {
+pub fn change(old: &[u8], name: &[u8], change: &FileChange) -> (Vec<u8>, Vec<usize>) {
     let (mut image, mut list) = (old.to_vec(), vec![0; 2]);
     let (at, len) = (image.as_mut_ptr(), image.len());
     let (list_at, list_len) = (list.as_mut_ptr(), list.len());
-    let (new, new_len) = if let Change::Rename(new) = change {
+    let (new, new_len) = if let FileChange::Rename(new) = change {
         (new.as_ptr(), new.len())
     } else {
         (null(), 0)
     };
     let answer = unsafe {
         match change {
-            Change::Erase => raw::varnucht_erase(at, len, name.as_ptr(), name.len(), list_at, list_len),
-            Change::Hide => raw::varnucht_hide(at, len, name.as_ptr(), name.len(), list_at, list_len),
-            Change::Show => raw::varnucht_show(at, len, name.as_ptr(), name.len(), list_at, list_len),
-            Change::Rename(_) => raw::varnucht_rename(at, len, name.as_ptr(), name.len(), new, new_len, list_at, list_len),
+            FileChange::Erase => raw::varnucht_erase(at, len, name.as_ptr(), name.len(), list_at, list_len),
+            FileChange::Hide => raw::varnucht_hide(at, len, name.as_ptr(), name.len(), list_at, list_len),
+            FileChange::Show => raw::varnucht_show(at, len, name.as_ptr(), name.len(), list_at, list_len),
+            FileChange::Rename(_) => {
+                raw::varnucht_rename(at, len, name.as_ptr(), name.len(), new, new_len, list_at, list_len)
+            }
         }
     };
     let many = value("a change", answer);

@@ -1,17 +1,17 @@
 //! A journey over one image: the tool alone changes it, killed or not, and each change begins with what the last one left.
 //! A ledger in plain Rust goes beside it. After a kill the listing shows which changes were made; the rest must follow from
 //! these.
-use super::{Scene, borrowed};
-use crate::disk::{self, Change as One, Wish};
+use super::{Fixture, borrowed};
+use crate::disk::{self, FileChange, SaveRequest};
+use crate::killed_process::{self, End, Line};
 use crate::pace::Pace;
 use crate::tally::Tally;
-use crate::victim::{self, End, Line};
 use paper::{Change, Ledger, Mark};
 use std::path::Path;
 use std::time::Duration;
 
 pub struct Journey {
-    scene: Scene,
+    fixture: Fixture,
     ledger: Ledger,
 }
 
@@ -28,35 +28,35 @@ struct Step {
 
 impl Journey {
     pub fn new(seed: u64) -> Journey {
-        let scene = Scene::new(seed);
-        let ledger = Ledger::of(&scene.image).expect("an accepted disk");
-        Journey { scene, ledger }
+        let fixture = Fixture::new(seed);
+        let ledger = Ledger::of(&fixture.image).expect("an accepted disk");
+        Journey { fixture, ledger }
     }
 
     pub fn measure(&mut self) -> Pace {
-        self.scene.measure()
+        self.fixture.measure()
     }
 
     /// A change, mostly killed. What it left is the disk for the next one.
     pub fn round(&mut self, pace: &mut Pace, tally: &mut Tally) {
         let step = self.step(pace);
         let (new, sectors) = &step.made;
-        let (image, words) = (self.scene.path("image"), borrowed(&step.words));
+        let (image, words) = (self.fixture.path("image"), borrowed(&step.words));
         let line = Line {
             words: &words,
             input: step.input.as_deref(),
         };
-        let killed = self.scene.draw.number(0, 5) > 0;
+        let killed = self.fixture.draw.number(0, 5) > 0;
         let end = if killed {
             let moment = match sectors.len() {
-                1 => pace.short_moment(&mut self.scene.draw),
-                many => pace.moment(&mut self.scene.draw, many),
+                1 => pace.short_moment(&mut self.fixture.draw),
+                many => pace.moment(&mut self.fixture.draw, many),
             };
-            victim::kill_at(line, moment, Path::new(&image), sectors[0])
+            killed_process::kill_at(line, moment, Path::new(&image), sectors[0])
         } else {
             run(line)
         };
-        let left = self.scene.stored();
+        let left = self.fixture.stored();
         let same = |sector: &&usize| left[512 * **sector..][..512] == new[512 * **sector..][..512];
         let k = sectors.iter().take_while(same).count();
         tally.count(&end, k, sectors.len());
@@ -64,38 +64,38 @@ impl Journey {
             pace.learn(&end, k, sectors.len());
         }
         self.ledger = judged(&left, step.after, end.killed);
-        self.scene.image = left;
+        self.fixture.image = left;
     }
 
     /// A change that the ledger refuses: the tool does too, and leaves every byte.
     pub fn refused_round(&mut self) {
         let name = self.any_name();
-        let wish = Wish {
+        let request = SaveRequest {
             name: name.clone(),
-            ..self.scene.wish(1)
+            ..self.fixture.request(1)
         };
-        let (image, there) = (self.scene.path("image"), text(&name));
+        let (image, there) = (self.fixture.path("image"), text(&name));
         let absent = ["erase", &image, "NOBODY"].map(String::from).to_vec();
         let onto_itself = ["rename", &image, &there, &there].map(String::from).to_vec();
         for (words, change, number) in [
             (absent, Change::Erase(b"NOBODY"), 15),
             (onto_itself, Change::Rename(&name, &name), 16),
-            (self.scene.save_words(&wish), Change::Save(asked(&wish)), 16),
+            (self.fixture.save_words(&request), Change::Save(asked(&request)), 16),
         ] {
             let refused = self.ledger.refuses(&change).map_err(|refused| refused.number);
             assert_eq!(refused, Err(number), "{words:?}");
-            let output = victim::run(victim::line(&borrowed(&words)));
+            let output = killed_process::run(killed_process::line(&borrowed(&words)));
             assert_eq!(output.status.code(), Some(1), "{words:?}");
-            assert!(self.scene.stored() == self.scene.image, "{words:?}: a refused change");
+            assert!(self.fixture.stored() == self.fixture.image, "{words:?}: a refused change");
         }
     }
 
     fn step(&mut self, pace: &Pace) -> Step {
-        let size = self.scene.draw.number(20, pace.most_sectors() + 1);
+        let size = self.fixture.draw.number(20, pace.most_sectors() + 1);
         if self.ledger.free() < size || self.ledger.files() > 40 {
             return self.erase();
         }
-        match self.scene.draw.number(0, 12) {
+        match self.fixture.draw.number(0, 12) {
             0..3 => self.record(size),
             3..6 => self.gather().unwrap_or_else(|| self.save(size)),
             6 => self.erase(),
@@ -112,34 +112,34 @@ impl Journey {
     }
 
     fn save(&mut self, size: usize) -> Step {
-        let wish = self.scene.wish(size);
+        let request = self.fixture.request(size);
         Step {
-            words: self.scene.save_words(&wish),
+            words: self.fixture.save_words(&request),
             input: None,
-            after: self.either(&Change::Save(asked(&wish))),
-            made: disk::save(&self.scene.image, &wish),
+            after: self.either(&Change::Save(asked(&request))),
+            made: disk::save(&self.fixture.image, &request),
         }
     }
 
     /// It leaves the disk of a save: the first sector of the file is written after its last.
     fn record(&mut self, size: usize) -> Step {
-        let wish = self.scene.wish(size);
-        let (new, mut sectors) = disk::save(&self.scene.image, &wish);
+        let request = self.fixture.request(size);
+        let (new, mut sectors) = disk::save(&self.fixture.image, &request);
         sectors[..size].rotate_left(1);
         Step {
-            words: self.scene.words_of(&wish, &["record", &self.scene.path("image")]),
-            input: Some(self.scene.path("body")),
-            after: self.either(&Change::Save(asked(&wish))),
+            words: self.fixture.words_of(&request, &["record", &self.fixture.path("image")]),
+            input: Some(self.fixture.path("body")),
+            after: self.either(&Change::Save(asked(&request))),
             made: (new, sectors),
         }
     }
 
     /// Of the first scattered file that can move, if there is one.
     fn gather(&mut self) -> Option<Step> {
-        let moved = |name: [u8; 10]| Some((name, disk::gather(&self.scene.image, &name)?));
+        let moved = |name: [u8; 10]| Some((name, disk::gather(&self.fixture.image, &name)?));
         let (name, made) = self.ledger.names().into_iter().find_map(moved)?;
         Some(Step {
-            words: vec!["gather".into(), self.scene.path("image"), text(&name)],
+            words: vec!["gather".into(), self.fixture.path("image"), text(&name)],
             input: None,
             after: self.either(&Change::Gather(&name)),
             made,
@@ -148,10 +148,10 @@ impl Journey {
 
     /// Of several files: those are gone whose sectors were written.
     fn erase(&mut self) -> Step {
-        let mut names: Vec<Vec<u8>> = (0..self.scene.draw.number(1, 7)).map(|_| self.any_name()).collect();
+        let mut names: Vec<Vec<u8>> = (0..self.fixture.draw.number(1, 7)).map(|_| self.any_name()).collect();
         names.sort();
         names.dedup();
-        let made = disk::erase_many(&self.scene.image, &names);
+        let made = disk::erase_many(&self.fixture.image, &names);
         let after = |sectors: usize| {
             let mut after = self.ledger.clone();
             after.enter_many(&names.concat(), sectors);
@@ -159,7 +159,10 @@ impl Journey {
         };
         let given = names.iter().map(|name| text(name));
         Step {
-            words: ["erase".into(), self.scene.path("image")].into_iter().chain(given).collect(),
+            words: ["erase".into(), self.fixture.path("image")]
+                .into_iter()
+                .chain(given)
+                .collect(),
             input: None,
             after: (0..=made.1.len()).map(after).collect(),
             made,
@@ -168,31 +171,31 @@ impl Journey {
 
     /// A rename or a mark.
     fn single(&mut self) -> Step {
-        let (name, new) = (self.any_name(), self.scene.wish(1).name);
-        let (word, change, one) = match self.scene.draw.number(0, 3) {
-            0 => ("hide", Change::Mark(Mark::Hide, &name), One::Hide),
-            1 => ("show", Change::Mark(Mark::Show, &name), One::Show),
-            _ => ("rename", Change::Rename(&name, &new), One::Rename(new.clone())),
+        let (name, new) = (self.any_name(), self.fixture.request(1).name);
+        let (word, change, one) = match self.fixture.draw.number(0, 3) {
+            0 => ("hide", Change::Mark(Mark::Hide, &name), FileChange::Hide),
+            1 => ("show", Change::Mark(Mark::Show, &name), FileChange::Show),
+            _ => ("rename", Change::Rename(&name, &new), FileChange::Rename(new.clone())),
         };
-        let mut words = vec![word.into(), self.scene.path("image"), text(&name)];
+        let mut words = vec![word.into(), self.fixture.path("image"), text(&name)];
         words.extend((word == "rename").then(|| text(&new)));
         Step {
             words,
             input: None,
             after: self.either(&change),
-            made: disk::change(&self.scene.image, &name, &one),
+            made: disk::change(&self.fixture.image, &name, &one),
         }
     }
 
     fn any_name(&mut self) -> Vec<u8> {
         let names = self.ledger.names();
-        names[self.scene.draw.number(0, names.len())].to_vec()
+        names[self.fixture.draw.number(0, names.len())].to_vec()
     }
 }
 
 /// The tool at its own pace.
 fn run(line: Line) -> End {
-    let output = victim::run(line);
+    let output = killed_process::run(line);
     assert!(
         output.status.success(),
         "{:?}: {}",
@@ -227,15 +230,15 @@ fn judged(left: &[u8], after: Vec<Ledger>, killed: bool) -> Ledger {
 }
 
 /// What a save asks of the ledger.
-fn asked(wish: &Wish) -> paper::Wish<'_> {
-    paper::Wish {
-        kind: wish.kind,
-        name: &wish.name,
-        page: wish.page,
-        offset: wish.offset,
-        exec: &wish.exec,
-        info: &wish.info,
-        body: &wish.body,
+fn asked(request: &SaveRequest) -> paper::SaveRequest<'_> {
+    paper::SaveRequest {
+        kind: request.kind,
+        name: &request.name,
+        page: request.page,
+        offset: request.offset,
+        exec: &request.exec,
+        info: &request.info,
+        body: &request.body,
     }
 }
 

@@ -1,7 +1,7 @@
 //! How fast the tool writes here, and from that the moments to kill it at. Each round corrects the measure, so that the
 //! moments fall into the writing on a slow disk and on a fast one.
 use crate::draw::Draw;
-use crate::victim::{End, Moment};
+use crate::killed_process::{End, Moment};
 use std::time::Duration;
 
 pub struct Pace {

@@ -1,5 +1,5 @@
 //! Where the kills fell.
-use crate::victim::End;
+use crate::killed_process::End;
 use std::fmt;
 
 #[derive(Default)]

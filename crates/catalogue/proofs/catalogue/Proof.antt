@@ -2,7 +2,7 @@
 use borrow.Author.Needs.{needs}
 use native.Mathlib.Omega.{arith}
 use lib.ListN.{length-take}
-use Rattle.lines.proofs.Laws.{wrote-long}
+use Rattle.text_lines.proofs.Laws.{wrote-long}
 use Rattle.catalogue.proofs.Laws.{text-most, catalogue-short, catalogue-done}
 use Rattle.catalogue.proofs.catalogue.Statement.{statement}
 use Rattle.catalogue.proofs.catalogue.Tie as tie
@@ -16,13 +16,13 @@ slice-aggregate-put-text c = search needs
 put-text-requires : tie.Need-put-text-requires
 put-text-requires c κs = search needs
 
-no-requires : tie.Need-no-requires
-no-requires c κs = search needs
+refused-answer-requires : tie.Need-refused-answer-requires
+refused-answer-requires c κs = search needs
 
 returns : tie.Need-returns
 returns c =
     let w = c .before .before .before in
-    catalogue-short _ _ (omega (arith, w .put-text .ensures .next, c .before .if1 .taken, w .before .before .blank .ensures, text-most (w .before .before .before .before .before .args .input .now))) _ (c .no .ensures)
+    catalogue-short _ _ (omega (arith, w .put-text .ensures .next, c .before .if1 .taken, w .before .before .blank .ensures, text-most (w .before .before .before .before .before .args .input .now))) _ (c .refused-answer .ensures)
 
 array-share-prefix-page : tie.Need-array-share-prefix-page
 array-share-prefix-page c = let w = c .before .before .before in
@@ -53,7 +53,7 @@ catalogue-spec =
     blank-requires
     slice-aggregate-put-text
     put-text-requires
-    no-requires
+    refused-answer-requires
     returns
     array-share-prefix-page
     slice-aggregate-copy-into

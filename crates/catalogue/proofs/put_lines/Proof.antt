@@ -4,8 +4,8 @@ use Prim.Native.Nat.{_-_, _≤_}
 use mathlib.Core.Path.{_≡_, refl}
 use native.Mathlib.Omega.{arith}
 use lib.ListN.{length}
-use Rattle.lines.specs.Written.{Wrote}
-use Rattle.lines.proofs.Laws.{wrote-none, wrote-as}
+use Rattle.text_lines.specs.Written.{Wrote}
+use Rattle.text_lines.proofs.Laws.{wrote-none, wrote-as}
 use Rattle.directory.specs.Directory.{slotsRead, directory}
 use Rattle.catalogue.specs.Text.{lines}
 use Rattle.catalogue.proofs.Laws.{lines-none, lines-turn, lines-read}
@@ -30,8 +30,8 @@ slot-at-requires c κs = search needs
 add-i : tie.Need-add-i Inv-loop μ-loop
 add-i c = search needs
 
-put-slot-requires : tie.Need-put-slot-requires Inv-loop μ-loop
-put-slot-requires c κs = search needs
+put-slot-line-requires : tie.Need-put-slot-line-requires Inv-loop μ-loop
+put-slot-line-requires c κs = search needs
 
 loop-less : tie.Need-loop-less Inv-loop μ-loop
 loop-less c = search needs
@@ -41,7 +41,7 @@ loop-again c =
     let w = c .before .before in
     let s = w .before .before in
     let l = s .before .before .loop in
-    (omega arith, search needs, lines-turn _ (l .i) (omega arith) (s .slot-at .ensures) (l .inv .2) (w .put-slot .ensures))
+    (omega arith, search needs, lines-turn _ (l .i) (omega arith) (s .slot-at .ensures) (l .inv .2) (w .put-slot-line .ensures))
 
 same-length : tie.Need-same-length Inv-loop μ-loop
 same-length c = search needs
@@ -62,7 +62,7 @@ put-lines-spec =
     loop-holds
     slot-at-requires
     add-i
-    put-slot-requires
+    put-slot-line-requires
     loop-less
     loop-again
     same-length

@@ -1,8 +1,8 @@
 -- `catalogue::put_text` meets its contract: each return has the tests that led there.
 use mathlib.Core.Path.{sym, ap, _∙_}
 use Rattle.refusals.specs.Answers.{replyOf}
-use Rattle.lines.proofs.Laws.{wrote-then, wrote-as}
-use Rattle.catalogue.proofs.Laws.{text-short, text-tracks, text-refused, text-sound}
+use Rattle.text_lines.proofs.Laws.{wrote-then, wrote-as}
+use Rattle.catalogue.proofs.Laws.{text-short, text-tracks, text-refused, text-accepted}
 use borrow.Author.Needs.{needs}
 use Rattle.catalogue.proofs.put_text.Statement.{statement}
 use Rattle.catalogue.proofs.put_text.Tie as tie
@@ -79,7 +79,7 @@ returns-4 c =
     let k = t .before .before in
     let e = k .before in
     wrote-as _
-    (text-sound _ (e .before .before .if1 .left) (sym (e .before .has-more-tracks .ensures) ∙ e .if2 .left) _ _ (sym (k .survey-slots .ensures .reply) ∙ ap replyOf (t .enum-told .given .1))
+    (text-accepted _ (e .before .before .if1 .left) (sym (e .before .has-more-tracks .ensures) ∙ e .if2 .left) _ _ (sym (k .survey-slots .ensures .reply) ∙ ap replyOf (t .enum-told .given .1))
     (k .survey-slots .ensures .used) (f .free-of .ensures))
     (wrote-then (l .put-lines .ensures) (w .put-free .ensures))
 

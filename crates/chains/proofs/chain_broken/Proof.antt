@@ -1,16 +1,16 @@
--- `chains::chain_broken` meets its contract: before each turn the chain is broken exactly where what is left of it strays.
+-- `chains::chain_broken` meets its contract: before each turn the chain is broken exactly where what is left of it leaves the map.
 use mathlib.Core.Path.{sym, ap, _∙_}
 use mathlib.Core.Bool.{not}
 use native.Mathlib.Omega.{arith}
 use borrow.Author.Tests.{not-true, not-false}
 use Rattle.chains.proofs.Laws.{map-small}
-use Rattle.chains.proofs.Turns.{Walked, walked-inside, in-map, outside, start, strays-off, comes-again, walked, end}
+use Rattle.chains.proofs.ChainLoop.{ChainLoop, walked-inside, in-map, outside, start, leaves-off, comes-again, walked, end}
 use borrow.Author.Needs.{needs}
 use Rattle.chains.proofs.chain_broken.Statement.{statement}
 use Rattle.chains.proofs.chain_broken.Tie as tie
 
 abbrev Inv-loop : tie.InvT-loop
-Inv-loop image s map bit₀ left₀ at₀ passed₀ bit left at passed = Walked image s passed left bit at
+Inv-loop image s map bit₀ left₀ at₀ passed₀ bit left at passed = ChainLoop image s passed left bit at
 
 abbrev μ-loop : tie.MeasureT-loop
 μ-loop image s map bit₀ left₀ at₀ passed₀ bit left at passed = left
@@ -35,11 +35,11 @@ count-of-requires c κs = search needs
 first-place-requires : tie.Need-first-place-requires Inv-loop μ-loop
 first-place-requires c κs = search needs
 
-slice-aggregate-mark : tie.Need-slice-aggregate-mark Inv-loop μ-loop
-slice-aggregate-mark c = search needs
+slice-aggregate-set-bit : tie.Need-slice-aggregate-set-bit Inv-loop μ-loop
+slice-aggregate-set-bit c = search needs
 
-mark-requires : tie.Need-mark-requires Inv-loop μ-loop
-mark-requires c κs = search needs
+set-bit-requires : tie.Need-set-bit-requires Inv-loop μ-loop
+set-bit-requires c κs = search needs
 
 loop-holds : tie.Need-loop-holds Inv-loop μ-loop
 loop-holds c =
@@ -48,7 +48,7 @@ loop-holds c =
     let e = n .before in
     let f = e .before .before in
     start _ _ _ _ _ _ (f .first-of .ensures .0) (n .count-of .ensures .0) (a .first-place .ensures)
-    (in-map _ _ _ (f .before .map-of .ensures) (e .before .has-bit .ensures) (not-false _ (e .if1 .left))) (c .before .mark .ensures)
+    (in-map _ _ _ (f .before .map-of .ensures) (e .before .has-bit .ensures) (not-false _ (e .if1 .left))) (c .before .set-bit .ensures)
 
 add-num-at : tie.Need-add-num-at Inv-loop μ-loop
 add-num-at c = omega (arith, walked-inside _ _ _ _ _ _ (c .before .loop .inv) .1)
@@ -74,7 +74,7 @@ returns-2 c =
     let k = n .before in
     let i = k .before .before in
     let l = i .before in
-    strays-off _ _ _ _ _ _ _ _ _ (l .loop .inv) (i .loop-test .taken) (k .before .num-at .ensures .0) (k .num-at2 .ensures .0) (n .bit-or-end .ensures .0)
+    leaves-off _ _ _ _ _ _ _ _ _ (l .loop .inv) (i .loop-test .taken) (k .before .num-at .ensures .0) (k .num-at2 .ensures .0) (n .bit-or-end .ensures .0)
     (in-map _ _ _ (l .before .before .before .before .before .before .before .before .before .map-of .ensures) (c .before .has-bit2 .ensures) (not-true _ (c .if2 .taken)))
 
 slice-aggregate-has-bit : tie.Need-slice-aggregate-has-bit Inv-loop μ-loop
@@ -94,11 +94,11 @@ returns-3 c =
     (in-map _ _ _ (l .before .before .before .before .before .before .before .before .before .map-of .ensures) (e .before .has-bit2 .ensures) (not-false _ (e .if2 .left)))
     (sym (c .before .has-bit3 .ensures) ∙ c .if3 .taken)
 
-slice-aggregate-mark-2 : tie.Need-slice-aggregate-mark-2 Inv-loop μ-loop
-slice-aggregate-mark-2 c = sym (c .before .before .before .before .before .before .before .before .before .before .loop .inv .marks .long)
+slice-aggregate-set-bit-2 : tie.Need-slice-aggregate-set-bit-2 Inv-loop μ-loop
+slice-aggregate-set-bit-2 c = sym (c .before .before .before .before .before .before .before .before .before .before .loop .inv .marks .long)
 
-mark-requires-2 : tie.Need-mark-requires-2 Inv-loop μ-loop
-mark-requires-2 c κs = search needs
+set-bit-requires-2 : tie.Need-set-bit-requires-2 Inv-loop μ-loop
+set-bit-requires-2 c κs = search needs
 
 place-after-requires : tie.Need-place-after-requires Inv-loop μ-loop
 place-after-requires c κs =
@@ -125,7 +125,7 @@ loop-again c =
     walked _ _ _ _ _ _ _ _ _ (l .loop .inv) (i .loop-test .taken) (k .before .num-at .ensures .0) (k .num-at2 .ensures .0) (n .bit-or-end .ensures .0) _ _
     (in-map _ _ _ (l .before .before .before .before .before .before .before .before .before .map-of .ensures) (e .before .has-bit2 .ensures) (not-false _ (e .if2 .left)))
     (sym (r .before .has-bit3 .ensures) ∙ r .if3 .left)
-    (c .place-after .ensures) (c .before .before .mark2 .ensures)
+    (c .place-after .ensures) (c .before .before .set-bit2 .ensures)
 
 part-at-requires : tie.Need-part-at-requires Inv-loop μ-loop
 part-at-requires c κs = search needs
@@ -150,8 +150,8 @@ chain-broken-spec =
     returns
     count-of-requires
     first-place-requires
-    slice-aggregate-mark
-    mark-requires
+    slice-aggregate-set-bit
+    set-bit-requires
     loop-holds
     add-num-at
     num-at-requires
@@ -163,8 +163,8 @@ chain-broken-spec =
     slice-aggregate-has-bit
     has-bit-requires-3
     returns-3
-    slice-aggregate-mark-2
-    mark-requires-2
+    slice-aggregate-set-bit-2
+    set-bit-requires-2
     place-after-requires
     sub-left
     loop-less

@@ -3,7 +3,7 @@ use mathlib.Core.Path.{sym, ap, _∙_}
 use native.Mathlib.Omega.{arith}
 use Rattle.geometry.specs.Disk.{placeOrEnd}
 use Rattle.geometry.proofs.Laws.{place-or-end, place-inside}
-use Rattle.chains.proofs.Turns.{beside}
+use Rattle.chains.proofs.ChainLoop.{beside}
 use borrow.Author.Needs.{needs}
 use Rattle.chains.proofs.place_after.Statement.{statement}
 use Rattle.chains.proofs.place_after.Tie as tie

@@ -1,15 +1,15 @@
--- `changes::erase` meets its contract: what bars the name is the answer, and else what its slot gives.
+-- `changes::erase` meets its contract: what refuses the name is the answer, and else what its slot gives.
 use mathlib.Core.Path.{sym, ap, _∙_}
 use denote.Ref.{now}
-use Rattle.files.specs.Calls.{soughtOf}
-use Rattle.files.proofs.Named.{Named, lookup-named}
-use Rattle.changes.proofs.Laws.{named-holds, erase-barred, erase-found}
+use Rattle.files.specs.Calls.{lookupOf}
+use Rattle.files.proofs.Named.{LookedUp, lookup-named}
+use Rattle.changes.proofs.Laws.{named-holds, erase-refused, erase-found}
 use borrow.Author.Needs.{needs}
 use Rattle.changes.proofs.erase.Statement.{statement}
 use Rattle.changes.proofs.erase.Tie as tie
 
-named : (c : tie.After-i) → Named (now (c .before .before .before .before .before .before .before .args .image)) (now (c .before .before .before .before .before .before .before .args .name)) (c .i .given .0 .0)
-named c = lookup-named _ _ _ (ap soughtOf (sym (c .i .given .1)) ∙ c .before .before .look-up .ensures)
+named : (c : tie.After-i) → LookedUp (now (c .before .before .before .before .before .before .before .args .image)) (now (c .before .before .before .before .before .before .before .args .name)) (c .i .given .0 .0)
+named c = lookup-named _ _ _ (ap lookupOf (sym (c .i .given .1)) ∙ c .before .before .look-up .ensures)
 
 look-up-requires : tie.Need-look-up-requires
 look-up-requires c κs = search needs
@@ -27,7 +27,7 @@ same-length : tie.Need-same-length
 same-length c = search needs
 
 returns : tie.Need-returns
-returns c = erase-barred _ _ _ _ (ap soughtOf (sym (c .before .r .given .1)) ∙ c .before .before .before .look-up .ensures)
+returns c = erase-refused _ _ _ _ (ap lookupOf (sym (c .before .r .given .1)) ∙ c .before .before .before .look-up .ensures)
 
 same-length-2 : tie.Need-same-length-2
 same-length-2 c = search needs

@@ -12,11 +12,11 @@ slot-at-requires c κs = search needs
 is-protected-requires : tie.Need-is-protected-requires
 is-protected-requires c κs = search needs
 
-add-no : tie.Need-add-no
-add-no c = omega (arith, c .before .before .before .before .before .before .pre .below)
+add-refused-answer : tie.Need-add-refused-answer
+add-refused-answer c = omega (arith, c .before .before .before .before .before .before .pre .below)
 
-no-requires : tie.Need-no-requires
-no-requires c κs = search needs
+refused-answer-requires : tie.Need-refused-answer-requires
+refused-answer-requires c κs = search needs
 
 same-length : tie.Need-same-length
 same-length c = search needs
@@ -26,7 +26,7 @@ returns c =
     let t = c .before in
     let s = t .before .before in
     settled-as _ _ _ _ (erase-protected _ _ (s .before .before .before .before .pre) _ (s .slot-at .ensures) (sym (t .before .is-protected .ensures) ∙ t .if1 .taken))
-    _ (settled-no _ _ _ _ (c .no .ensures))
+    _ (settled-no _ _ _ _ (c .refused-answer .ensures))
 
 slot-at-requires-2 : tie.Need-slot-at-requires-2
 slot-at-requires-2 c κs = search needs
@@ -34,11 +34,11 @@ slot-at-requires-2 c κs = search needs
 is-occupied-requires : tie.Need-is-occupied-requires
 is-occupied-requires c κs = search needs
 
-add-no-2 : tie.Need-add-no-2
-add-no-2 c = omega (arith, c .before .before .before .before .before .before .before .before .before .before .pre .below)
+add-refused-answer-2 : tie.Need-add-refused-answer-2
+add-refused-answer-2 c = omega (arith, c .before .before .before .before .before .before .before .before .before .before .pre .below)
 
-no-requires-2 : tie.Need-no-requires-2
-no-requires-2 c κs = search needs
+refused-answer-requires-2 : tie.Need-refused-answer-requires-2
+refused-answer-requires-2 c κs = search needs
 
 same-length-2 : tie.Need-same-length-2
 same-length-2 c = search needs
@@ -52,7 +52,7 @@ returns-2 c =
     settled-as _ _ _ _
     (erase-occupied _ _ (s .before .before .before .before .pre) _ (s .slot-at .ensures) (sym (e .before .is-protected .ensures) ∙ e .if1 .left) _ (o .slot-at2 .ensures)
     (sym (t .before .is-occupied .ensures) ∙ t .if2 .taken))
-    _ (settled-no _ _ _ _ (c .no2 .ensures))
+    _ (settled-no _ _ _ _ (c .refused-answer2 .ensures))
 
 slice-aggregate-touch : tie.Need-slice-aggregate-touch
 slice-aggregate-touch c = search needs
@@ -86,14 +86,14 @@ erase-at-spec =
     (tie.spec
     slot-at-requires
     is-protected-requires
-    add-no
-    no-requires
+    add-refused-answer
+    refused-answer-requires
     same-length
     returns
     slot-at-requires-2
     is-occupied-requires
-    add-no-2
-    no-requires-2
+    add-refused-answer-2
+    refused-answer-requires-2
     same-length-2
     returns-2
     slice-aggregate-touch

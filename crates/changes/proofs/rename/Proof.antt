@@ -10,7 +10,7 @@ use Rattle.directory.specs.Directory.{directory}
 use Rattle.directory.specs.Find.{find, foundAt}
 use Rattle.disk.specs.Check.{checkDisk}
 use Rattle.plans.specs.Change.{usable}
-use Rattle.changes.proofs.Laws.{settled-no, change-unsound, named-holds, rename-unaskable, rename-unusable, rename-missing, rename-found}
+use Rattle.changes.proofs.Laws.{settled-no, change-err, named-holds, rename-unaskable, rename-unusable, rename-missing, rename-found}
 use borrow.Author.Needs.{needs}
 use Rattle.changes.proofs.rename.Statement.{statement}
 use Rattle.changes.proofs.rename.Tie as tie
@@ -42,8 +42,8 @@ enum-told c = search needs
 is-askable-requires : tie.Need-is-askable-requires
 is-askable-requires c κs = search needs
 
-no-requires : tie.Need-no-requires
-no-requires c κs = search needs
+refused-answer-requires : tie.Need-refused-answer-requires
+refused-answer-requires c κs = search needs
 
 same-length : tie.Need-same-length
 same-length c = search needs
@@ -51,13 +51,13 @@ same-length c = search needs
 returns : tie.Need-returns
 returns c =
     let t = c .before .before in
-    settled-no _ _ _ _ (c .no .ensures) ∙ rename-unaskable _ _ _ _ (accepted (t .before)) (sym (t .is-askable .ensures) ∙ not-true _ (c .before .if1 .taken))
+    settled-no _ _ _ _ (c .refused-answer .ensures) ∙ rename-unaskable _ _ _ _ (accepted (t .before)) (sym (t .is-askable .ensures) ∙ not-true _ (c .before .if1 .taken))
 
 is-usable-requires : tie.Need-is-usable-requires
 is-usable-requires c κs = search needs
 
-no-requires-2 : tie.Need-no-requires-2
-no-requires-2 c κs = search needs
+refused-answer-requires-2 : tie.Need-refused-answer-requires-2
+refused-answer-requires-2 c κs = search needs
 
 same-length-2 : tie.Need-same-length-2
 same-length-2 c = search needs
@@ -65,7 +65,7 @@ same-length-2 c = search needs
 returns-2 : tie.Need-returns-2
 returns-2 c =
     let t = c .before .before in
-    settled-no _ _ _ _ (c .no2 .ensures)
+    settled-no _ _ _ _ (c .refused-answer2 .ensures)
     ∙ rename-unusable _ _ _ _ (accepted (t .before .before .before)) (is-askable (t .before)) (sym (t .is-usable .ensures) ∙ not-true _ (c .before .if2 .taken))
 
 find-requires : tie.Need-find-requires
@@ -82,14 +82,14 @@ rename-at-requires c κs =
 enum-told-2 : tie.Need-enum-told-2
 enum-told-2 c = search needs
 
-no-requires-3 : tie.Need-no-requires-3
-no-requires-3 c κs = search needs
+refused-answer-requires-3 : tie.Need-refused-answer-requires-3
+refused-answer-requires-3 c κs = search needs
 
 same-length-3 : tie.Need-same-length-3
 same-length-3 c = search needs
 
 returns-3 : tie.Need-returns-3
-returns-3 c = change-unsound _ _ _ _ (sym (c .before .before .before .check .ensures) ∙ ap replyOf (c .before .r .given .1))
+returns-3 c = change-err _ _ _ _ (sym (c .before .before .before .check .ensures) ∙ ap replyOf (c .before .r .given .1))
 
 same-length-4 : tie.Need-same-length-4
 same-length-4 c = search needs
@@ -111,7 +111,7 @@ returns-5 : tie.Need-returns-5
 returns-5 c =
     let f = c .before .before .before in
     let e = f .before .before in
-    settled-no _ _ _ _ (c .no3 .ensures) ∙ rename-missing _ _ _ _ (accepted (e .before .before .before .before)) (fit e) (sym (f .find .ensures) ∙ ap foundAt (c .before .enum-told2 .given .1))
+    settled-no _ _ _ _ (c .refused-answer3 .ensures) ∙ rename-missing _ _ _ _ (accepted (e .before .before .before .before)) (fit e) (sym (f .find .ensures) ∙ ap foundAt (c .before .enum-told2 .given .1))
 
 pub rename-spec : {M : Type 1} → statement M
 rename-spec =
@@ -121,18 +121,18 @@ rename-spec =
     enum-known-r
     enum-told
     is-askable-requires
-    no-requires
+    refused-answer-requires
     same-length
     returns
     is-usable-requires
-    no-requires-2
+    refused-answer-requires-2
     same-length-2
     returns-2
     find-requires
     enum-known-i
     rename-at-requires
     enum-told-2
-    no-requires-3
+    refused-answer-requires-3
     same-length-3
     returns-3
     same-length-4

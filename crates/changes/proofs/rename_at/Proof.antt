@@ -19,11 +19,11 @@ taken-by-requires c κs = search needs
 enum-known-j : tie.Need-enum-known-j
 enum-known-j c = search needs
 
-add-no : tie.Need-add-no
-add-no c = omega (arith, taken-below _ _ _ _ (found (c .before)))
+add-refused-answer : tie.Need-add-refused-answer
+add-refused-answer c = omega (arith, taken-below _ _ _ _ (found (c .before)))
 
-no-requires : tie.Need-no-requires
-no-requires c κs = search needs
+refused-answer-requires : tie.Need-refused-answer-requires
+refused-answer-requires c κs = search needs
 
 enum-told : tie.Need-enum-told
 enum-told c = search needs
@@ -41,7 +41,7 @@ same-length : tie.Need-same-length
 same-length c = search needs
 
 returns : tie.Need-returns
-returns c = settled-as _ _ _ _ (plan-taken _ _ _ _ (found (c .before .before))) _ (settled-no _ _ _ _ (c .no .ensures))
+returns c = settled-as _ _ _ _ (plan-taken _ _ _ _ (found (c .before .before))) _ (settled-no _ _ _ _ (c .refused-answer .ensures))
 
 same-length-2 : tie.Need-same-length-2
 same-length-2 c = search needs
@@ -65,8 +65,8 @@ rename-at-spec =
     (tie.spec
     taken-by-requires
     enum-known-j
-    add-no
-    no-requires
+    add-refused-answer
+    refused-answer-requires
     enum-told
     padded-name-requires
     slice-aggregate-touch-unprotected

@@ -1,16 +1,16 @@
--- `changes::set_mark` meets its contract: what bars the name is the answer, and else the byte with its mark is put.
+-- `changes::set_mark` meets its contract: what refuses the name is the answer, and else the byte with its mark is put.
 use mathlib.Core.Path.{sym, ap, _∙_}
 use native.Mathlib.Omega.{arith}
 use denote.Ref.{now}
-use Rattle.files.specs.Calls.{soughtOf}
-use Rattle.files.proofs.Named.{Named, lookup-named}
-use Rattle.changes.proofs.Laws.{named-holds, mark-barred, mark-found}
+use Rattle.files.specs.Calls.{lookupOf}
+use Rattle.files.proofs.Named.{LookedUp, lookup-named}
+use Rattle.changes.proofs.Laws.{named-holds, mark-refused, mark-found}
 use borrow.Author.Needs.{needs}
 use Rattle.changes.proofs.set_mark.Statement.{statement}
 use Rattle.changes.proofs.set_mark.Tie as tie
 
-named : (c : tie.After-i) → Named (now (c .before .before .before .before .before .before .before .args .image)) (now (c .before .before .before .before .before .before .before .args .name)) (c .i .given .0 .0)
-named c = lookup-named _ _ _ (ap soughtOf (sym (c .i .given .1)) ∙ c .before .before .look-up .ensures)
+named : (c : tie.After-i) → LookedUp (now (c .before .before .before .before .before .before .before .args .image)) (now (c .before .before .before .before .before .before .before .args .name)) (c .i .given .0 .0)
+named c = lookup-named _ _ _ (ap lookupOf (sym (c .i .given .1)) ∙ c .before .before .look-up .ensures)
 
 look-up-requires : tie.Need-look-up-requires
 look-up-requires c κs = search needs
@@ -27,8 +27,8 @@ slot-at-requires c κs = search needs
 byte-at-requires : tie.Need-byte-at-requires
 byte-at-requires c κs = search needs
 
-marked-requires : tie.Need-marked-requires
-marked-requires c κs = search needs
+marked-byte-requires : tie.Need-marked-byte-requires
+marked-byte-requires c κs = search needs
 
 slice-aggregate-touch : tie.Need-slice-aggregate-touch
 slice-aggregate-touch c = search needs
@@ -40,7 +40,7 @@ same-length : tie.Need-same-length
 same-length c = search needs
 
 returns : tie.Need-returns
-returns c = mark-barred _ _ _ _ _ (ap soughtOf (sym (c .before .r .given .1)) ∙ c .before .before .before .look-up .ensures)
+returns c = mark-refused _ _ _ _ _ (ap lookupOf (sym (c .before .r .given .1)) ∙ c .before .before .before .look-up .ensures)
 
 same-length-2 : tie.Need-same-length-2
 same-length-2 c = search needs
@@ -53,7 +53,7 @@ returns-2 c =
     let t = c .before .before .before .before in
     let m = t .before .before .before .before in
     let s = m .before .before in
-    t .touch .ensures ∙ mark-found _ _ _ _ _ (named (s .before .before .before)) _ (s .slot-at .ensures) _ (m .before .byte-at .ensures) _ (m .marked .ensures)
+    t .touch .ensures ∙ mark-found _ _ _ _ _ (named (s .before .before .before)) _ (s .slot-at .ensures) _ (m .before .byte-at .ensures) _ (m .marked-byte .ensures)
 
 pub set-mark-spec : {M : Type 1} → statement M
 set-mark-spec =
@@ -64,7 +64,7 @@ set-mark-spec =
     enum-known-i
     slot-at-requires
     byte-at-requires
-    marked-requires
+    marked-byte-requires
     slice-aggregate-touch
     touch-requires
     same-length

@@ -5,11 +5,11 @@ use borrow.Author.Needs.{needs}
 use Rattle.changes.proofs.touch.Statement.{statement}
 use Rattle.changes.proofs.touch.Tie as tie
 
-no-requires : tie.Need-no-requires
-no-requires c κs = search needs
+refused-answer-requires : tie.Need-refused-answer-requires
+refused-answer-requires c κs = search needs
 
 returns : tie.Need-returns
-returns c = touch-short _ _ _ _ _ (c .before .if1 .taken) _ (c .no .ensures)
+returns c = touch-short _ _ _ _ _ (c .before .if1 .taken) _ (c .refused-answer .ensures)
 
 put-in-slot-requires : tie.Need-put-in-slot-requires
 put-in-slot-requires c κs = search needs
@@ -39,7 +39,7 @@ pub touch-spec : {M : Type 1} → statement M
 touch-spec =
     tie.close
     (tie.spec
-    no-requires
+    refused-answer-requires
     returns
     put-in-slot-requires
     dir-sector-requires

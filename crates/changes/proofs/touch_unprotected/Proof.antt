@@ -12,11 +12,11 @@ slot-at-requires c κs = search needs
 is-protected-requires : tie.Need-is-protected-requires
 is-protected-requires c κs = search needs
 
-add-no : tie.Need-add-no
-add-no c = omega (arith, c .before .before .before .before .before .before .before .pre .slot .below)
+add-refused-answer : tie.Need-add-refused-answer
+add-refused-answer c = omega (arith, c .before .before .before .before .before .before .before .pre .slot .below)
 
-no-requires : tie.Need-no-requires
-no-requires c κs = search needs
+refused-answer-requires : tie.Need-refused-answer-requires
+refused-answer-requires c κs = search needs
 
 same-length : tie.Need-same-length
 same-length c = search needs
@@ -25,7 +25,7 @@ returns : tie.Need-returns
 returns c =
     let s = c .before .before .before in
     settled-as _ _ _ _ (plan-protected _ _ _ _ (s .before .before .before .before .before .pre .slot) _ (s .slot-at .ensures) (sym (c .before .before .is-protected .ensures) ∙ c .before .if1 .taken))
-    _ (settled-no _ _ _ _ (c .no .ensures))
+    _ (settled-no _ _ _ _ (c .refused-answer .ensures))
 
 touch-requires : tie.Need-touch-requires
 touch-requires c κs = search needs
@@ -50,8 +50,8 @@ touch-unprotected-spec =
     (tie.spec
     slot-at-requires
     is-protected-requires
-    add-no
-    no-requires
+    add-refused-answer
+    refused-answer-requires
     same-length
     returns
     touch-requires

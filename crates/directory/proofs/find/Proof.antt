@@ -2,13 +2,13 @@
 use Prim.Native.Nat.{_-_, _≤_}
 use mathlib.Core.Path.{_≡_, sym, _∙_}
 use native.Mathlib.Omega.{arith}
-use Rattle.refusals.specs.Order.{sweepFrom}
-use Rattle.refusals.proofs.First.{sweep-skip, sweep-stop}
+use Rattle.refusals.specs.Order.{scanFrom}
+use Rattle.refusals.proofs.First.{scan-skip, scan-stop}
 use Rattle.names.specs.Name.{padded}
 use Rattle.names.proofs.Names.{padded-whole}
 use Rattle.directory.specs.Places.{slots}
 use Rattle.directory.specs.Directory.{slotsRead, directory}
-use Rattle.directory.specs.Find.{hit, find}
+use Rattle.directory.specs.Find.{matchAt, find}
 use Rattle.directory.proofs.Named.{named-read, hit-named}
 use Rattle.directory.proofs.Search.{find-start, find-rest, find-long}
 use borrow.Author.Needs.{needs}
@@ -16,7 +16,7 @@ use Rattle.directory.proofs.find.Statement.{statement}
 use Rattle.directory.proofs.find.Tie as tie
 
 abbrev Inv-loop : tie.InvT-loop
-Inv-loop dir name filled end i₀ i = (i ≤ slotsRead dir) × (filled ≡ padded name) × (find (directory dir) name ≡ sweepFrom (slots - i) i (hit (directory dir) name))
+Inv-loop dir name filled end i₀ i = (i ≤ slotsRead dir) × (filled ≡ padded name) × (find (directory dir) name ≡ scanFrom (slots - i) i (matchAt (directory dir) name))
 
 abbrev μ-loop : tie.MeasureT-loop
 μ-loop dir name filled end i₀ i = end - i
@@ -50,7 +50,7 @@ returns-2 c =
     let s = c .before .before .before in
     let a = s .before .before .loop in
     let e = named-read _ _ (a .i) (omega arith) (s .slot-at .ensures) (c .before .is-named .ensures) in
-    sym (a .inv .2 ∙ sweep-stop slots (a .i) _ (a .i) (omega arith) (hit-named _ _ (a .i) _ (a .inv .1) (sym e ∙ c .if2 .taken)))
+    sym (a .inv .2 ∙ scan-stop slots (a .i) _ (a .i) (omega arith) (hit-named _ _ (a .i) _ (a .inv .1) (sym e ∙ c .if2 .taken)))
 
 loop-less : tie.Need-loop-less Inv-loop μ-loop
 loop-less c = search needs
@@ -60,7 +60,7 @@ loop-again c =
     let s = c .before .before .before in
     let a = s .before .before .loop in
     let e = named-read _ _ (a .i) (omega arith) (s .slot-at .ensures) (c .before .is-named .ensures) in
-    (omega arith, a .inv .1, a .inv .2 ∙ sweep-skip slots (a .i) _ (omega arith) (hit-named _ _ (a .i) _ (a .inv .1) (sym e ∙ c .if2 .left)))
+    (omega arith, a .inv .1, a .inv .2 ∙ scan-skip slots (a .i) _ (omega arith) (hit-named _ _ (a .i) _ (a .inv .1) (sym e ∙ c .if2 .left)))
 
 returns-3 : tie.Need-returns-3 Inv-loop μ-loop
 returns-3 c = let a = c .before .loop in sym (a .inv .2 ∙ find-rest _ _ (a .i) (omega arith))

@@ -1,5 +1,5 @@
 -- `directory::has_bad_tracks` meets its contract: by byte 255, the last of slot 1.
-use Rattle.directory.proofs.Label.{good-byte, bad-byte}
+use Rattle.directory.proofs.Label.{accepted-byte, bad-byte}
 use borrow.Author.Needs.{needs}
 use Rattle.directory.proofs.has_bad_tracks.Statement.{statement}
 use Rattle.directory.proofs.has_bad_tracks.Tie as tie
@@ -8,7 +8,7 @@ num-at-requires : tie.Need-num-at-requires
 num-at-requires c κs = search needs
 
 returns : tie.Need-returns
-returns c = good-byte _ (c .before .num-at .ensures .0) (c .if1 .taken)
+returns c = accepted-byte _ (c .before .num-at .ensures .0) (c .if1 .taken)
 
 returns-2 : tie.Need-returns-2
 returns-2 c = bad-byte _ (c .before .num-at .ensures .0) (c .if1 .left)

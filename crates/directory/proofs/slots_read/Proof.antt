@@ -3,7 +3,7 @@ use Prim.Native.Nat.{_-_, _≤_, _<_}
 use mathlib.Core.Path.{_≡_, sym, _∙_}
 use native.Mathlib.Omega.{arith}
 use denote.Ref.{now}
-use Rattle.refusals.specs.Order.{sweepFrom}
+use Rattle.refusals.specs.Order.{scanFrom}
 use Rattle.directory.specs.Directory.{slotsIn, endAt, endOf}
 use Rattle.directory.proofs.Ends.{end-start, end-past, end-here, end-on}
 use borrow.Author.Needs.{needs}
@@ -11,7 +11,7 @@ use Rattle.directory.proofs.slots_read.Statement.{statement}
 use Rattle.directory.proofs.slots_read.Tie as tie
 
 abbrev Inv-loop : tie.InvT-loop
-Inv-loop dir count i₀ i = (count ≡ slotsIn dir) × (count ≤ 778) × (i ≤ count) × (endOf dir ≡ sweepFrom (slotsIn dir - i) i (endAt dir))
+Inv-loop dir count i₀ i = (count ≡ slotsIn dir) × (count ≤ 778) × (i ≤ count) × (endOf dir ≡ scanFrom (slotsIn dir - i) i (endAt dir))
 
 abbrev μ-loop : tie.MeasureT-loop
 μ-loop dir count i₀ i = count - i

@@ -4,23 +4,23 @@ use mathlib.Core.Option.{some}
 use mathlib.Core.Path.{_≡_, sym, ap, _∙_}
 use native.Mathlib.Omega.{arith}
 use denote.Ref.{now}
-use Rattle.refusals.specs.Order.{sweep, sweepFrom}
+use Rattle.refusals.specs.Order.{scan, scanFrom}
 use Rattle.refusals.specs.Answers.{replyOf}
-use Rattle.refusals.proofs.First.{sweep-start, sweep-skip, sweep-stop}
+use Rattle.refusals.proofs.First.{scan-start, scan-skip, scan-stop}
 use Rattle.directory.specs.Places.{slots}
 use Rattle.directory.specs.Directory.{slotsRead, directory, liveAmong}
 use Rattle.directory.proofs.Ends.{read-most}
 use Rattle.directory.proofs.Live.{met-live, met-dead, among-none, among-live, among-dead, among-seen, among-read}
-use Rattle.disk.specs.Look.{look}
+use Rattle.disk.specs.View.{view}
 use Rattle.disk.specs.Check.{chainAt}
-use Rattle.disk.proofs.Look.{chain-met, chain-none, chain-rest}
+use Rattle.disk.proofs.View.{chain-met, chain-none, chain-rest}
 use borrow.Author.Needs.{needs}
 use Rattle.disk.proofs.all_chains.Statement.{statement}
 use Rattle.disk.proofs.all_chains.Tie as tie
 
 abbrev Inv-loop : tie.InvT-loop
 Inv-loop image files seen₀ i₀ seen i =
-    (i ≤ slots) × (sweep slots (chainAt (look image)) ≡ sweepFrom (slots - i) i (chainAt (look image))) × (seen ≡ liveAmong (directory image) i)
+    (i ≤ slots) × (scan slots (chainAt (view image)) ≡ scanFrom (slots - i) i (chainAt (view image))) × (seen ≡ liveAmong (directory image) i)
 
 abbrev μ-loop : tie.MeasureT-loop
 μ-loop image files seen₀ i₀ seen i = slots - i
@@ -39,7 +39,7 @@ live : (y : tie.Then1 Inv-loop μ-loop) → directory (now (y .before .before .b
 live y = met-live _ _ (y .before .before .slot-at .ensures) (y .before .is-live .ensures) (more (y .before .before .before)) (y .if1 .taken)
 
 loop-holds : tie.Need-loop-holds Inv-loop μ-loop
-loop-holds c = (omega arith, sweep-start slots _, sym (among-none _))
+loop-holds c = (omega arith, scan-start slots _, sym (among-none _))
 
 slot-at-requires : tie.Need-slot-at-requires Inv-loop μ-loop
 slot-at-requires c κs = search needs
@@ -53,8 +53,8 @@ is-live-requires c κs = search needs
 add-seen : tie.Need-add-seen Inv-loop μ-loop
 add-seen c = omega (arith, among-seen _ _ _ (c .before .before .before .before .loop .inv .2))
 
-later-rows-requires : tie.Need-later-rows-requires Inv-loop μ-loop
-later-rows-requires c κs = search needs
+chain-pass-rows-requires : tie.Need-chain-pass-rows-requires Inv-loop μ-loop
+chain-pass-rows-requires c κs = search needs
 
 enum-known-r : tie.Need-enum-known-r Inv-loop μ-loop
 enum-known-r c = search needs
@@ -64,7 +64,7 @@ returns c =
     let m = c .before .before .before in
     let l = m .before .before .before .before in
     let a = l .before .loop in
-    sym (a .inv .1 ∙ sweep-stop slots (a .i) _ _ (next l) (sym (m .later-rows .ensures ∙ chain-met _ _ _ (live (m .before))) ∙ ap replyOf (c .before .r .given .1)))
+    sym (a .inv .1 ∙ scan-stop slots (a .i) _ _ (next l) (sym (m .chain-pass-rows .ensures ∙ chain-met _ _ _ (live (m .before))) ∙ ap replyOf (c .before .r .given .1)))
 
 enum-told : tie.Need-enum-told Inv-loop μ-loop
 enum-told c = search needs
@@ -78,7 +78,7 @@ loop-again c =
     let l = m .before .before .before .before in
     let a = l .before .loop in (
       omega (arith, next l),
-      a .inv .1 ∙ sweep-skip slots (a .i) _ (next l) (sym (m .later-rows .ensures ∙ chain-met _ _ _ (live (m .before))) ∙ ap replyOf (c .enum-told .given .1)),
+      a .inv .1 ∙ scan-skip slots (a .i) _ (next l) (sym (m .chain-pass-rows .ensures ∙ chain-met _ _ _ (live (m .before))) ∙ ap replyOf (c .enum-told .given .1)),
       ap (λ (n : ℕ). n + 1) (a .inv .2) ∙ sym (among-live _ (a .i) _ (live (m .before))),
     )
 
@@ -90,7 +90,7 @@ loop-again-2 c =
     let s = c .before .before in
     let a = s .before .before .loop in
     let e = met-dead _ _ (s .slot-at .ensures) (c .before .is-live .ensures) (c .if1 .left) in
-    (omega (arith, next (s .before)), a .inv .1 ∙ sweep-skip slots (a .i) _ (next (s .before)) (chain-none _ (a .i) e), a .inv .2 ∙ sym (among-dead _ (a .i) e))
+    (omega (arith, next (s .before)), a .inv .1 ∙ scan-skip slots (a .i) _ (next (s .before)) (chain-none _ (a .i) e), a .inv .2 ∙ sym (among-dead _ (a .i) e))
 
 returns-2 : tie.Need-returns-2 Inv-loop μ-loop
 returns-2 c =
@@ -108,7 +108,7 @@ all-chains-spec =
     add-i
     is-live-requires
     add-seen
-    later-rows-requires
+    chain-pass-rows-requires
     enum-known-r
     returns
     enum-told

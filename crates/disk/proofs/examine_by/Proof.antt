@@ -5,8 +5,8 @@ use denote.Ref.{now}
 use Rattle.refusals.specs.Answers.{replyOf}
 use Rattle.slots.specs.Tracks.{badTracks}
 use Rattle.directory.specs.Directory.{labelOf}
-use Rattle.surveys.proofs.Pass.{surveyed-sound}
-use Rattle.disk.proofs.Examined.{examined-length, examined-tracks, examined-survey, examined-chains, examined-sound}
+use Rattle.surveys.proofs.Pass.{surveyed-accepted}
+use Rattle.disk.proofs.Examined.{examined-length, examined-tracks, examined-survey, examined-chains, examined-accepted}
 use borrow.Author.Needs.{needs}
 use Rattle.disk.proofs.examine_by.Statement.{statement}
 use Rattle.disk.proofs.examine_by.Tie as tie
@@ -15,20 +15,20 @@ use Rattle.disk.proofs.examine_by.Tie as tie
 good : (c : tie.Else2) → badTracks (labelOf (now (c .before .before .before .before .args .image)) 255) ≡ false
 good c = sym (c .before .has-bad-tracks .ensures) ∙ c .if2 .left
 
-unsound-requires : tie.Need-unsound-requires
-unsound-requires c κs = search needs
+refused-verdict-requires : tie.Need-refused-verdict-requires
+refused-verdict-requires c κs = search needs
 
 refused-requires : tie.Need-refused-requires
 refused-requires c κs = search needs
 
 returns : tie.Need-returns
-returns c = examined-length _ _ (c .before .before .if1 .taken) _ (c .before .unsound .ensures) _ (c .refused .ensures)
+returns c = examined-length _ _ (c .before .before .if1 .taken) _ (c .before .refused-verdict .ensures) _ (c .refused .ensures)
 
 has-bad-tracks-requires : tie.Need-has-bad-tracks-requires
 has-bad-tracks-requires c κs = search needs
 
-unsound-requires-2 : tie.Need-unsound-requires-2
-unsound-requires-2 c κs = search needs
+refused-verdict-requires-2 : tie.Need-refused-verdict-requires-2
+refused-verdict-requires-2 c κs = search needs
 
 refused-requires-2 : tie.Need-refused-requires-2
 refused-requires-2 c κs = search needs
@@ -36,7 +36,7 @@ refused-requires-2 c κs = search needs
 returns-2 : tie.Need-returns-2
 returns-2 c =
     let t = c .before .before in
-    examined-tracks _ _ (t .before .before .if1 .left) (sym (t .before .has-bad-tracks .ensures) ∙ t .if2 .taken) _ (c .before .unsound2 .ensures) _ (c .refused2 .ensures)
+    examined-tracks _ _ (t .before .before .if1 .left) (sym (t .before .has-bad-tracks .ensures) ∙ t .if2 .taken) _ (c .before .refused-verdict2 .ensures) _ (c .refused2 .ensures)
 
 survey-slots-requires : tie.Need-survey-slots-requires
 survey-slots-requires c κs = search needs
@@ -48,7 +48,7 @@ enum-told-2 : tie.Need-enum-told-2
 enum-told-2 c = search needs
 
 all-chains-requires : tie.Need-all-chains-requires
-all-chains-requires c κs = surveyed-sound _ _ _ (c .before .before .survey-slots .ensures) (c .enum-told2 .given .1) .2
+all-chains-requires c κs = surveyed-accepted _ _ _ (c .before .before .survey-slots .ensures) (c .enum-told2 .given .1) .2
 
 enum-told-3 : tie.Need-enum-told-3
 enum-told-3 c = search needs
@@ -75,18 +75,18 @@ returns-5 : tie.Need-returns-5
 returns-5 c =
     let a = c .before .before in
     let v = a .before .before .before in
-    examined-sound _ _ (v .before .before .before .if1 .left) (good (v .before)) _ (v .survey-slots .ensures) (a .before .enum-told2 .given .1)
+    examined-accepted _ _ (v .before .before .before .if1 .left) (good (v .before)) _ (v .survey-slots .ensures) (a .before .enum-told2 .given .1)
     (ap replyOf (sym (c .enum-told4 .given .1)) ∙ a .all-chains .ensures)
 
 pub examine-by-spec : {M : Type 1} → statement M
 examine-by-spec =
     tie.close
     (tie.spec
-    unsound-requires
+    refused-verdict-requires
     refused-requires
     returns
     has-bad-tracks-requires
-    unsound-requires-2
+    refused-verdict-requires-2
     refused-requires-2
     returns-2
     survey-slots-requires

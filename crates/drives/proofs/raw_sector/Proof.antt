@@ -10,7 +10,7 @@ use Rattle.geometry.specs.declared.Spot.the-variants.{At, NoSector}
 use Rattle.geometry.specs.Disk.{spotOf}
 use Rattle.geometry.proofs.Laws.{SectorAt, spot-at, spot-none}
 use Rattle.drives.specs.Raw.{rawRefusal}
-use Rattle.drives.proofs.Laws.{Accepted, accepted, part, part-empty}
+use Rattle.drives.proofs.Laws.{RawAccepted, accepted, part, part-empty}
 use Rattle.drives.proofs.raw_sector.Statement.{statement}
 use Rattle.drives.proofs.raw_sector.Tie as tie
 
@@ -19,7 +19,7 @@ none : (c : tie.Else1) →
 none c = sym (c .before .raw-refusal .ensures) ∙ c .if1 .left
 
 right : (c : tie.Else1) →
-    let a = c .before .before .before .before .args in Accepted (a .one .now) (a .two .now) (a .drive) (a .track) (a .sector)
+    let a = c .before .before .before .before .args in RawAccepted (a .one .now) (a .two .now) (a .drive) (a .track) (a .sector)
 right c = accepted _ _ _ _ _ (none c)
 
 found : (c : tie.After-start) →

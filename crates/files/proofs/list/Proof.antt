@@ -1,5 +1,5 @@
 -- `files::list` meets its contract: a refused check is the answer, and of an accepted disk the listing is.
-use Rattle.files.proofs.Listed.{listing-unsound, sound-accepted, sound-files}
+use Rattle.files.proofs.Listed.{listing-err, checked-disk, accepted-files}
 use borrow.Author.Needs.{needs}
 use Rattle.files.proofs.list.Statement.{statement}
 use Rattle.files.proofs.list.Tie as tie
@@ -17,10 +17,10 @@ list-accepted-requires : tie.Need-list-accepted-requires
 list-accepted-requires c κs =
     let t = c .before .before in
     let w = t .before .before .examine .ensures in
-    (sound-accepted _ _ w (t .enum-told .given .1), sound-files _ _ w (t .enum-told .given .1))
+    (checked-disk _ _ w (t .enum-told .given .1), accepted-files _ _ w (t .enum-told .given .1))
 
 returns : tie.Need-returns
-returns c = listing-unsound _ _ _ _ (c .before .before .before .examine .ensures) (c .before .verdict .given .1)
+returns c = listing-err _ _ _ _ (c .before .before .before .examine .ensures) (c .before .verdict .given .1)
 
 same-length : tie.Need-same-length
 same-length c = search needs

@@ -12,11 +12,11 @@ use Rattle.files.proofs.list_accepted.Tie as tie
 mul-end : tie.Need-mul-end
 mul-end c = omega (arith, among-seen _ _ _ (c .before .before .pre .1))
 
-no-requires : tie.Need-no-requires
-no-requires c κs = search needs
+refused-answer-requires : tie.Need-refused-answer-requires
+refused-answer-requires c κs = search needs
 
 returns : tie.Need-returns
-returns c = let p = c .before .before .before .before .pre in listing-short _ _ _ (p .0) _ (p .1) (c .before .if1 .taken) _ (c .no .ensures)
+returns c = let p = c .before .before .before .before .pre in listing-short _ _ _ (p .0) _ (p .1) (c .before .if1 .taken) _ (c .refused-answer .ensures)
 
 list-into-requires : tie.Need-list-into-requires
 list-into-requires c κs = let p = c .before .before .before .before .pre in (omega (arith, accepted-size _ (p .0 .accepted)), ap (λ (n : ℕ). 258 * n) (p .1))
@@ -35,7 +35,7 @@ list-accepted-spec =
     tie.close
     (tie.spec
     mul-end
-    no-requires
+    refused-answer-requires
     returns
     list-into-requires
     free-of-requires

@@ -6,13 +6,13 @@ use Rattle.directory.specs.Places.{slots}
 use Rattle.directory.specs.Directory.{slotsRead}
 use Rattle.directory.proofs.Ends.{read-most}
 use Rattle.directory.proofs.Live.{met-live, met-dead}
-use Rattle.files.proofs.Listed.{Listed, listed-none, listed-more, listed-same, listed-long, listed-next, listed-end}
+use Rattle.files.proofs.Listed.{ListLoop, listed-none, listed-more, listed-same, listed-long, listed-next, listed-end}
 use borrow.Author.Needs.{needs}
 use Rattle.files.proofs.list_into.Statement.{statement}
 use Rattle.files.proofs.list_into.Tie as tie
 
 abbrev Inv-loop : tie.InvT-loop
-Inv-loop dir end buf₀ at₀ i₀ buf at i = (i ≤ slots) × (at ≤ 258 * i) × Listed dir buf₀ i at buf
+Inv-loop dir end buf₀ at₀ i₀ buf at i = (i ≤ slots) × (at ≤ 258 * i) × ListLoop dir buf₀ i at buf
 
 abbrev μ-loop : tie.MeasureT-loop
 μ-loop dir end buf₀ at₀ i₀ buf at i = slots - i

@@ -26,13 +26,13 @@ enum-told c = search needs
 is-askable-requires : tie.Need-is-askable-requires
 is-askable-requires c κs = search needs
 
-barred-requires : tie.Need-barred-requires
-barred-requires c κs = search needs
+refused-lookup-requires : tie.Need-refused-lookup-requires
+refused-lookup-requires c κs = search needs
 
 returns : tie.Need-returns
 returns c =
     let t = c .before .before in
-    c .barred .ensures ∙ lookup-unusable _ _ (accepted (t .before)) (sym (t .is-askable .ensures) ∙ not-true _ (c .before .if1 .taken))
+    c .refused-lookup .ensures ∙ lookup-unusable _ _ (accepted (t .before)) (sym (t .is-askable .ensures) ∙ not-true _ (c .before .if1 .taken))
 
 find-requires : tie.Need-find-requires
 find-requires c κs = search needs
@@ -43,8 +43,8 @@ enum-known-i c = search needs
 enum-told-2 : tie.Need-enum-told-2
 enum-told-2 c = search needs
 
-barred-requires-2 : tie.Need-barred-requires-2
-barred-requires-2 c κs = search needs
+refused-lookup-requires-2 : tie.Need-refused-lookup-requires-2
+refused-lookup-requires-2 c κs = search needs
 
 returns-2 : tie.Need-returns-2
 returns-2 c = lookup-refused _ _ _ (sym (c .before .before .before .check .ensures) ∙ ap replyOf (c .before .r .given .1))
@@ -59,7 +59,7 @@ returns-4 : tie.Need-returns-4
 returns-4 c =
     let f = c .before .before .before in
     let t = f .before .before in
-    c .barred2 .ensures
+    c .refused-lookup2 .ensures
     ∙ lookup-none _ _ (accepted (t .before)) (sym (t .is-askable .ensures) ∙ not-false _ (f .before .if1 .left)) (sym (f .find .ensures) ∙ ap foundAt (c .before .enum-told2 .given .1))
 
 pub look-up-spec : {M : Type 1} → statement M
@@ -70,12 +70,12 @@ look-up-spec =
     enum-known-r
     enum-told
     is-askable-requires
-    barred-requires
+    refused-lookup-requires
     returns
     find-requires
     enum-known-i
     enum-told-2
-    barred-requires-2
+    refused-lookup-requires-2
     returns-2
     returns-3
     returns-4)

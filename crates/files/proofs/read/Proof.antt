@@ -1,17 +1,17 @@
--- `files::read` meets its contract: what bars the name is the answer, and else what its slot gives.
+-- `files::read` meets its contract: what refuses the name is the answer, and else what its slot gives.
 use mathlib.Core.Path.{_≡_, sym, ap, _∙_}
 use native.Mathlib.Omega.{arith}
 use denote.Ref.{now}
-use Rattle.disk.specs.Look.{look}
-use Rattle.files.specs.Calls.{at, lookup, soughtOf}
+use Rattle.disk.specs.View.{view}
+use Rattle.files.specs.Calls.{foundSlot, lookup, lookupOf}
 use Rattle.files.proofs.Named.{lookup-named, named-slot}
-use Rattle.files.proofs.Reading.{readable-at, read-barred, read-met}
+use Rattle.files.proofs.Reading.{readable-at, read-refused, read-met}
 use borrow.Author.Needs.{needs}
 use Rattle.files.proofs.read.Statement.{statement}
 use Rattle.files.proofs.read.Tie as tie
 
-found : (c : tie.After-i) → at (c .i .given .0 .0) ≡ lookup (look (now (c .before .before .before .before .before .before .args .image))) (now (c .before .before .before .before .before .before .args .name))
-found c = ap soughtOf (sym (c .i .given .1)) ∙ c .before .before .look-up .ensures
+found : (c : tie.After-i) → foundSlot (c .i .given .0 .0) ≡ lookup (view (now (c .before .before .before .before .before .before .args .image))) (now (c .before .before .before .before .before .before .args .name))
+found c = ap lookupOf (sym (c .i .given .1)) ∙ c .before .before .look-up .ensures
 
 look-up-requires : tie.Need-look-up-requires
 look-up-requires c κs = search needs
@@ -34,7 +34,7 @@ read-at-requires c κs =
     readable-at _ _ _ _ (s .slot-at .ensures) (lookup-named _ _ _ (found (s .before .before)))
 
 returns : tie.Need-returns
-returns c = read-barred _ _ _ _ (ap soughtOf (sym (c .before .r .given .1)) ∙ c .before .before .before .look-up .ensures)
+returns c = read-refused _ _ _ _ (ap lookupOf (sym (c .before .r .given .1)) ∙ c .before .before .before .look-up .ensures)
 
 same-length : tie.Need-same-length
 same-length c = search needs

@@ -1,13 +1,13 @@
 -- `gathers::copy_payload` meets its contract: before each turn the first `j` bytes are copied.
 use Prim.Native.Nat.{_-_}
 use native.Mathlib.Omega.{arith}
-use Rattle.gathers.proofs.Moving.{Copied, copied-none, copied-more, copied-all}
+use Rattle.gathers.proofs.Moving.{PayloadCopyLoop, copied-none, copied-more, copied-all}
 use borrow.Author.Needs.{needs}
 use Rattle.gathers.proofs.copy_payload.Statement.{statement}
 use Rattle.gathers.proofs.copy_payload.Tie as tie
 
 abbrev Inv-loop : tie.InvT-loop
-Inv-loop image₀ from to j₀ image j = Copied image₀ from to image j
+Inv-loop image₀ from to j₀ image j = PayloadCopyLoop image₀ from to image j
 
 abbrev μ-loop : tie.MeasureT-loop
 μ-loop image₀ from to j₀ image j = 510 - j

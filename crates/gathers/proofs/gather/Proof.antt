@@ -1,6 +1,6 @@
 -- `gathers::gather` meets its contract: where the file was moved, the sectors are put to the list.
 use native.Mathlib.Omega.{arith}
-use Rattle.gathers.proofs.Call.{list-barred, list-stays, list-went, went-placed}
+use Rattle.gathers.proofs.Call.{list-refused, list-stays, list-went, went-placed}
 use borrow.Author.Needs.{needs}
 use Rattle.gathers.proofs.gather.Statement.{statement}
 use Rattle.gathers.proofs.gather.Tie as tie
@@ -33,7 +33,7 @@ same-length : tie.Need-same-length
 same-length c = search needs
 
 returns : tie.Need-returns
-returns c = list-barred _ _ _ _ _ (c .before .before .before .before .before .gather-in .ensures .0) _ (c .before .r .given .1)
+returns c = list-refused _ _ _ _ _ (c .before .before .before .before .before .gather-in .ensures .0) _ (c .before .r .given .1)
 
 same-length-2 : tie.Need-same-length-2
 same-length-2 c = search needs

@@ -12,11 +12,11 @@ use Rattle.directory.specs.Directory.{slotOr}
 use Rattle.directory.specs.Find.{foundAt}
 use Rattle.directory.specs.declared.Found.the-variants.{At}
 use Rattle.plans.specs.Gathering.{scattered}
-use Rattle.runs.specs.Runs.{lowestClear}
-use Rattle.taking.specs.Taken.{shutMap}
-use Rattle.gathers.specs.Moving.{fileIn, countIn, Chained, Movable}
+use Rattle.free_runs.specs.Runs.{lowestClear}
+use Rattle.allocation.specs.Taken.{unavailableMap}
+use Rattle.gathers.specs.Moving.{fileIn, countIn, ChainedSlot, Movable}
 use Rattle.gathers.proofs.Bridge.{chain-is, movable}
-use Rattle.gathers.proofs.Call.{ends-barred, at-directory, at-order, at-none, at-short, at-moved, at-placed}
+use Rattle.gathers.proofs.Call.{ends-refused, at-directory, at-order, at-none, at-short, at-moved, at-placed}
 use borrow.Author.Needs.{needs}
 use Rattle.gathers.proofs.gather_at.Statement.{statement}
 use Rattle.gathers.proofs.gather_at.Tie as tie
@@ -40,11 +40,11 @@ slot-at-requires c κs = search needs
 is-directory-requires : tie.Need-is-directory-requires
 is-directory-requires c κs = search needs
 
-add-barred : tie.Need-add-barred
-add-barred c = search needs
+add-refused-gather : tie.Need-add-refused-gather
+add-refused-gather c = search needs
 
-barred-requires : tie.Need-barred-requires
-barred-requires c κs = search needs
+refused-gather-requires : tie.Need-refused-gather-requires
+refused-gather-requires c κs = search needs
 
 same-length : tie.Need-same-length
 same-length c = search needs
@@ -52,12 +52,12 @@ same-length c = search needs
 returns : tie.Need-returns
 returns c =
     let t = c .before .before in
-    ends-barred _ _ (c .barred .ensures) _ _ _ (at-directory _ _ _ _ (t .before .before .before .before .pre) (directory-is t (c .before .if1 .taken)))
+    ends-refused _ _ (c .refused-gather .ensures) _ _ _ (at-directory _ _ _ _ (t .before .before .before .before .pre) (directory-is t (c .before .if1 .taken)))
 
 is-scattered-requires : tie.Need-is-scattered-requires
 is-scattered-requires c κs =
     let t = c .before in
-    subst (λ s. Chained (t .before .before .before .before .args .image .now) s) (sym (t .before .slot-at .ensures)) (chain-is _ _ _ (t .before .before .before .before .pre) (directory-is t (c .if1 .left)))
+    subst (λ s. ChainedSlot (t .before .before .before .before .args .image .now) s) (sym (t .before .slot-at .ensures)) (chain-is _ _ _ (t .before .before .before .before .pre) (directory-is t (c .if1 .left)))
 
 same-length-2 : tie.Need-same-length-2
 same-length-2 c = search needs
@@ -71,8 +71,8 @@ returns-2 c =
 count-of-requires : tie.Need-count-of-requires
 count-of-requires c κs = search needs
 
-shut-bits-requires : tie.Need-shut-bits-requires
-shut-bits-requires c κs = search needs
+unavailable-bits-requires : tie.Need-unavailable-bits-requires
+unavailable-bits-requires c κs = search needs
 
 slice-aggregate-find-run : tie.Need-slice-aggregate-find-run
 slice-aggregate-find-run c = search needs
@@ -83,23 +83,23 @@ find-run-requires c κs = search needs
 enum-told : tie.Need-enum-told
 enum-told c = search needs
 
-barred-requires-2 : tie.Need-barred-requires-2
-barred-requires-2 c κs = search needs
+refused-gather-requires-2 : tie.Need-refused-gather-requires-2
+refused-gather-requires-2 c κs = search needs
 
 enum-known-bit : tie.Need-enum-known-bit
 enum-known-bit c = search needs
 
-barred-requires-3 : tie.Need-barred-requires-3
-barred-requires-3 c κs = search needs
+refused-gather-requires-3 : tie.Need-refused-gather-requires-3
+refused-gather-requires-3 c κs = search needs
 
 same-length-3 : tie.Need-same-length-3
 same-length-3 c = search needs
 
 -- the run that is found
 run-is : (c : tie.After-find-run) (b : ℕ) → c .find-run .result ≡ At b
-    → some b ≡ lowestClear (shutMap (c .before .before .before .before .before .before .before .before .before .before .before .args .used)) (c .before .before .before .count-of .result)
+    → some b ≡ lowestClear (unavailableMap (c .before .before .before .before .before .before .before .before .before .before .before .args .used)) (c .before .before .before .count-of .result)
 run-is c b e =
-    sym (ap foundAt e) ∙ c .find-run .ensures ∙ ap (λ m. lowestClear m (c .before .before .before .count-of .result)) (c .before .before .shut-bits .ensures)
+    sym (ap foundAt e) ∙ c .find-run .ensures ∙ ap (λ m. lowestClear m (c .before .before .before .count-of .result)) (c .before .before .unavailable-bits .ensures)
 
 returns-3 : tie.Need-returns-3
 returns-3 c =
@@ -107,7 +107,7 @@ returns-3 c =
     let n = k .before .before .before .before .before in
     let s = n .before .before in
     let t = s .before .before in
-    ends-barred _ _ (c .barred3 .ensures) _ _ _
+    ends-refused _ _ (c .refused-gather3 .ensures) _ _ _
     (at-short _ _ _ _ (t .before .before .before .before .pre) (directory-is t (s .before .if1 .left)) (scattered-is s (not-false _ (n .before .if2 .left))) _ (count-is n) _ (run-is (k .before .before) _ (k .bit .given .1)) (c .before .if3 .taken))
 
 -- it is apart from the file
@@ -119,7 +119,7 @@ apart c b e =
     let s = n .before .before in
     let t = s .before .before in
     let o = t .before .before .before .before in
-    movable _ _ _ (o .pre) (directory-is t (s .before .if1 .left)) _ (ap (lowestClear (shutMap (o .args .used))) (sym (count-is n)) ∙ sym (run-is c b e))
+    movable _ _ _ (o .pre) (directory-is t (s .before .if1 .left)) _ (ap (lowestClear (unavailableMap (o .args .used))) (sym (count-is n)) ∙ sym (run-is c b e))
 
 write-moved-requires : tie.Need-write-moved-requires
 write-moved-requires c κs = let k = c .before .before .before in apart (k .before .before) _ (k .bit .given .1)
@@ -133,9 +133,9 @@ returns-4 c =
     let n = r .before .before .before in
     let s = n .before .before in
     let t = s .before .before in
-    ends-barred _ _ (c .barred2 .ensures) _ _ _
+    ends-refused _ _ (c .refused-gather2 .ensures) _ _ _
     (at-none _ _ _ _ (t .before .before .before .before .pre) (directory-is t (s .before .if1 .left)) (scattered-is s (not-false _ (n .before .if2 .left))) _ (count-is n)
-    (sym (ap foundAt (c .before .enum-told .given .1)) ∙ r .find-run .ensures ∙ ap (λ m. lowestClear m (n .count-of .result)) (r .before .before .shut-bits .ensures)))
+    (sym (ap foundAt (c .before .enum-told .given .1)) ∙ r .find-run .ensures ∙ ap (λ m. lowestClear m (n .count-of .result)) (r .before .before .unavailable-bits .ensures)))
 
 same-length-5 : tie.Need-same-length-5
 same-length-5 c = search needs
@@ -162,21 +162,21 @@ gather-at-spec =
     (tie.spec
     slot-at-requires
     is-directory-requires
-    add-barred
-    barred-requires
+    add-refused-gather
+    refused-gather-requires
     same-length
     returns
     is-scattered-requires
     same-length-2
     returns-2
     count-of-requires
-    shut-bits-requires
+    unavailable-bits-requires
     slice-aggregate-find-run
     find-run-requires
     enum-told
-    barred-requires-2
+    refused-gather-requires-2
     enum-known-bit
-    barred-requires-3
+    refused-gather-requires-3
     same-length-3
     returns-3
     write-moved-requires

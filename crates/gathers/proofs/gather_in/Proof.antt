@@ -6,15 +6,15 @@ use borrow.Author.Tests.{not-true, not-false}
 use Rattle.refusals.specs.Answers.{replyOf}
 use Rattle.directory.specs.Directory.{directory}
 use Rattle.directory.specs.Find.{find, foundAt}
-use Rattle.files.specs.Steps.{Accepted}
-use Rattle.files.proofs.Listed.{sound-accepted}
-use Rattle.gathers.proofs.Call.{ends-barred, gather-unsound, gather-unfit, gather-missing, gather-found, gather-held}
+use Rattle.files.specs.Steps.{CheckedDisk}
+use Rattle.files.proofs.Listed.{checked-disk}
+use Rattle.gathers.proofs.Call.{ends-refused, gather-err, gather-unfit, gather-missing, gather-found, gather-held}
 use borrow.Author.Needs.{needs}
 use Rattle.gathers.proofs.gather_in.Statement.{statement}
 use Rattle.gathers.proofs.gather_in.Tie as tie
 
-accepted : (c : tie.After-enum-told) → Accepted (c .before .before .before .before .before .before .args .image .now) (c .before .before .examine .result .used)
-accepted c = sound-accepted _ _ (c .before .before .examine .ensures) (c .enum-told .given .1)
+accepted : (c : tie.After-enum-told) → CheckedDisk (c .before .before .before .before .before .before .args .image .now) (c .before .before .examine .result .used)
+accepted c = checked-disk _ _ (c .before .before .examine .ensures) (c .enum-told .given .1)
 
 examine-requires : tie.Need-examine-requires
 examine-requires c κs = search needs
@@ -28,8 +28,8 @@ enum-told c = search needs
 is-askable-requires : tie.Need-is-askable-requires
 is-askable-requires c κs = search needs
 
-barred-requires : tie.Need-barred-requires
-barred-requires c κs = search needs
+refused-gather-requires : tie.Need-refused-gather-requires
+refused-gather-requires c κs = search needs
 
 same-length : tie.Need-same-length
 same-length c = search needs
@@ -37,7 +37,7 @@ same-length c = search needs
 returns : tie.Need-returns
 returns c =
     let a = c .before .before in
-    ends-barred _ _ (c .barred .ensures) _ _ _ (gather-unfit _ _ _ (accepted (a .before .before) .accepted) (sym (a .is-askable .ensures) ∙ not-true _ (c .before .if1 .taken)))
+    ends-refused _ _ (c .refused-gather .ensures) _ _ _ (gather-unfit _ _ _ (accepted (a .before .before) .accepted) (sym (a .is-askable .ensures) ∙ not-true _ (c .before .if1 .taken)))
 
 find-requires : tie.Need-find-requires
 find-requires c κs = search needs
@@ -45,8 +45,8 @@ find-requires c κs = search needs
 enum-told-2 : tie.Need-enum-told-2
 enum-told-2 c = search needs
 
-barred-requires-2 : tie.Need-barred-requires-2
-barred-requires-2 c κs = search needs
+refused-gather-requires-2 : tie.Need-refused-gather-requires-2
+refused-gather-requires-2 c κs = search needs
 
 enum-known-i : tie.Need-enum-known-i
 enum-known-i c = search needs
@@ -64,7 +64,7 @@ same-length-2 : tie.Need-same-length-2
 same-length-2 c = search needs
 
 returns-2 : tie.Need-returns-2
-returns-2 c = (gather-unsound _ _ _ _ (sym (c .before .before .before .examine .ensures .reply) ∙ ap replyOf (c .before .verdict .given .1)), tt)
+returns-2 c = (gather-err _ _ _ _ (sym (c .before .before .before .examine .ensures .reply) ∙ ap replyOf (c .before .verdict .given .1)), tt)
 
 same-length-3 : tie.Need-same-length-3
 same-length-3 c = search needs
@@ -74,7 +74,7 @@ returns-3 c =
     let f = c .before .before .before in
     let e = f .before .before in
     let a = e .before in
-    ends-barred _ _ (c .barred2 .ensures) _ _ _
+    ends-refused _ _ (c .refused-gather2 .ensures) _ _ _
     (gather-missing _ _ _ (accepted (a .before .before) .accepted) (sym (a .is-askable .ensures) ∙ not-false _ (e .if1 .left)) (sym (f .find .ensures) ∙ ap foundAt (c .before .enum-told2 .given .1)))
 
 same-length-4 : tie.Need-same-length-4
@@ -100,12 +100,12 @@ gather-in-spec =
     enum-known-verdict
     enum-told
     is-askable-requires
-    barred-requires
+    refused-gather-requires
     same-length
     returns
     find-requires
     enum-told-2
-    barred-requires-2
+    refused-gather-requires-2
     enum-known-i
     gather-at-requires
     same-length-2

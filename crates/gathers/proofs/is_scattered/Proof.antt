@@ -2,13 +2,13 @@
 use Prim.Native.Nat.{_-_, _<_, _≤_}
 use mathlib.Core.Path.{sym, _∙_, subst}
 use native.Mathlib.Omega.{arith}
-use Rattle.gathers.proofs.Walk.{Rising, rising-start, rising-small, rising-more, rising-not, rising-all, end-le}
+use Rattle.gathers.proofs.ChainOrder.{InOrderLoop, rising-start, rising-small, rising-more, rising-not, rising-all, end-le}
 use borrow.Author.Needs.{needs}
 use Rattle.gathers.proofs.is_scattered.Statement.{statement}
 use Rattle.gathers.proofs.is_scattered.Tie as tie
 
 abbrev Inv-loop : tie.InvT-loop
-Inv-loop image s count bit₀ k₀ bit k = Rising image s bit k
+Inv-loop image s count bit₀ k₀ bit k = InOrderLoop image s bit k
 
 abbrev μ-loop : tie.MeasureT-loop
 μ-loop image s count bit₀ k₀ bit k = count - k

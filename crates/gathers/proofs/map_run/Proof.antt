@@ -6,7 +6,7 @@ use lib.ListN.{length}
 use Rattle.plans.specs.Saving.{mapWith}
 use Rattle.plans.proofs.NewFile.{length-mapWith}
 use Rattle.plans.specs.Gathering.{upFrom}
-use Rattle.gathers.proofs.Moving.{map-none, map-more, map-all}
+use Rattle.gathers.proofs.Moving.{run-map-none, run-map-more, map-all}
 use borrow.Author.Needs.{needs}
 use Rattle.gathers.proofs.map_run.Statement.{statement}
 use Rattle.gathers.proofs.map_run.Tie as tie
@@ -18,19 +18,19 @@ abbrev μ-loop : tie.MeasureT-loop
 μ-loop n b map₀ j₀ map j = j
 
 loop-holds : tie.Need-loop-holds Inv-loop μ-loop
-loop-holds c = (omega arith, map-none (c .args .n) (c .args .b))
+loop-holds c = (omega arith, run-map-none (c .args .n) (c .args .b))
 
 sub-j : tie.Need-sub-j Inv-loop μ-loop
 sub-j c = search needs
 
-slice-aggregate-mark : tie.Need-slice-aggregate-mark Inv-loop μ-loop
-slice-aggregate-mark c = sym (ap length (c .before .before .loop .inv .1) ∙ length-mapWith _)
+slice-aggregate-set-bit : tie.Need-slice-aggregate-set-bit Inv-loop μ-loop
+slice-aggregate-set-bit c = sym (ap length (c .before .before .loop .inv .1) ∙ length-mapWith _)
 
-add-mark : tie.Need-add-mark Inv-loop μ-loop
-add-mark c = let h = c .before .before .loop .inv .0 in omega (arith, c .before .before .before .pre)
+add-set-bit : tie.Need-add-set-bit Inv-loop μ-loop
+add-set-bit c = let h = c .before .before .loop .inv .0 in omega (arith, c .before .before .before .pre)
 
-mark-requires : tie.Need-mark-requires Inv-loop μ-loop
-mark-requires c κs = search needs
+set-bit-requires : tie.Need-set-bit-requires Inv-loop μ-loop
+set-bit-requires c κs = search needs
 
 loop-less : tie.Need-loop-less Inv-loop μ-loop
 loop-less c = search needs
@@ -39,7 +39,7 @@ loop-again : tie.Need-loop-again Inv-loop μ-loop
 loop-again c =
     let t = c .before .before .before in
     let l = t .before .loop in
-    (omega (arith, l .inv .0), map-more _ _ (l .j) (t .loop-test .taken) (l .inv .0) _ (l .inv .1) _ (c .before .mark .ensures))
+    (omega (arith, l .inv .0), run-map-more _ _ (l .j) (t .loop-test .taken) (l .inv .0) _ (l .inv .1) _ (c .before .set-bit .ensures))
 
 returns : tie.Need-returns Inv-loop μ-loop
 returns c = let l = c .before .loop in map-all _ _ (l .j) (c .loop-test .left) _ (l .inv .1)
@@ -52,9 +52,9 @@ map-run-spec =
     μ-loop
     loop-holds
     sub-j
-    slice-aggregate-mark
-    add-mark
-    mark-requires
+    slice-aggregate-set-bit
+    add-set-bit
+    set-bit-requires
     loop-less
     loop-again
     returns)

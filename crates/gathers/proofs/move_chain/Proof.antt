@@ -4,14 +4,14 @@ use mathlib.Core.Path.{_≡_, ap, _∙_}
 use native.Mathlib.Omega.{arith}
 use Rattle.slots.specs.Slot.{countOf, firstOf}
 use Rattle.gathers.specs.Moving.{countIn}
-use Rattle.gathers.proofs.Walk.{end-le}
-use Rattle.gathers.proofs.Moving.{Moving, moving-none, turn-bits, moving-turn, moving-all}
+use Rattle.gathers.proofs.ChainOrder.{end-le}
+use Rattle.gathers.proofs.Moving.{MoveLoop, moving-none, turn-bits, moving-turn, moving-all}
 use borrow.Author.Needs.{needs}
 use Rattle.gathers.proofs.move_chain.Statement.{statement}
 use Rattle.gathers.proofs.move_chain.Tie as tie
 
 abbrev Inv-loop : tie.InvT-loop
-Inv-loop image₀ i b count bit₀ k₀ image bit k = Moving image₀ i b image bit k
+Inv-loop image₀ i b count bit₀ k₀ image bit k = MoveLoop image₀ i b image bit k
 
 abbrev μ-loop : tie.MeasureT-loop
 μ-loop image₀ i b count bit₀ k₀ image bit k = count - k

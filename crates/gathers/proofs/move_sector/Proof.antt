@@ -1,6 +1,6 @@
 -- `gathers::move_sector` meets its contract: the payload, and then the link.
 use native.Mathlib.Omega.{arith}
-use Rattle.gathers.proofs.Walk.{end-le}
+use Rattle.gathers.proofs.ChainOrder.{end-le}
 use Rattle.gathers.proofs.Moving.{places-are, sector-is}
 use borrow.Author.Needs.{needs}
 use Rattle.gathers.proofs.move_sector.Statement.{statement}

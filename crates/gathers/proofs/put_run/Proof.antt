@@ -1,13 +1,13 @@
 -- `gathers::put_run` meets its contract: before each turn the numbers of the first `j` bits are put.
 use Prim.Native.Nat.{_-_}
 use native.Mathlib.Omega.{arith}
-use Rattle.gathers.proofs.Listed.{Listed, listed-none, listed-long, number-place, listed-more, listed-all}
+use Rattle.gathers.proofs.Listed.{RunListLoop, listed-none, listed-long, number-place, listed-more, listed-all}
 use borrow.Author.Needs.{needs}
 use Rattle.gathers.proofs.put_run.Statement.{statement}
 use Rattle.gathers.proofs.put_run.Tie as tie
 
 abbrev Inv-loop : tie.InvT-loop
-Inv-loop list₀ n b j₀ list j = Listed list₀ n b list j
+Inv-loop list₀ n b j₀ list j = RunListLoop list₀ n b list j
 
 abbrev μ-loop : tie.MeasureT-loop
 μ-loop list₀ n b j₀ list j = n - j

@@ -8,13 +8,13 @@ use Rattle.headers.proofs.chain_rows.Tie as tie
 chain-broken-requires : tie.Need-chain-broken-requires
 chain-broken-requires c κs = search needs
 
-unsound-requires : tie.Need-unsound-requires
-unsound-requires c κs = search needs
+refused-verdict-requires : tie.Need-refused-verdict-requires
+refused-verdict-requires c κs = search needs
 
 returns : tie.Need-returns
 returns c =
     let b = c .before in
-    c .unsound .ensures ∙ later-broken _ _ _ (sym (b .before .chain-broken .ensures) ∙ b .if1 .taken)
+    c .refused-verdict .ensures ∙ later-broken _ _ _ (sym (b .before .chain-broken .ensures) ∙ b .if1 .taken)
 
 kind-of-requires : tie.Need-kind-of-requires
 kind-of-requires c κs = search needs
@@ -28,8 +28,8 @@ own-first-requires c κs = let b = c .before .before .before in begins-own _ _ (
 header-differs-requires : tie.Need-header-differs-requires
 header-differs-requires c κs = search needs
 
-unsound-requires-2 : tie.Need-unsound-requires-2
-unsound-requires-2 c κs = search needs
+refused-verdict-requires-2 : tie.Need-refused-verdict-requires-2
+refused-verdict-requires-2 c κs = search needs
 
 returns-2 : tie.Need-returns-2
 returns-2 c =
@@ -38,7 +38,7 @@ returns-2 c =
     let t = f .before in
     let k = t .before .before in
     let b = k .before in
-    c .unsound2 .ensures
+    c .refused-verdict2 .ensures
     ∙ later-differs _ _ _ _ (sym (b .before .chain-broken .ensures) ∙ b .if1 .left) (k .kind-of .ensures .0) _ (f .own-first .ensures)
     (sym (t .before .is-carried .ensures) ∙ t .if2 .taken) (sym (h .before .header-differs .ensures) ∙ h .if3 .taken)
 
@@ -71,8 +71,8 @@ header-length-requires c κs = search needs
 add-if5 : tie.Need-add-if5
 add-if5 c = search needs
 
-unsound-requires-3 : tie.Need-unsound-requires-3
-unsound-requires-3 c κs = search needs
+refused-verdict-requires-3 : tie.Need-refused-verdict-requires-3
+refused-verdict-requires-3 c κs = search needs
 
 returns-4 : tie.Need-returns-4
 returns-4 c =
@@ -83,7 +83,7 @@ returns-4 c =
     let e = t .before .before in
     let k = e .before .before in
     let b = k .before in
-    c .unsound3 .ensures
+    c .refused-verdict3 .ensures
     ∙ later-long _ _ _ _ (sym (b .before .chain-broken .ensures) ∙ b .if1 .left) (k .kind-of .ensures .0) _ (f .own-first2 .ensures)
     _ _ (sym (e .before .is-carried .ensures) ∙ e .if2 .left) (sym (t .before .is-spectrum .ensures) ∙ t .if4 .taken)
     (n .count-of .ensures .0) (l .before .header-length .ensures .0) (l .if5 .taken)
@@ -112,13 +112,13 @@ chain-rows-spec =
     tie.close
     (tie.spec
     chain-broken-requires
-    unsound-requires
+    refused-verdict-requires
     returns
     kind-of-requires
     is-carried-requires
     own-first-requires
     header-differs-requires
-    unsound-requires-2
+    refused-verdict-requires-2
     returns-2
     returns-3
     is-spectrum-requires
@@ -127,7 +127,7 @@ chain-rows-spec =
     own-first-requires-2
     header-length-requires
     add-if5
-    unsound-requires-3
+    refused-verdict-requires-3
     returns-4
     returns-5
     returns-6)

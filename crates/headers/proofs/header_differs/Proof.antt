@@ -1,6 +1,6 @@
 -- `headers::header_differs` meets its contract.
 use borrow.Author.Tests.{eq-eqb, ne-eqb}
-use Rattle.slots.specs.Slot.{facts}
+use Rattle.slots.specs.Slot.{slotFields}
 use Rattle.headers.specs.Header.{headerDiffers}
 use borrow.Author.Needs.{needs}
 use Rattle.headers.proofs.header_differs.Statement.{statement}
@@ -13,7 +13,7 @@ kind-of-requires : tie.Need-kind-of-requires
 kind-of-requires c κs = search needs
 
 returns : tie.Need-returns
-unfolding headerDiffers facts
+unfolding headerDiffers slotFields
 returns c = rw (← (c .before .before .num-at .ensures .0), ← (c .before .kind-of .ensures .0), ne-eqb _ _ (c .if1 .taken))
 
 num-at-requires-2 : tie.Need-num-at-requires-2
@@ -32,7 +32,7 @@ remainder-of-requires : tie.Need-remainder-of-requires
 remainder-of-requires c κs = search needs
 
 returns-2 : tie.Need-returns-2
-unfolding headerDiffers facts
+unfolding headerDiffers slotFields
 returns-2 c =
     let r = c .before in
     let k = r .before .before .before in
@@ -53,7 +53,7 @@ pages-of-requires : tie.Need-pages-of-requires
 pages-of-requires c κs = search needs
 
 returns-3 : tie.Need-returns-3
-unfolding headerDiffers facts
+unfolding headerDiffers slotFields
 returns-3 c =
     let e = c .before .before in
     let r = e .before in

@@ -4,12 +4,12 @@ use Prim.Native.Nat.{_≤_, _<_, _*_, _-_}
 use mathlib.Core.Path.{_≡_, refl, _∙_}
 use native.Mathlib.Omega.{arith}
 use Rattle.buffers.specs.Bytes.{any}
-use Rattle.maps.proofs.Laws.{bit, both, share-more, byte-set}
+use Rattle.maps.proofs.Laws.{bit, inBoth, share-more, byte-set}
 use Rattle.maps.proofs.shares_in.Statement.{statement}
 use Rattle.maps.proofs.shares_in.Tie as tie
 
 abbrev Inv-loop : tie.InvT-loop
-Inv-loop m d n acc₀ i₀ acc i = (i ≤ n) × (acc < 256) × (any 8 (bit acc) ≡ any (8 * i) (both m d))
+Inv-loop m d n acc₀ i₀ acc i = (i ≤ n) × (acc < 256) × (any 8 (bit acc) ≡ any (8 * i) (inBoth m d))
 
 abbrev μ-loop : tie.MeasureT-loop
 μ-loop m d n acc₀ i₀ acc i = n - i

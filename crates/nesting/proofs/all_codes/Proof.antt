@@ -7,15 +7,15 @@ use Rattle.directory.specs.Places.{slots}
 use Rattle.directory.specs.Directory.{directory, slotsRead}
 use Rattle.directory.proofs.Ends.{read-most}
 use Rattle.directory.proofs.Live.{met-live, met-dead}
-use Rattle.nesting.proofs.Table.{Tabling, tabling-none, tabling-dead, tabling-file, tabling-folder, refused-zero, refused-twice, tabling-few, no-table, zeros-at}
-use Rattle.nesting.proofs.Told.{codes-end}
+use Rattle.nesting.proofs.Table.{TableLoop, tabling-none, tabling-dead, tabling-file, tabling-directory, refused-zero, refused-twice, tabling-few, no-table, zeros-at}
+use Rattle.nesting.proofs.Results.{codes-end}
 use lib.ListN.{length-replicate}
 use borrow.Author.Needs.{needs}
 use Rattle.nesting.proofs.all_codes.Statement.{statement}
 use Rattle.nesting.proofs.all_codes.Tie as tie
 
 abbrev Inv-loop : tie.InvT-loop
-Inv-loop dir end above₀ number₀ i₀ above number i = (i ≤ slotsRead dir) × Tabling (directory dir) above number i
+Inv-loop dir end above₀ number₀ i₀ above number i = (i ≤ slotsRead dir) × TableLoop (directory dir) above number i
 
 abbrev μ-loop : tie.MeasureT-loop
 μ-loop dir end above₀ number₀ i₀ above number i = end - i
@@ -112,7 +112,7 @@ loop-again c =
     let a = l .before .loop in
     let e = met-live _ _ (s .slot-at .ensures) (y .before .is-live .ensures) (read l) (y .if1 .taken) in (
       omega arith,
-      tabling-folder _ _ _ (a .i) (a .inv .1) (low l) _ e (sym (z .before .is-directory .ensures) ∙ z .if2 .taken) _ (o .code-of .ensures .0)
+      tabling-directory _ _ _ (a .i) (a .inv .1) (low l) _ e (sym (z .before .is-directory .ensures) ∙ z .if2 .taken) _ (o .code-of .ensures .0)
           (g .if3 .left) (c .before .if4 .left) (o .code-of .ensures .1) _ (c .parent-of .ensures .0),
     )
 

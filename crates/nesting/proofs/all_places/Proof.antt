@@ -2,9 +2,9 @@
 use Prim.Native.Nat.{_-_, _≤_, _<_}
 use mathlib.Core.Path.{_≡_, refl, sym, ap, _∙_}
 use native.Mathlib.Omega.{arith}
-use Rattle.refusals.specs.Order.{sweep, sweepFrom}
+use Rattle.refusals.specs.Order.{scan, scanFrom}
 use Rattle.refusals.specs.Answers.{replyOf}
-use Rattle.refusals.proofs.First.{sweep-start, sweep-skip, sweep-stop}
+use Rattle.refusals.proofs.First.{scan-start, scan-skip, scan-stop}
 use denote.Ref.{now}
 use Rattle.directory.specs.Places.{slots}
 use Rattle.directory.specs.Directory.{directory, slotsRead}
@@ -15,13 +15,13 @@ use Rattle.trees.proofs.Numbers.{place-dead}
 use Rattle.nesting.proofs.Table.{place-met}
 use Rattle.nesting.specs.Steps.{Passed}
 use Rattle.nesting.proofs.Passed.{passed-more, passed-root, rows-passed}
-use Rattle.nesting.proofs.Told.{places-end}
+use Rattle.nesting.proofs.Results.{places-end}
 use borrow.Author.Needs.{needs}
 use Rattle.nesting.proofs.all_places.Statement.{statement}
 use Rattle.nesting.proofs.all_places.Tie as tie
 
 abbrev Inv-loop : tie.InvT-loop
-Inv-loop dir above number end passed₀ i₀ passed i = (i ≤ slotsRead dir) × Passed above passed number × (sweep slots (placeAt (directory dir)) ≡ sweepFrom (slots - i) i (placeAt (directory dir)))
+Inv-loop dir above number end passed₀ i₀ passed i = (i ≤ slotsRead dir) × Passed above passed number × (scan slots (placeAt (directory dir)) ≡ scanFrom (slots - i) i (placeAt (directory dir)))
 
 abbrev μ-loop : tie.MeasureT-loop
 μ-loop dir above number end passed₀ i₀ passed i = end - i
@@ -40,7 +40,7 @@ root-alone-requires : tie.Need-root-alone-requires Inv-loop μ-loop
 root-alone-requires c κs = search needs
 
 loop-holds : tie.Need-loop-holds Inv-loop μ-loop
-loop-holds c = (omega arith, passed-root _ (c .before .before .before .before .pre) _ (c .root-alone .ensures), sweep-start slots _)
+loop-holds c = (omega arith, passed-root _ (c .before .before .before .before .pre) _ (c .root-alone .ensures), scan-start slots _)
 
 slot-at-requires : tie.Need-slot-at-requires Inv-loop μ-loop
 slot-at-requires c κs = search needs
@@ -69,7 +69,7 @@ returns c =
     let a = l .before .loop in
     let e = met-live _ _ (s .slot-at .ensures) (y .before .is-live .ensures) (read l) (y .if1 .taken) in
     let p = place-met _ _ _ (l .before .before .before .before .before .before .pre) _ _ (a .i) e refl in
-    sym (a .inv .2 ∙ sweep-stop slots (a .i) _ _ (low l) (sym (m .place-rows .ensures ∙ p) ∙ ap replyOf (c .before .r .given .1)))
+    sym (a .inv .2 ∙ scan-stop slots (a .i) _ _ (low l) (sym (m .place-rows .ensures ∙ p) ∙ ap replyOf (c .before .r .given .1)))
 
 enum-told : tie.Need-enum-told Inv-loop μ-loop
 enum-told c = search needs
@@ -100,7 +100,7 @@ loop-again c =
     let r = sym (m .place-rows .ensures) ∙ ap replyOf (t .enum-told .given .1) in (
       omega arith,
       passed-more _ _ _ (a .inv .1) _ (rows-passed _ _ _ _ r (sym (d .is-directory .ensures) ∙ c .before .if2 .taken) _ (c .code-of .ensures .0)),
-      a .inv .2 ∙ sweep-skip slots (a .i) _ (low l) (sym p ∙ r),
+      a .inv .2 ∙ scan-skip slots (a .i) _ (low l) (sym p ∙ r),
     )
 
 loop-less-2 : tie.Need-loop-less-2 Inv-loop μ-loop
@@ -116,7 +116,7 @@ loop-again-2 c =
     let a = l .before .loop in
     let e = met-live _ _ (s .slot-at .ensures) (y .before .is-live .ensures) (read l) (y .if1 .taken) in
     let p = place-met _ _ _ (l .before .before .before .before .before .before .pre) _ _ (a .i) e refl in
-    (omega arith, a .inv .1, a .inv .2 ∙ sweep-skip slots (a .i) _ (low l) (sym (m .place-rows .ensures ∙ p) ∙ ap replyOf (t .enum-told .given .1)))
+    (omega arith, a .inv .1, a .inv .2 ∙ scan-skip slots (a .i) _ (low l) (sym (m .place-rows .ensures ∙ p) ∙ ap replyOf (t .enum-told .given .1)))
 
 loop-less-3 : tie.Need-loop-less-3 Inv-loop μ-loop
 loop-less-3 c = search needs
@@ -127,7 +127,7 @@ loop-again-3 c =
     let l = s .before in
     let a = l .before .loop in
     let e = met-dead _ _ (s .slot-at .ensures) (c .before .is-live .ensures) (c .if1 .left) in
-    (omega arith, a .inv .1, a .inv .2 ∙ sweep-skip slots (a .i) _ (low l) (place-dead _ (a .i) e))
+    (omega arith, a .inv .1, a .inv .2 ∙ scan-skip slots (a .i) _ (low l) (place-dead _ (a .i) e))
 
 returns-2 : tie.Need-returns-2 Inv-loop μ-loop
 returns-2 c = let a = c .before .loop in sym (places-end _ (a .i) (a .inv .2) (omega (arith, c .before .before .before .slots-read .ensures .0)))

@@ -1,18 +1,18 @@
 -- `nesting::place_rows` meets its contract.
 use mathlib.Core.Path.{_≡_, sym, _∙_}
-use Rattle.nesting.proofs.Table.{rows-nowhere, rows-file, rows-inside, rows-folder}
+use Rattle.nesting.proofs.Table.{rows-nowhere, rows-file, rows-inside, rows-directory}
 use borrow.Author.Needs.{needs}
 use Rattle.nesting.proofs.place_rows.Statement.{statement}
 use Rattle.nesting.proofs.place_rows.Tie as tie
 
-lies-nowhere-requires : tie.Need-lies-nowhere-requires
-lies-nowhere-requires c κs = search needs
+is-orphan-requires : tie.Need-is-orphan-requires
+is-orphan-requires c κs = search needs
 
-unsound-requires : tie.Need-unsound-requires
-unsound-requires c κs = search needs
+refused-verdict-requires : tie.Need-refused-verdict-requires
+refused-verdict-requires c κs = search needs
 
 returns : tie.Need-returns
-returns c = c .unsound .ensures ∙ sym (rows-nowhere _ _ _ _ (sym (c .before .before .lies-nowhere .ensures) ∙ c .before .if1 .taken))
+returns c = c .refused-verdict .ensures ∙ sym (rows-nowhere _ _ _ _ (sym (c .before .before .is-orphan .ensures) ∙ c .before .if1 .taken))
 
 is-directory-requires : tie.Need-is-directory-requires
 is-directory-requires c κs = search needs
@@ -23,8 +23,8 @@ code-of-requires c κs = search needs
 comes-back-requires : tie.Need-comes-back-requires
 comes-back-requires c κs = search needs
 
-unsound-requires-2 : tie.Need-unsound-requires-2
-unsound-requires-2 c κs = search needs
+refused-verdict-requires-2 : tie.Need-refused-verdict-requires-2
+refused-verdict-requires-2 c κs = search needs
 
 returns-2 : tie.Need-returns-2
 returns-2 c =
@@ -32,7 +32,7 @@ returns-2 c =
     let o = b .before in
     let f = o .before .before in
     let n = f .before in
-    c .unsound2 .ensures ∙ sym (rows-inside _ _ _ _ (sym (n .before .lies-nowhere .ensures) ∙ n .if1 .left) (sym (f .is-directory .ensures) ∙ o .before .if2 .taken)
+    c .refused-verdict2 .ensures ∙ sym (rows-inside _ _ _ _ (sym (n .before .is-orphan .ensures) ∙ n .if1 .left) (sym (f .is-directory .ensures) ∙ o .before .if2 .taken)
     _ (o .code-of .ensures .0) _ (b .comes-back .ensures) (c .before .if3 .taken))
 
 returns-3 : tie.Need-returns-3
@@ -41,26 +41,26 @@ returns-3 c =
     let o = b .before in
     let f = o .before .before in
     let n = f .before in
-    sym (rows-folder _ _ _ _ (sym (n .before .lies-nowhere .ensures) ∙ n .if1 .left) (sym (f .is-directory .ensures) ∙ o .before .if2 .taken)
+    sym (rows-directory _ _ _ _ (sym (n .before .is-orphan .ensures) ∙ n .if1 .left) (sym (f .is-directory .ensures) ∙ o .before .if2 .taken)
     _ (o .code-of .ensures .0) _ (b .comes-back .ensures) (c .if3 .left))
 
 returns-4 : tie.Need-returns-4
 returns-4 c =
     let f = c .before in
     let n = f .before in
-    sym (rows-file _ _ _ _ (sym (n .before .lies-nowhere .ensures) ∙ n .if1 .left) (sym (f .is-directory .ensures) ∙ c .if2 .left))
+    sym (rows-file _ _ _ _ (sym (n .before .is-orphan .ensures) ∙ n .if1 .left) (sym (f .is-directory .ensures) ∙ c .if2 .left))
 
 pub place-rows-spec : {M : Type 1} → statement M
 place-rows-spec =
     tie.close
     (tie.spec
-    lies-nowhere-requires
-    unsound-requires
+    is-orphan-requires
+    refused-verdict-requires
     returns
     is-directory-requires
     code-of-requires
     comes-back-requires
-    unsound-requires-2
+    refused-verdict-requires-2
     returns-2
     returns-3
     returns-4)

@@ -1,6 +1,6 @@
 -- `nesting::survey_nesting` meets its contract: the first pass that refuses, or neither.
 use mathlib.Core.Path.{refl}
-use Rattle.nesting.proofs.Told.{codes-sound, nests-codes, nests-places, nests-all}
+use Rattle.nesting.proofs.Results.{codes-accepted, nests-codes, nests-places, nests-all}
 use borrow.Author.Needs.{needs}
 use Rattle.nesting.proofs.survey_nesting.Statement.{statement}
 use Rattle.nesting.proofs.survey_nesting.Tie as tie
@@ -15,7 +15,7 @@ enum-told-2 : tie.Need-enum-told-2
 enum-told-2 c = search needs
 
 all-places-requires : tie.Need-all-places-requires
-all-places-requires c κs = let a = c .before .before .before in codes-sound _ _ (a .before .before .all-codes .ensures) (a .enum-told2 .given .1)
+all-places-requires c κs = let a = c .before .before .before in codes-accepted _ _ (a .before .before .all-codes .ensures) (a .enum-told2 .given .1)
 
 enum-told-3 : tie.Need-enum-told-3
 enum-told-3 c = search needs

@@ -19,8 +19,8 @@ add-result c = search needs
 enum-known-a-2 : tie.Need-enum-known-a-2
 enum-known-a-2 c = search needs
 
-number-of-requires : tie.Need-number-of-requires
-number-of-requires c κs = search needs
+refusal-number-requires : tie.Need-refusal-number-requires
+refusal-number-requires c κs = search needs
 
 mul-result-3 : tie.Need-mul-result-3
 mul-result-3 c = search needs
@@ -32,7 +32,7 @@ returns : tie.Need-returns
 returns c = clipped-done _ _ _ (c .before .a .given .1)
 
 returns-2 : tie.Need-returns-2
-returns-2 c = clipped-no _ _ (c .before .before .before .a2 .given .1) _ (c .before .number-of .ensures .0)
+returns-2 c = clipped-no _ _ (c .before .before .before .a2 .given .1) _ (c .before .refusal-number .ensures .0)
 
 pub pack-spec : {M : Type 1} → statement M
 pack-spec =
@@ -43,7 +43,7 @@ pack-spec =
     mul-result-2
     add-result
     enum-known-a-2
-    number-of-requires
+    refusal-number-requires
     mul-result-3
     add-result-2
     returns

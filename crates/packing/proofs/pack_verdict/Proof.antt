@@ -2,7 +2,7 @@
 use mathlib.Core.Path.{sym, ap, _∙_}
 use Rattle.refusals.specs.Answers.{replyOf}
 use Rattle.refusals.specs.declared.Verdict.{Verdict}
-use Rattle.packing.specs.Packed.{clipped, checked}
+use Rattle.packing.specs.Packed.{clipped, checkOutcome}
 use borrow.Author.Needs.{needs}
 use Rattle.packing.proofs.pack_verdict.Statement.{statement}
 use Rattle.packing.proofs.pack_verdict.Tie as tie
@@ -17,11 +17,11 @@ enum-told : tie.Need-enum-told
 enum-told c = search needs
 
 returns : tie.Need-returns
-returns c = c .pack .ensures ∙ ap (λ (v : Verdict). clipped (checked (replyOf v))) (sym (c .before .before .v .given .1))
+returns c = c .pack .ensures ∙ ap (λ (v : Verdict). clipped (checkOutcome (replyOf v))) (sym (c .before .before .v .given .1))
 
 returns-2 : tie.Need-returns-2
 unfolding clipped
-returns-2 c = ap (λ (v : Verdict). clipped (checked (replyOf v))) (sym (c .enum-told .given .1))
+returns-2 c = ap (λ (v : Verdict). clipped (checkOutcome (replyOf v))) (sym (c .enum-told .given .1))
 
 pub pack-verdict-spec : {M : Type 1} → statement M
 pack-verdict-spec = tie.close (tie.spec enum-known-v pack-requires enum-told returns returns-2)

@@ -18,8 +18,8 @@ loop-holds c = search needs
 add-bit : tie.Need-add-bit Inv-loop μ-loop
 add-bit c = search needs
 
-mark-requires : tie.Need-mark-requires Inv-loop μ-loop
-mark-requires c κs = search needs
+set-bit-requires : tie.Need-set-bit-requires Inv-loop μ-loop
+set-bit-requires c κs = search needs
 
 loop-less : tie.Need-loop-less Inv-loop μ-loop
 loop-less c = search needs
@@ -47,7 +47,7 @@ mark-first-spec =
     μ-loop
     loop-holds
     add-bit
-    mark-requires
+    set-bit-requires
     loop-less
     loop-again
     loop-less-2

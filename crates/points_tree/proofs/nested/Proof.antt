@@ -15,17 +15,17 @@ abbrev μ-loop : tie.MeasureT-loop
 loop-holds : tie.Need-loop-holds Inv-loop μ-loop
 loop-holds c = search needs
 
-add-folder : tie.Need-add-folder Inv-loop μ-loop
-add-folder c = search needs
+add-directory-slot : tie.Need-add-directory-slot Inv-loop μ-loop
+add-directory-slot c = search needs
 
-cast-folder : tie.Need-cast-folder Inv-loop μ-loop
-cast-folder c = search needs
+cast-directory-slot : tie.Need-cast-directory-slot Inv-loop μ-loop
+cast-directory-slot c = search needs
 
-cast-folder-2 : tie.Need-cast-folder-2 Inv-loop μ-loop
-cast-folder-2 c = search needs
+cast-directory-slot-2 : tie.Need-cast-directory-slot-2 Inv-loop μ-loop
+cast-directory-slot-2 c = search needs
 
-folder-requires : tie.Need-folder-requires Inv-loop μ-loop
-folder-requires c κs = search needs
+directory-slot-requires : tie.Need-directory-slot-requires Inv-loop μ-loop
+directory-slot-requires c κs = search needs
 
 add-i : tie.Need-add-i Inv-loop μ-loop
 add-i c = search needs
@@ -52,10 +52,10 @@ nested-spec =
     Inv-loop
     μ-loop
     loop-holds
-    add-folder
-    cast-folder
-    cast-folder-2
-    folder-requires
+    add-directory-slot
+    cast-directory-slot
+    cast-directory-slot-2
+    directory-slot-requires
     add-i
     loop-less
     loop-again

@@ -2,12 +2,12 @@
 use Prim.Native.Nat.{_-_}
 use borrow.Author.Needs.{needs}
 use Rattle.readers.specs.Positions.{positionOf}
-use Rattle.readers.proofs.Runs.{Run, no-run, same-long, turn, all-came, ended, answered}
+use Rattle.readers.proofs.Runs.{PieceCopyLoop, no-run, piece-copy-long, turn, all-came, ended, answered}
 use Rattle.readers.proofs.copy_runs.Statement.{statement}
 use Rattle.readers.proofs.copy_runs.Tie as tie
 
 abbrev Inv-loop : tie.InvT-loop
-Inv-loop image sector offset left out₀ want at₀ from₀ done₀ out at from done = Run image (positionOf sector offset) want out₀ at from done out
+Inv-loop image sector offset left out₀ want at₀ from₀ done₀ out at from done = PieceCopyLoop image (positionOf sector offset) want out₀ at from done out
 
 abbrev μ-loop : tie.MeasureT-loop
 μ-loop image sector offset left out₀ want at₀ from₀ done₀ out at from done = want - done
@@ -22,7 +22,7 @@ sub-t14 : tie.Need-sub-t14 Inv-loop μ-loop
 sub-t14 c = search needs
 
 same-length : tie.Need-same-length Inv-loop μ-loop
-same-length c = same-long (c .before .before .loop .inv)
+same-length c = piece-copy-long (c .before .before .loop .inv)
 
 returns : tie.Need-returns Inv-loop μ-loop
 returns c = let l = c .before .before in answered _ _ _ _ _ _ _ _ _ _ (l .loop .inv) (ended _ _ _ _ _ _ _ _ (l .loop .inv) (c .if1 .taken)) (l .before .before .before .before .pre) (l .before .lesser .ensures)
@@ -73,7 +73,7 @@ sub-t12 : tie.Need-sub-t12 Inv-loop μ-loop
 sub-t12 c = search needs
 
 same-length-2 : tie.Need-same-length-2 Inv-loop μ-loop
-same-length-2 c = same-long (c .before .loop .inv)
+same-length-2 c = piece-copy-long (c .before .loop .inv)
 
 returns-2 : tie.Need-returns-2 Inv-loop μ-loop
 returns-2 c = let l = c .before in answered _ _ _ _ _ _ _ _ _ _ (l .loop .inv) (all-came _ _ _ _ _ _ _ _ (l .loop .inv) (c .loop-test .left)) (l .before .before .before .before .pre) (l .before .lesser .ensures)

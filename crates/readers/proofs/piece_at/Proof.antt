@@ -1,6 +1,6 @@
 -- `readers::piece_at` meets its contract: nothing comes of numbers that can be no reader's, and else the runs.
 use borrow.Author.Needs.{needs}
-use Rattle.readers.proofs.Standing.{not-long, not-sector, not-payload, not-left, nothing}
+use Rattle.readers.proofs.PositionAt.{not-long, not-sector, not-payload, not-left, nothing}
 use Rattle.readers.proofs.piece_at.Statement.{statement}
 use Rattle.readers.proofs.piece_at.Tie as tie
 

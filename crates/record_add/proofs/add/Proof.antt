@@ -1,8 +1,8 @@
 -- `record_add::add` meets its contract: a refused check is the answer; on an accepted disk 30, or the piece as it is added there.
 use mathlib.Core.Path.{sym, ap, _∙_}
 use Rattle.refusals.specs.Answers.{replyOf}
-use Rattle.files.proofs.Listed.{sound-accepted}
-use Rattle.record_add.proofs.Settle.{add-unsound, trail-lost, trail-on}
+use Rattle.files.proofs.Listed.{checked-disk}
+use Rattle.record_add.proofs.PieceResult.{add-err, trail-lost, trail-on}
 use borrow.Author.Needs.{needs}
 use Rattle.record_add.proofs.add.Statement.{statement}
 use Rattle.record_add.proofs.add.Tie as tie
@@ -28,8 +28,8 @@ follow-requires c κs = search needs
 enum-told-2 : tie.Need-enum-told-2
 enum-told-2 c = search needs
 
-denied-requires : tie.Need-denied-requires
-denied-requires c κs = search needs
+refused-piece-requires : tie.Need-refused-piece-requires
+refused-piece-requires c κs = search needs
 
 enum-known-bit : tie.Need-enum-known-bit
 enum-known-bit c = search needs
@@ -40,13 +40,13 @@ add-at-requires c κs =
     let f = t .before .before in
     let n = f .before .before .before in
     let e = n .before .before .before in
-    trail-on _ _ (sound-accepted _ _ (e .before .before .examine .ensures) (e .enum-told .given .1)) _ _ (n .sectors-of .ensures) _ (sym (f .follow .ensures) ∙ t .bit .given .1)
+    trail-on _ _ (checked-disk _ _ (e .before .before .examine .ensures) (e .enum-told .given .1)) _ _ (n .sectors-of .ensures) _ (sym (f .follow .ensures) ∙ t .bit .given .1)
 
 same-length : tie.Need-same-length
 same-length c = search needs
 
 returns : tie.Need-returns
-returns c = add-unsound _ _ _ _ _ (sym (c .before .before .before .examine .ensures .reply) ∙ ap replyOf (c .before .verdict .given .1))
+returns c = add-err _ _ _ _ _ (sym (c .before .before .before .examine .ensures .reply) ∙ ap replyOf (c .before .verdict .given .1))
 
 same-length-2 : tie.Need-same-length-2
 same-length-2 c = search needs
@@ -57,7 +57,7 @@ returns-2 c =
     let f = t .before .before in
     let n = f .before .before .before in
     let e = n .before .before .before in
-    trail-lost _ _ (sound-accepted _ _ (e .before .before .examine .ensures) (e .enum-told .given .1)) _ _ (n .sectors-of .ensures) _ _ (sym (f .follow .ensures) ∙ t .enum-told2 .given .1) _ (c .denied .ensures .0) _ (c .denied .ensures .1)
+    trail-lost _ _ (checked-disk _ _ (e .before .before .examine .ensures) (e .enum-told .given .1)) _ _ (n .sectors-of .ensures) _ _ (sym (f .follow .ensures) ∙ t .enum-told2 .given .1) _ (c .refused-piece .ensures .0) _ (c .refused-piece .ensures .1)
 
 same-length-3 : tie.Need-same-length-3
 same-length-3 c = search needs
@@ -79,7 +79,7 @@ add-spec =
     slice-aggregate-follow
     follow-requires
     enum-told-2
-    denied-requires
+    refused-piece-requires
     enum-known-bit
     add-at-requires
     same-length

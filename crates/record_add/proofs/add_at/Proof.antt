@@ -1,7 +1,7 @@
 -- `record_add::add_at` meets its contract: each way out has the tests that led there.
 use native.Mathlib.Omega.{arith}
 use denote.Ref.{now}
-use Rattle.record_add.proofs.Settle.{at-few, inner-rise, at-fits, at-short, at-done, at-completes}
+use Rattle.record_add.proofs.PieceResult.{at-few, inner-rise, at-fits, at-short, at-done, at-completes}
 use borrow.Author.Needs.{needs}
 use Rattle.record_add.proofs.add_at.Statement.{statement}
 use Rattle.record_add.proofs.add_at.Tie as tie
@@ -12,14 +12,14 @@ sectors-of-requires c κs = search needs
 free-of-requires : tie.Need-free-of-requires
 free-of-requires c κs = search needs
 
-denied-requires : tie.Need-denied-requires
-denied-requires c κs = search needs
+refused-piece-requires : tie.Need-refused-piece-requires
+refused-piece-requires c κs = search needs
 
 returns : tie.Need-returns
 returns c =
     let f = c .before .before in
     let n = f .before in
-    at-few _ _ _ _ _ _ (n .before .before .before .before .pre) _ (f .free-of .ensures) _ (n .sectors-of .ensures) (c .before .if1 .taken) _ (c .denied .ensures .0) _ (c .denied .ensures .1)
+    at-few _ _ _ _ _ _ (n .before .before .before .before .pre) _ (f .free-of .ensures) _ (n .sectors-of .ensures) (c .before .if1 .taken) _ (c .refused-piece .ensures .0) _ (c .refused-piece .ensures .1)
 
 inner-of-requires : tie.Need-inner-of-requires
 inner-of-requires c κs = search needs
@@ -41,8 +41,8 @@ sub-count c =
     let s = n .before .before .before .before in
     omega (arith, inner-rise _ _ _ (s .args .kept) (now (s .args .piece)) (now (s .args .list)) (s .pre) _ (f .free-of .ensures) _ (n .sectors-of .ensures) (e .if1 .left) _ (s2 .sectors-of2 .ensures) _ _ (i1 .inner-of .ensures) (i2 .inner-of2 .ensures))
 
-denied-requires-2 : tie.Need-denied-requires-2
-denied-requires-2 c κs = search needs
+refused-piece-requires-2 : tie.Need-refused-piece-requires-2
+refused-piece-requires-2 c κs = search needs
 
 returns-2 : tie.Need-returns-2
 returns-2 c =
@@ -54,10 +54,10 @@ returns-2 c =
     let f = e .before in
     let n = f .before in
     let s = n .before .before .before .before in
-    at-short _ _ _ _ _ _ (s .pre) _ (f .free-of .ensures) _ (n .sectors-of .ensures) (e .if1 .left) _ (s2 .sectors-of2 .ensures) _ _ (i1 .inner-of .ensures) (i2 .inner-of2 .ensures) (t .if2 .taken) _ (c .denied2 .ensures .0) _ (c .denied2 .ensures .1)
+    at-short _ _ _ _ _ _ (s .pre) _ (f .free-of .ensures) _ (n .sectors-of .ensures) (e .if1 .left) _ (s2 .sectors-of2 .ensures) _ _ (i1 .inner-of .ensures) (i2 .inner-of2 .ensures) (t .if2 .taken) _ (c .refused-piece2 .ensures .0) _ (c .refused-piece2 .ensures .1)
 
-shut-bits-requires : tie.Need-shut-bits-requires
-shut-bits-requires c κs = search needs
+unavailable-bits-requires : tie.Need-unavailable-bits-requires
+unavailable-bits-requires c κs = search needs
 
 slice-aggregate-write-piece : tie.Need-slice-aggregate-write-piece
 slice-aggregate-write-piece c = search needs
@@ -73,7 +73,7 @@ write-piece-requires c κs =
     let f = e .before in
     let n = f .before in
     let s = n .before .before .before .before in
-    at-completes _ _ _ _ _ _ (s .pre) _ (f .free-of .ensures) _ (n .sectors-of .ensures) (e .if1 .left) _ (s2 .sectors-of2 .ensures) _ _ (i1 .inner-of .ensures) (i2 .inner-of2 .ensures) _ (b .shut-bits .ensures) (t .if2 .left)
+    at-completes _ _ _ _ _ _ (s .pre) _ (f .free-of .ensures) _ (n .sectors-of .ensures) (e .if1 .left) _ (s2 .sectors-of2 .ensures) _ _ (i1 .inner-of .ensures) (i2 .inner-of2 .ensures) _ (b .unavailable-bits .ensures) (t .if2 .left)
 
 grown-requires : tie.Need-grown-requires
 grown-requires c κs =
@@ -111,15 +111,15 @@ add-at-spec =
     (tie.spec
     sectors-of-requires
     free-of-requires
-    denied-requires
+    refused-piece-requires
     returns
     inner-of-requires
     sectors-of-requires-2
     inner-of-requires-2
     sub-count
-    denied-requires-2
+    refused-piece-requires-2
     returns-2
-    shut-bits-requires
+    unavailable-bits-requires
     slice-aggregate-write-piece
     write-piece-requires
     grown-requires

@@ -1,6 +1,6 @@
 -- `record_add::put_number` meets its contract: the place of a map bit's sector is its number of sectors of 512 bytes.
 use native.Mathlib.Omega.{arith}
-use Rattle.record_add.proofs.Sectors.{number-at, stored}
+use Rattle.record_add.proofs.Sectors.{number-at, set-as-put}
 use borrow.Author.Needs.{needs}
 use Rattle.record_add.proofs.put_number.Statement.{statement}
 use Rattle.record_add.proofs.put_number.Tie as tie
@@ -23,7 +23,7 @@ same-length c = search needs
 returns : tie.Need-returns
 returns c =
     let n = number-at _ _ (c .before .before .pre .1) (c .bit-place .ensures) in
-    stored _ _ _ _ (n .0)
+    set-as-put _ _ _ _ (n .0)
 
 pub put-number-spec : {M : Type 1} → statement M
 put-number-spec =

@@ -2,13 +2,13 @@
 use Prim.Native.Nat.{_-_}
 use mathlib.Core.List.{_++_}
 use native.Mathlib.Omega.{arith}
-use Rattle.record_add.proofs.Sectors.{Written, written-none, written-long, written-room, written-bit, written-more, written-all}
+use Rattle.record_add.proofs.Sectors.{SectorsLoop, written-none, written-long, written-room, written-bit, written-more, written-all}
 use borrow.Author.Needs.{needs}
 use Rattle.record_add.proofs.write_sectors.Statement.{statement}
 use Rattle.record_add.proofs.write_sectors.Tie as tie
 
 abbrev Inv-loop : tie.InvT-loop
-Inv-loop image₀ map bit count front back from list₀ j₀ b₀ image list j b = Written map bit count from (front ++ back) image₀ list₀ image list j b
+Inv-loop image₀ map bit count front back from list₀ j₀ b₀ image list j b = SectorsLoop map bit count from (front ++ back) image₀ list₀ image list j b
 
 abbrev μ-loop : tie.MeasureT-loop
 μ-loop image₀ map bit count front back from list₀ j₀ b₀ image list j b = count - j

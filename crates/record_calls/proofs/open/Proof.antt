@@ -1,7 +1,7 @@
 -- `record_calls::open` meets its contract: what opening refuses, then a record that is too short, or the record.
 use mathlib.Core.Path.{sym, ap, _∙_}
 use Rattle.refusals.specs.Answers.{replyOf}
-use Rattle.record_calls.proofs.Called.{opening-barred, opening-short, opening-done}
+use Rattle.record_calls.proofs.Called.{opening-refused, opening-short, opening-done}
 use borrow.Author.Needs.{needs}
 use Rattle.record_calls.proofs.open.Statement.{statement}
 use Rattle.record_calls.proofs.open.Tie as tie
@@ -15,17 +15,17 @@ enum-known-verdict c = search needs
 enum-told : tie.Need-enum-told
 enum-told c = search needs
 
-no-requires : tie.Need-no-requires
-no-requires c κs = search needs
+refused-answer-requires : tie.Need-refused-answer-requires
+refused-answer-requires c κs = search needs
 
 returns : tie.Need-returns
-returns c = let t = c .before .before .before .before in opening-short _ _ _ (sym (ap replyOf (c .before .before .enum-told .given .1)) ∙ t .«open» .ensures .0) (c .before .if1 .taken) _ (c .no .ensures)
+returns c = let t = c .before .before .before .before in opening-short _ _ _ (sym (ap replyOf (c .before .before .enum-told .given .1)) ∙ t .«open» .ensures .0) (c .before .if1 .taken) _ (c .refused-answer .ensures)
 
 put-opened-requires : tie.Need-put-opened-requires
 put-opened-requires c κs = search needs
 
 returns-2 : tie.Need-returns-2
-returns-2 c = opening-barred _ _ _ _ (sym (ap replyOf (c .before .verdict .given .1)) ∙ c .before .before .before .«open» .ensures .0)
+returns-2 c = opening-refused _ _ _ _ (sym (ap replyOf (c .before .verdict .given .1)) ∙ c .before .before .before .«open» .ensures .0)
 
 same-length : tie.Need-same-length
 same-length c = search needs
@@ -40,7 +40,7 @@ open-spec =
     open-requires
     enum-known-verdict
     enum-told
-    no-requires
+    refused-answer-requires
     returns
     put-opened-requires
     returns-2

@@ -1,8 +1,8 @@
 -- `record_close::close` meets its contract: a refused check is the answer; on an accepted disk 30, or the close there.
 use mathlib.Core.Path.{sym, ap, _∙_}
 use Rattle.refusals.specs.Answers.{replyOf}
-use Rattle.files.proofs.Listed.{sound-accepted}
-use Rattle.record_close.proofs.Planned.{closed-unsound, closed-lost, stays-on}
+use Rattle.files.proofs.Listed.{checked-disk}
+use Rattle.record_close.proofs.Planned.{closed-err, closed-lost, stays-on}
 use borrow.Author.Needs.{needs}
 use Rattle.record_close.proofs.close.Statement.{statement}
 use Rattle.record_close.proofs.close.Tie as tie
@@ -31,8 +31,8 @@ follow-requires c κs = search needs
 enum-told-2 : tie.Need-enum-told-2
 enum-told-2 c = search needs
 
-no-requires : tie.Need-no-requires
-no-requires c κs = search needs
+refused-answer-requires : tie.Need-refused-answer-requires
+refused-answer-requires c κs = search needs
 
 enum-told-3 : tie.Need-enum-told-3
 enum-told-3 c = search needs
@@ -43,13 +43,13 @@ close-still-requires c κs =
     let f = t .before .before in
     let l = f .before .before .before in
     let e = l .before .before .before in
-    stays-on _ _ _ (sound-accepted _ _ (e .before .before .examine .ensures) (e .enum-told .given .1)) _ (l .lesser .ensures) _ (f .follow .ensures) _ (t .enum-told3 .given .1)
+    stays-on _ _ _ (checked-disk _ _ (e .before .before .examine .ensures) (e .enum-told .given .1)) _ (l .lesser .ensures) _ (f .follow .ensures) _ (t .enum-told3 .given .1)
 
 same-length : tie.Need-same-length
 same-length c = search needs
 
 returns : tie.Need-returns
-returns c = closed-unsound _ _ _ _ (sym (c .before .before .before .examine .ensures .reply) ∙ ap replyOf (c .before .verdict .given .1))
+returns c = closed-err _ _ _ _ (sym (c .before .before .before .examine .ensures .reply) ∙ ap replyOf (c .before .verdict .given .1))
 
 same-length-2 : tie.Need-same-length-2
 same-length-2 c = search needs
@@ -60,7 +60,7 @@ returns-2 c =
     let f = t .before .before in
     let l = f .before .before .before in
     let e = l .before .before .before in
-    closed-lost _ _ _ (sound-accepted _ _ (e .before .before .examine .ensures) (e .enum-told .given .1)) _ (l .lesser .ensures) _ (f .follow .ensures) (t .enum-told2 .given .1) _ _ (c .no .ensures)
+    closed-lost _ _ _ (checked-disk _ _ (e .before .before .examine .ensures) (e .enum-told .given .1)) _ (l .lesser .ensures) _ (f .follow .ensures) (t .enum-told2 .given .1) _ _ (c .refused-answer .ensures)
 
 same-length-3 : tie.Need-same-length-3
 same-length-3 c = search needs
@@ -83,7 +83,7 @@ close-spec =
     slice-aggregate-follow
     follow-requires
     enum-told-2
-    no-requires
+    refused-answer-requires
     enum-told-3
     close-still-requires
     same-length

@@ -6,11 +6,11 @@ use borrow.Author.Needs.{needs}
 use Rattle.record_close.proofs.close_at.Statement.{statement}
 use Rattle.record_close.proofs.close_at.Tie as tie
 
-no-requires : tie.Need-no-requires
-no-requires c κs = search needs
+refused-answer-requires : tie.Need-refused-answer-requires
+refused-answer-requires c κs = search needs
 
 returns : tie.Need-returns
-returns c = let t = c .before in closed-large _ _ _ _ _ (t .before .before .before .before .pre) _ refl (t .if1 .taken) _ (c .no .ensures)
+returns c = let t = c .before in closed-large _ _ _ _ _ (t .before .before .before .before .pre) _ refl (t .if1 .taken) _ (c .refused-answer .ensures)
 
 add-n : tie.Need-add-n
 add-n c = search needs
@@ -18,12 +18,12 @@ add-n c = search needs
 free-of-requires : tie.Need-free-of-requires
 free-of-requires c κs = search needs
 
-no-requires-2 : tie.Need-no-requires-2
-no-requires-2 c κs = search needs
+refused-answer-requires-2 : tie.Need-refused-answer-requires-2
+refused-answer-requires-2 c κs = search needs
 
 returns-2 : tie.Need-returns-2
 unfolding sectorsFor
-returns-2 c = let t = c .before in let f = t .before in closed-few _ _ _ _ _ (f .before .before .before .before .before .before .pre) _ (f .free-of .ensures) (t .if2 .taken) _ (c .no2 .ensures)
+returns-2 c = let t = c .before in let f = t .before in closed-few _ _ _ _ _ (f .before .before .before .before .before .before .pre) _ (f .free-of .ensures) (t .if2 .taken) _ (c .refused-answer2 .ensures)
 
 has-old-name-requires : tie.Need-has-old-name-requires
 has-old-name-requires c κs = search needs
@@ -37,8 +37,8 @@ dir-count-requires c κs = search needs
 add-named : tie.Need-add-named
 add-named c = search needs
 
-no-requires-3 : tie.Need-no-requires-3
-no-requires-3 c κs = search needs
+refused-answer-requires-3 : tie.Need-refused-answer-requires-3
+refused-answer-requires-3 c κs = search needs
 
 same-length : tie.Need-same-length
 same-length c = search needs
@@ -53,10 +53,10 @@ returns-3 c =
     let e = o .before .before in
     let f = e .before in
     closed-short _ _ _ _ _ (f .before .before .before .before .before .before .pre) _ (f .free-of .ensures) _ refl (e .if2 .left) _ (o .has-old-name .ensures) _ (k .dir-count .ensures .0) _ (z .ends-of .ensures .0) (t .if3 .taken) _
-    (c .no3 .ensures)
+    (c .refused-answer3 .ensures)
 
-shut-bits-requires : tie.Need-shut-bits-requires
-shut-bits-requires c κs = search needs
+unavailable-bits-requires : tie.Need-unavailable-bits-requires
+unavailable-bits-requires c κs = search needs
 
 slice-aggregate-write-close : tie.Need-slice-aggregate-write-close
 slice-aggregate-write-close c = search needs
@@ -72,7 +72,7 @@ write-close-requires c κs =
     let e = o .before .before in
     let f = e .before in
     let s = f .before .before .before .before .before .before in
-    (closable _ _ _ _ _ (s .pre) _ (f .free-of .ensures) _ refl (e .if2 .left) _ (o .has-old-name .ensures) _ (k .dir-count .ensures .0) _ (z .ends-of .ensures .0) (t .if3 .left) _ (b .shut-bits .ensures), open-size _ _ _ _ (s .pre))
+    (closable _ _ _ _ _ (s .pre) _ (f .free-of .ensures) _ refl (e .if2 .left) _ (o .has-old-name .ensures) _ (k .dir-count .ensures .0) _ (z .ends-of .ensures .0) (t .if3 .left) _ (b .unavailable-bits .ensures), open-size _ _ _ _ (s .pre))
 
 same-length-2 : tie.Need-same-length-2
 same-length-2 c = search needs
@@ -92,26 +92,26 @@ returns-4 c =
     let e = o .before .before in
     let f = e .before in
     closed-done _ _ _ _ _ (f .before .before .before .before .before .before .pre) _ (f .free-of .ensures) _ refl (e .if2 .left) _ (o .has-old-name .ensures) _ (k .dir-count .ensures .0) _ (z .ends-of .ensures .0) (t .if3 .left) _
-    (b .shut-bits .ensures) _ _ (w .write-close .ensures)
+    (b .unavailable-bits .ensures) _ _ (w .write-close .ensures)
 
 pub close-at-spec : {M : Type 1} → statement M
 close-at-spec =
     tie.close
     (tie.spec
-    no-requires
+    refused-answer-requires
     returns
     add-n
     free-of-requires
-    no-requires-2
+    refused-answer-requires-2
     returns-2
     has-old-name-requires
     ends-of-requires
     dir-count-requires
     add-named
-    no-requires-3
+    refused-answer-requires-3
     same-length
     returns-3
-    shut-bits-requires
+    unavailable-bits-requires
     slice-aggregate-write-close
     write-close-requires
     same-length-2

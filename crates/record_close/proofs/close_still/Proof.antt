@@ -1,7 +1,7 @@
--- `record_close::close_still` meets its contract: what bars the slot, or the close there.
+-- `record_close::close_still` meets its contract: what refuses the slot, or the close there.
 use mathlib.Core.Path.{sym, ap, _∙_}
-use Rattle.files.specs.Calls.{soughtOf}
-use Rattle.record_close.proofs.Planned.{closed-barred, open-at}
+use Rattle.files.specs.Calls.{lookupOf}
+use Rattle.record_close.proofs.Planned.{closed-refused, open-at}
 use borrow.Author.Needs.{needs}
 use Rattle.record_close.proofs.close_still.Statement.{statement}
 use Rattle.record_close.proofs.close_still.Tie as tie
@@ -26,7 +26,7 @@ close-at-requires c κs =
     let t = c .before .before .before in
     let f = t .before .before in
     let s = f .before .before in
-    open-at _ _ _ (s .before .before .before .before .before .pre) _ (s .start-of .ensures) _ (sym (ap soughtOf (t .i .given .1)) ∙ f .slot-for .ensures)
+    open-at _ _ _ (s .before .before .before .before .before .pre) _ (s .start-of .ensures) _ (sym (ap lookupOf (t .i .given .1)) ∙ f .slot-for .ensures)
 
 same-length : tie.Need-same-length
 same-length c = search needs
@@ -36,7 +36,7 @@ returns c =
     let t = c .before in
     let f = t .before .before in
     let s = f .before .before in
-    closed-barred _ _ _ (s .before .before .before .before .before .pre) _ (s .start-of .ensures) _ _ (sym (ap soughtOf (t .r .given .1)) ∙ f .slot-for .ensures)
+    closed-refused _ _ _ (s .before .before .before .before .before .pre) _ (s .start-of .ensures) _ _ (sym (ap lookupOf (t .r .given .1)) ∙ f .slot-for .ensures)
 
 same-length-2 : tie.Need-same-length-2
 same-length-2 c = search needs

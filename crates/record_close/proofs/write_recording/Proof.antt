@@ -1,7 +1,7 @@
 -- `record_close::write_recording` meets its contract: the ends of the chain, and then the directory's part.
 use mathlib.Core.Path.{ap, _∙_}
 use denote.Ref.{now}
-use Rattle.payloads.specs.Sector.{linkOf}
+use Rattle.sector_writes.specs.Sector.{linkToBit}
 use Rattle.record_close.proofs.Whole.{chained-of, recording-written}
 use borrow.Author.Needs.{needs}
 use Rattle.record_close.proofs.write_recording.Statement.{statement}
@@ -56,7 +56,7 @@ returns c =
     let b = l .before in
     let m = b .before in
     let s = m .before .before .before in
-    recording-written _ _ _ _ (now (s .args .image)) (s .pre .1) (s .pre .0) (m .map-with .ensures) (l .link-of .ensures ∙ ap linkOf (b .bit-at .ensures)) (a .start-of .ensures) (t .slot-of .ensures)
+    recording-written _ _ _ _ (now (s .args .image)) (s .pre .1) (s .pre .0) (m .map-with .ensures) (l .link-of .ensures ∙ ap linkToBit (b .bit-at .ensures)) (a .start-of .ensures) (t .slot-of .ensures)
     (e .write-ends .ensures) (w .put-slot .ensures)
 
 pub write-recording-spec : {M : Type 1} → statement M

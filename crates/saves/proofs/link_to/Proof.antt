@@ -1,6 +1,6 @@
 -- `saves::link_to` meets its contract.
 use native.Mathlib.Omega.{arith}
-use Rattle.payloads.proofs.Links.{to-none, to-some}
+use Rattle.sector_writes.proofs.Links.{to-none, to-some}
 use borrow.Author.Needs.{needs}
 use Rattle.saves.proofs.link_to.Statement.{statement}
 use Rattle.saves.proofs.link_to.Tie as tie

@@ -1,10 +1,10 @@
--- `saves::save` meets its contract: a refused check is the answer; on an accepted disk what bars the slot, or the save there.
+-- `saves::save` meets its contract: a refused check is the answer; on an accepted disk what refuses the slot, or the save there.
 use mathlib.Core.Path.{sym, ap, _∙_}
 use Rattle.refusals.specs.Answers.{replyOf}
-use Rattle.files.specs.Calls.{soughtOf}
-use Rattle.files.proofs.Listed.{sound-accepted}
-use Rattle.changes.proofs.Laws.{change-unsound}
-use Rattle.saves.proofs.Planned.{save-barred}
+use Rattle.files.specs.Calls.{lookupOf}
+use Rattle.files.proofs.Listed.{checked-disk}
+use Rattle.changes.proofs.Laws.{change-err}
+use Rattle.saves.proofs.Planned.{save-refused}
 use borrow.Author.Needs.{needs}
 use Rattle.saves.proofs.save.Statement.{statement}
 use Rattle.saves.proofs.save.Tie as tie
@@ -32,15 +32,15 @@ save-at-requires c κs =
     let s = c .before .before .before .before .before in
     let e = s .before .before .before in
     record {
-      disk = sound-accepted _ _ (e .before .before .examine .ensures) (e .enum-told .given .1);
-      place = sym (ap soughtOf (c .before .before .before .i .given .1)) ∙ s .slot-for .ensures;
+      disk = checked-disk _ _ (e .before .before .examine .ensures) (e .enum-told .given .1);
+      place = sym (ap lookupOf (c .before .before .before .i .given .1)) ∙ s .slot-for .ensures;
     }
 
 same-length : tie.Need-same-length
 same-length c = search needs
 
 returns : tie.Need-returns
-returns c = change-unsound _ _ _ _ (sym (c .before .before .before .examine .ensures .reply) ∙ ap replyOf (c .before .verdict .given .1))
+returns c = change-err _ _ _ _ (sym (c .before .before .before .examine .ensures .reply) ∙ ap replyOf (c .before .verdict .given .1))
 
 same-length-2 : tie.Need-same-length-2
 same-length-2 c = search needs
@@ -49,7 +49,7 @@ returns-2 : tie.Need-returns-2
 returns-2 c =
     let s = c .before .before .before in
     let e = s .before .before .before in
-    save-barred _ _ _ _ _ _ _ (sound-accepted _ _ (e .before .before .examine .ensures) (e .enum-told .given .1) .accepted) _ (sym (ap soughtOf (c .before .r .given .1)) ∙ s .slot-for .ensures)
+    save-refused _ _ _ _ _ _ _ (checked-disk _ _ (e .before .before .examine .ensures) (e .enum-told .given .1) .accepted) _ (sym (ap lookupOf (c .before .r .given .1)) ∙ s .slot-for .ensures)
 
 same-length-3 : tie.Need-same-length-3
 same-length-3 c = search needs

@@ -1,13 +1,13 @@
 -- `saves::to_numbers` meets its contract: before each turn the first `j` bits are turned.
 use Prim.Native.Nat.{_-_}
 use native.Mathlib.Omega.{arith}
-use Rattle.saves.proofs.Numbers.{Numbered, numbered-none, numbered-long, numbered-place, numbered-more, numbered-all}
+use Rattle.saves.proofs.Numbers.{NumbersLoop, numbered-none, numbered-long, numbered-place, numbered-more, numbered-all}
 use borrow.Author.Needs.{needs}
 use Rattle.saves.proofs.to_numbers.Statement.{statement}
 use Rattle.saves.proofs.to_numbers.Tie as tie
 
 abbrev Inv-loop : tie.InvT-loop
-Inv-loop list₀ n j₀ list j = Numbered list₀ n list j
+Inv-loop list₀ n j₀ list j = NumbersLoop list₀ n list j
 
 abbrev μ-loop : tie.MeasureT-loop
 μ-loop list₀ n j₀ list j = n - j

@@ -3,19 +3,19 @@ use Prim.Native.Nat.{_-_}
 use mathlib.Core.List.{_++_}
 use native.Mathlib.Omega.{arith}
 use lib.ListN.{length}
-use Rattle.saves.proofs.Chained.{Chained, chain-none, chain-more, chain-all}
+use Rattle.saves.proofs.Chained.{WriteChainLoop, write-chain-none, chain-more, chain-all}
 use borrow.Author.Needs.{needs}
 use Rattle.saves.proofs.write_chain.Statement.{statement}
 use Rattle.saves.proofs.write_chain.Tie as tie
 
 abbrev Inv-loop : tie.InvT-loop
-Inv-loop image₀ head body bits k₀ image k = Chained image₀ (head ++ body) bits image k
+Inv-loop image₀ head body bits k₀ image k = WriteChainLoop image₀ (head ++ body) bits image k
 
 abbrev μ-loop : tie.MeasureT-loop
 μ-loop image₀ head body bits k₀ image k = length bits - k
 
 loop-holds : tie.Need-loop-holds Inv-loop μ-loop
-loop-holds c = chain-none _ _ _
+loop-holds c = write-chain-none _ _ _
 
 add-link-to : tie.Need-add-link-to Inv-loop μ-loop
 add-link-to c = search needs

@@ -61,28 +61,28 @@ kind-of-requires c κs = search needs
 is-known-requires : tie.Need-is-known-requires
 is-known-requires c κs = search needs
 
-unsound-requires : tie.Need-unsound-requires
-unsound-requires c κs = search needs
+refused-verdict-requires : tie.Need-refused-verdict-requires
+refused-verdict-requires c κs = search needs
 
 returns : tie.Need-returns
-returns c = c .unsound .ensures ∙ at2 _ _ _ _ (known-is (c .before .before) (not-true _ (c .before .if1 .taken)))
+returns c = c .refused-verdict .ensures ∙ at2 _ _ _ _ (known-is (c .before .before) (not-true _ (c .before .if1 .taken)))
 
 count-of-requires : tie.Need-count-of-requires
 count-of-requires c κs = search needs
 
-unsound-requires-2 : tie.Need-unsound-requires-2
-unsound-requires-2 c κs = search needs
+refused-verdict-requires-2 : tie.Need-refused-verdict-requires-2
+refused-verdict-requires-2 c κs = search needs
 
 returns-2 : tie.Need-returns-2
 returns-2 c = let d = c .before .before in
-    c .unsound2 .ensures ∙ at4 _ _ _ _ (past2 (d .before)) (rw (← (d .count-of .ensures .0), lt-leb _ _ (c .before .if2 .taken)))
+    c .refused-verdict2 .ensures ∙ at4 _ _ _ _ (past2 (d .before)) (rw (← (d .count-of .ensures .0), lt-leb _ _ (c .before .if2 .taken)))
 
-unsound-requires-3 : tie.Need-unsound-requires-3
-unsound-requires-3 c κs = search needs
+refused-verdict-requires-3 : tie.Need-refused-verdict-requires-3
+refused-verdict-requires-3 c κs = search needs
 
 returns-3 : tie.Need-returns-3
 returns-3 c = let d = c .before .before .before in
-    c .unsound3 .ensures ∙ at4 _ _ _ _ (past2 (d .before)) (rw (← (d .count-of .ensures .0), le-leb _ _ (c .before .before .if2 .left), lt-leb _ _ (c .before .if3 .taken)))
+    c .refused-verdict3 .ensures ∙ at4 _ _ _ _ (past2 (d .before)) (rw (← (d .count-of .ensures .0), le-leb _ _ (c .before .before .if2 .left), lt-leb _ _ (c .before .if3 .taken)))
 
 map-of-requires : tie.Need-map-of-requires
 map-of-requires c κs = search needs
@@ -90,12 +90,12 @@ map-of-requires c κs = search needs
 bits-of-requires : tie.Need-bits-of-requires
 bits-of-requires c κs = search needs
 
-unsound-requires-4 : tie.Need-unsound-requires-4
-unsound-requires-4 c κs = search needs
+refused-verdict-requires-4 : tie.Need-refused-verdict-requires-4
+refused-verdict-requires-4 c κs = search needs
 
 returns-4 : tie.Need-returns-4
 returns-4 c = let d = c .before .before in
-    c .unsound4 .ensures ∙ at5 _ _ _ _ (past4 (d .before .before)) (ne-eqb _ _ (λ e. c .before .if4 .taken (many d ∙ e ∙ sym (d .before .before .before .before .count-of .ensures .0))))
+    c .refused-verdict4 .ensures ∙ at5 _ _ _ _ (past4 (d .before .before)) (ne-eqb _ _ (λ e. c .before .if4 .taken (many d ∙ e ∙ sym (d .before .before .before .before .count-of .ensures .0))))
 
 first-of-requires : tie.Need-first-of-requires
 first-of-requires c κs = search needs
@@ -103,20 +103,20 @@ first-of-requires c κs = search needs
 has-bit-requires : tie.Need-has-bit-requires
 has-bit-requires c κs = search needs
 
-unsound-requires-5 : tie.Need-unsound-requires-5
-unsound-requires-5 c κs = search needs
+refused-verdict-requires-5 : tie.Need-refused-verdict-requires-5
+refused-verdict-requires-5 c κs = search needs
 
 returns-5 : tie.Need-returns-5
 returns-5 c = let d = c .before .before in
-    c .unsound5 .ensures ∙ at6 _ _ _ _ (past4 (d .before .before .before .before .before)) (past5 (d .before .before)) (first-is d (not-true _ (c .before .if5 .taken)))
+    c .refused-verdict5 .ensures ∙ at6 _ _ _ _ (past4 (d .before .before .before .before .before)) (past5 (d .before .before)) (first-is d (not-true _ (c .before .if5 .taken)))
 
-unsound-requires-6 : tie.Need-unsound-requires-6
-unsound-requires-6 c κs = search needs
+refused-verdict-requires-6 : tie.Need-refused-verdict-requires-6
+refused-verdict-requires-6 c κs = search needs
 
 returns-6 : tie.Need-returns-6
 returns-6 c = let e = c .before .before in
     let d = e .before .before .before in
-    c .unsound6 .ensures ∙ at6-inside _ _ _ _ (past4 (d .before .before .before)) (past5 d) (first-is (e .before) (not-false _ (e .if5 .left))) (c .before .if6 .taken)
+    c .refused-verdict6 .ensures ∙ at6-inside _ _ _ _ (past4 (d .before .before .before)) (past5 d) (first-is (e .before) (not-false _ (e .if5 .left))) (c .before .if6 .taken)
 
 is-carried-requires : tie.Need-is-carried-requires
 is-carried-requires c κs = search needs
@@ -130,12 +130,12 @@ length-of-requires c κs = search needs
 add-if8 : tie.Need-add-if8
 add-if8 c = search needs
 
-unsound-requires-7 : tie.Need-unsound-requires-7
-unsound-requires-7 c κs = search needs
+refused-verdict-requires-7 : tie.Need-refused-verdict-requires-7
+refused-verdict-requires-7 c κs = search needs
 
 returns-7 : tie.Need-returns-7
 returns-7 c = let d = c .before .before in
-    c .unsound7 .ensures ∙ at7 _ _ _ _ (past6 (d .before .before .before)) (long-is d (lt-ltb _ _ (c .before .if8 .taken)))
+    c .refused-verdict7 .ensures ∙ at7 _ _ _ _ (past6 (d .before .before .before)) (long-is d (lt-ltb _ _ (c .before .if8 .taken)))
 
 returns-8 : tie.Need-returns-8
 returns-8 c = at-none _ _ _ _ (past6 (c .before .before .before .before)) (long-is (c .before) (le-ltb _ _ (c .if8 .left)))
@@ -149,28 +149,28 @@ file-rows-spec =
     (tie.spec
     kind-of-requires
     is-known-requires
-    unsound-requires
+    refused-verdict-requires
     returns
     count-of-requires
-    unsound-requires-2
+    refused-verdict-requires-2
     returns-2
-    unsound-requires-3
+    refused-verdict-requires-3
     returns-3
     map-of-requires
     bits-of-requires
-    unsound-requires-4
+    refused-verdict-requires-4
     returns-4
     first-of-requires
     has-bit-requires
-    unsound-requires-5
+    refused-verdict-requires-5
     returns-5
-    unsound-requires-6
+    refused-verdict-requires-6
     returns-6
     is-carried-requires
     mul-if8
     length-of-requires
     add-if8
-    unsound-requires-7
+    refused-verdict-requires-7
     returns-7
     returns-8
     returns-9)

@@ -23,11 +23,11 @@ mul-end c = omega (arith, c .lesser .ensures)
 loop-holds : tie.Need-loop-holds Inv-loop μ-loop
 loop-holds c = record { first = omega arith; few = omega arith; ends = ap (λ (k : ℕ). 10 * k) (c .lesser .ensures); long = length-replicate {A = ℕ} 195 0; made = inner-first _ }
 
-slice-aggregate-mark : tie.Need-slice-aggregate-mark Inv-loop μ-loop
-slice-aggregate-mark c = search needs
+slice-aggregate-set-bit : tie.Need-slice-aggregate-set-bit Inv-loop μ-loop
+slice-aggregate-set-bit c = search needs
 
-mark-requires : tie.Need-mark-requires Inv-loop μ-loop
-mark-requires c κs = search needs
+set-bit-requires : tie.Need-set-bit-requires Inv-loop μ-loop
+set-bit-requires c κs = search needs
 
 add-b : tie.Need-add-b Inv-loop μ-loop
 add-b c = let w = c .before .before .before .before .loop .inv in omega (arith, w .few)
@@ -38,7 +38,7 @@ loop-less c = search needs
 loop-again : tie.Need-loop-again Inv-loop μ-loop
 loop-again c =
     let l = c .before .before .before in
-    inner-turn _ _ (l .before .loop .b) _ _ (l .before .loop .inv) (l .loop-test .taken) (c .before .mark .ensures)
+    inner-turn _ _ (l .before .loop .b) _ _ (l .before .loop .inv) (l .loop-test .taken) (c .before .set-bit .ensures)
 
 returns : tie.Need-returns Inv-loop μ-loop
 returns c = inner-done _ _ (c .before .loop .b) _ (c .before .loop .inv) (c .loop-test .left)
@@ -52,8 +52,8 @@ inner-map-spec =
     lesser-requires
     mul-end
     loop-holds
-    slice-aggregate-mark
-    mark-requires
+    slice-aggregate-set-bit
+    set-bit-requires
     add-b
     loop-less
     loop-again

@@ -3,7 +3,7 @@ use borrow.Author.Needs.{needs}
 use mathlib.Core.Path.{_≡_, sym, ap, _∙_}
 use mathlib.Core.Bool.{Bool}
 use denote.Ref.{now}
-use Rattle.slots.specs.Slot.{kindOf, carried, facts, sectorsFor}
+use Rattle.slots.specs.Slot.{kindOf, carried, slotFields, sectorsFor}
 use Rattle.slots.specs.Rows.{wasteful}
 use Rattle.slots.proofs.is_wasteful.Statement.{statement}
 use Rattle.slots.proofs.is_wasteful.Tie as tie
@@ -27,11 +27,11 @@ count-of-requires : tie.Need-count-of-requires
 count-of-requires c κs = search needs
 
 returns : tie.Need-returns
-unfolding wasteful facts sectorsFor
+unfolding wasteful slotFields sectorsFor
 returns c = rw (carried-is (c .before .before .before) (c .before .before .if1 .taken), ← (c .before .length-of .ensures .0), ← (c .count-of .ensures .0))
 
 returns-2 : tie.Need-returns-2
-unfolding wasteful facts
+unfolding wasteful slotFields
 returns-2 c = rw (carried-is (c .before) (c .if1 .left))
 
 pub is-wasteful-spec : {M : Type 1} → statement M

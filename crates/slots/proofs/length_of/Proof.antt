@@ -1,6 +1,6 @@
 -- `slots::length_of` meets its contract.
 use native.Mathlib.Omega.{arith}
-use Rattle.slots.specs.Slot.{facts, lengthOf}
+use Rattle.slots.specs.Slot.{slotFields, lengthOf}
 use borrow.Author.Needs.{needs}
 use Rattle.slots.proofs.length_of.Statement.{statement}
 use Rattle.slots.proofs.length_of.Tie as tie
@@ -18,7 +18,7 @@ add-result : tie.Need-add-result
 add-result c = search needs
 
 returns : tie.Need-returns
-unfolding lengthOf facts
+unfolding lengthOf slotFields
 returns c = omega arith
 
 pub length-of-spec : {M : Type 1} → statement M

@@ -5,7 +5,7 @@ use mathlib.Core.Bool.{false, _&&_}
 use mathlib.Core.Logic.{⊎-elim}
 use native.Mathlib.Omega.{arith}
 use denote.Ref.{now}
-use Rattle.slots.specs.Slot.{facts}
+use Rattle.slots.specs.Slot.{slotFields}
 use Rattle.slots.specs.Rows.{wasteful}
 use Rattle.directory.proofs.Ends.{read-most}
 use Rattle.surveys.proofs.Pass.{slot-own, slot-waste, slot-shared, slot-twice, slot-clear}
@@ -14,7 +14,7 @@ use Rattle.surveys.proofs.live_rows.Statement.{statement}
 use Rattle.surveys.proofs.live_rows.Tie as tie
 
 -- past row 22 it was not asked for, or it does not hold
-lean : (c : tie.Joined1) → let a = c .before .before .before .before .before .before .before .before .args in (a .release && wasteful (facts (now (a .s)))) ≡ false
+lean : (c : tie.Joined1) → let a = c .before .before .before .before .before .before .before .before .args in (a .release && wasteful (slotFields (now (a .s)))) ≡ false
 lean c = ⊎-elim (λ t. rw (t .0 .taken) (sym (t .1 .ensures) ∙ t .2 .left)) (λ t. rw (t .left)) (c .if1 .came)
 
 add-slot : tie.Need-add-slot
@@ -34,8 +34,8 @@ enum-told c = search needs
 is-wasteful-requires : tie.Need-is-wasteful-requires
 is-wasteful-requires c κs = search needs
 
-unsound-requires : tie.Need-unsound-requires
-unsound-requires c κs = search needs
+refused-verdict-requires : tie.Need-refused-verdict-requires
+refused-verdict-requires c κs = search needs
 
 returns : tie.Need-returns
 returns c =
@@ -43,7 +43,7 @@ returns c =
     let a = t .before .before in
     let o = a .before .before .before in
     let p = o .before .before .before .before .before .pre in
-    c .unsound .ensures
+    c .refused-verdict .ensures
     ∙ slot-waste _ _ _ _ _ _ (p .here) (p .used) _ (o .own-at .ensures) (a .before .enum-told .given .1)
     (rw (a .if1 .taken) (sym (t .before .is-wasteful .ensures) ∙ t .if2 .taken))
 
@@ -53,8 +53,8 @@ map-of-requires c κs = search needs
 shares-requires : tie.Need-shares-requires
 shares-requires c κs = search needs
 
-unsound-requires-2 : tie.Need-unsound-requires-2
-unsound-requires-2 c κs = search needs
+refused-verdict-requires-2 : tie.Need-refused-verdict-requires-2
+refused-verdict-requires-2 c κs = search needs
 
 returns-2 : tie.Need-returns-2
 returns-2 c =
@@ -63,7 +63,7 @@ returns-2 c =
     let j = m .before in
     let o = j .before .before .before in
     let p = o .before .before .before .before .before .pre in
-    c .unsound2 .ensures
+    c .refused-verdict2 .ensures
     ∙ slot-shared _ _ _ _ _ _ (p .here) (p .used) _ (o .own-at .ensures) (j .before .enum-told .given .1) (lean j) (m .map-of .ensures) (t .before .shares .ensures) (t .if3 .taken)
 
 name-of-requires : tie.Need-name-of-requires
@@ -72,8 +72,8 @@ name-of-requires c κs = search needs
 named-before-requires : tie.Need-named-before-requires
 named-before-requires c κs = search needs
 
-unsound-requires-3 : tie.Need-unsound-requires-3
-unsound-requires-3 c κs = search needs
+refused-verdict-requires-3 : tie.Need-refused-verdict-requires-3
+refused-verdict-requires-3 c κs = search needs
 
 returns-3 : tie.Need-returns-3
 returns-3 c =
@@ -83,7 +83,7 @@ returns-3 c =
     let j = m .before in
     let o = j .before .before .before in
     let p = o .before .before .before .before .before .pre in
-    c .unsound3 .ensures
+    c .refused-verdict3 .ensures
     ∙ slot-twice _ _ _ _ _ _ (p .here) (p .used) _ (o .own-at .ensures) (j .before .enum-told .given .1) (lean j) (m .map-of .ensures) (n .before .before .shares .ensures)
     (n .before .if3 .left) (n .name-of .ensures) (t .before .named-before .ensures) (t .if4 .taken)
 
@@ -112,15 +112,15 @@ live-rows-spec =
     enum-known-f
     enum-told
     is-wasteful-requires
-    unsound-requires
+    refused-verdict-requires
     returns
     map-of-requires
     shares-requires
-    unsound-requires-2
+    refused-verdict-requires-2
     returns-2
     name-of-requires
     named-before-requires
-    unsound-requires-3
+    refused-verdict-requires-3
     returns-3
     returns-4
     returns-5)

@@ -25,13 +25,13 @@ abbrev μ-loop : tie.MeasureT-loop
 key-of-requires : tie.Need-key-of-requires Inv-loop μ-loop
 key-of-requires c κs = search needs
 
-is-noted-requires : tie.Need-is-noted-requires Inv-loop μ-loop
-is-noted-requires c κs = search needs
+may-contain-requires : tie.Need-may-contain-requires Inv-loop μ-loop
+may-contain-requires c κs = search needs
 
 returns : tie.Need-returns Inv-loop μ-loop
 returns c =
     let n = c .before in
-    sym (unnoted _ _ _ _ (n .before .before .before .before .before .pre .1) (n .before .key-of .ensures) (n .is-noted .ensures) (not-true (n .is-noted .result) (c .if1 .taken)))
+    sym (unnoted _ _ _ _ (n .before .before .before .before .before .pre .1) (n .before .key-of .ensures) (n .may-contain .ensures) (not-true (n .may-contain .result) (c .if1 .taken)))
 
 loop-holds : tie.Need-loop-holds Inv-loop μ-loop
 loop-holds c = (omega arith, earlier-start _ _)
@@ -92,7 +92,7 @@ named-before-spec =
     Inv-loop
     μ-loop
     key-of-requires
-    is-noted-requires
+    may-contain-requires
     returns
     loop-holds
     slot-at-requires

@@ -5,16 +5,16 @@ use mathlib.Core.Bool.{Bool}
 use mathlib.Core.Option.{none, some}
 use native.Mathlib.Omega.{arith}
 use denote.Ref.{now}
-use Rattle.maps.specs.Bits.{clear}
-use Rattle.refusals.specs.Order.{Reply, sweepFrom}
+use Rattle.maps.specs.Bits.{clearMap}
+use Rattle.refusals.specs.Order.{Reply, scanFrom}
 use Rattle.refusals.specs.Answers.{replyOf}
-use Rattle.refusals.proofs.First.{sweep-skip}
+use Rattle.refusals.proofs.First.{scan-skip}
 use Rattle.directory.specs.Places.{slots}
 use Rattle.directory.specs.Directory.{Directory, tracksOf, slotsRead, directory}
 use Rattle.surveys.specs.Survey.{surveyAt, surveyBy, union, counted}
 use Rattle.directory.proofs.Ends.{read-most}
 use Rattle.directory.proofs.Live.{met-live, met-dead}
-use Rattle.surveys.proofs.Filter.{Kept, kept-none, kept-few, kept-dead, kept-live}
+use Rattle.surveys.proofs.Filter.{FilterLoop, kept-none, kept-few, kept-dead, kept-live}
 use Rattle.surveys.proofs.Pass.{survey-dead, survey-start, used-start, used-dead, reached, apart, used-more, pass-stops, pass-ends}
 use borrow.Author.Needs.{needs}
 use Rattle.surveys.proofs.survey_slots.Statement.{statement}
@@ -22,7 +22,7 @@ use Rattle.surveys.proofs.survey_slots.Tie as tie
 
 abbrev Inv-loop : tie.InvT-loop
 Inv-loop dir release tracks end used₀ filter₀ files₀ i₀ used filter files i =
-    (i ≤ slotsRead dir) × (used ≡ counted (tracksOf dir) (union (directory dir) i)) × (surveyBy release (tracksOf dir) (directory dir) ≡ sweepFrom (slots - i) i (surveyAt release (tracksOf dir) (directory dir))) × Kept dir i filter files × (tracks ≡ tracksOf dir)
+    (i ≤ slotsRead dir) × (used ≡ counted (tracksOf dir) (union (directory dir) i)) × (surveyBy release (tracksOf dir) (directory dir) ≡ scanFrom (slots - i) i (surveyAt release (tracksOf dir) (directory dir))) × FilterLoop dir i filter files × (tracks ≡ tracksOf dir)
 
 abbrev μ-loop : tie.MeasureT-loop
 μ-loop dir release tracks end used₀ filter₀ files₀ i₀ used filter files i = end - i
@@ -57,7 +57,7 @@ unused-requires c κs = search needs
 
 loop-holds : tie.Need-loop-holds Inv-loop μ-loop
 loop-holds c = let n = c .before .before .tracks-of .ensures .0 in
-    (omega arith, used-start _ _ _ (c .unused .ensures ∙ ap (λ (k : ℕ). counted k clear) n), survey-start _ _ _, kept-none _ _ refl, n)
+    (omega arith, used-start _ _ _ (c .unused .ensures ∙ ap (λ (k : ℕ). counted k clearMap) n), survey-start _ _ _, kept-none _ _ refl, n)
 
 slot-at-requires : tie.Need-slot-at-requires Inv-loop μ-loop
 slot-at-requires c κs = search needs
@@ -93,8 +93,8 @@ returns c =
 enum-told : tie.Need-enum-told Inv-loop μ-loop
 enum-told c = search needs
 
-slice-aggregate-note : tie.Need-slice-aggregate-note Inv-loop μ-loop
-slice-aggregate-note c = search needs
+slice-aggregate-insert : tie.Need-slice-aggregate-insert Inv-loop μ-loop
+slice-aggregate-insert c = search needs
 
 name-of-requires : tie.Need-name-of-requires Inv-loop μ-loop
 name-of-requires c κs = search needs
@@ -102,8 +102,8 @@ name-of-requires c κs = search needs
 key-of-requires : tie.Need-key-of-requires Inv-loop μ-loop
 key-of-requires c κs = search needs
 
-note-requires : tie.Need-note-requires Inv-loop μ-loop
-note-requires c κs = search needs
+insert-requires : tie.Need-insert-requires Inv-loop μ-loop
+insert-requires c κs = search needs
 
 add-files : tie.Need-add-files Inv-loop μ-loop
 add-files c =
@@ -136,8 +136,8 @@ loop-again c =
     let e = live y in (
       omega (arith, met l),
       used-more _ _ (a .i) _ (a .inv .1) _ e (c .before .before .map-of .ensures) _ (c .joined .ensures),
-      a .inv .2 ∙ sweep-skip slots (a .i) _ (omega (arith, met l, read-most (now (l .before .before .before .before .before .before .args .dir)))) (passed t),
-      kept-live _ _ _ _ (a .inv .3) _ e (n .before .before .name-of .ensures) (n .before .key-of .ensures) (n .note .ensures),
+      a .inv .2 ∙ scan-skip slots (a .i) _ (omega (arith, met l, read-most (now (l .before .before .before .before .before .before .args .dir)))) (passed t),
+      kept-live _ _ _ _ (a .inv .3) _ e (n .before .before .name-of .ensures) (n .before .key-of .ensures) (n .insert .ensures),
       a .inv .4,
     )
 
@@ -149,7 +149,7 @@ loop-again-2 c =
     let s = c .before .before in
     let a = s .before .before .loop in
     let e = met-dead _ _ (s .slot-at .ensures) (c .before .is-live .ensures) (c .if1 .left) in
-    (omega arith, used-dead _ _ (a .i) _ (a .inv .1) e, a .inv .2 ∙ sweep-skip slots (a .i) _ (omega arith) (survey-dead _ _ _ (a .i) e), kept-dead _ _ _ _ (a .inv .3) e, a .inv .4)
+    (omega arith, used-dead _ _ (a .i) _ (a .inv .1) e, a .inv .2 ∙ scan-skip slots (a .i) _ (omega arith) (survey-dead _ _ _ (a .i) e), kept-dead _ _ _ _ (a .inv .3) e, a .inv .4)
 
 returns-2 : tie.Need-returns-2 Inv-loop μ-loop
 returns-2 c = let a = c .before .loop in pass-ends _ _ _ (a .i) (a .inv .2) (omega arith) (omega arith) refl (a .inv .1) (a .inv .3 .live)
@@ -173,10 +173,10 @@ survey-slots-spec =
     refused-requires
     returns
     enum-told
-    slice-aggregate-note
+    slice-aggregate-insert
     name-of-requires
     key-of-requires
-    note-requires
+    insert-requires
     add-files
     map-of-requires
     count-of-requires

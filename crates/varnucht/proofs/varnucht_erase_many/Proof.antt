@@ -1,5 +1,5 @@
 -- `varnucht::varnucht_erase_many` meets its contract: the answer is packed whole.
-use Rattle.varnucht.proofs.Handfuls.{packed-many}
+use Rattle.varnucht.proofs.EraseMany.{packed-many}
 use borrow.Author.Needs.{needs}
 use Rattle.varnucht.proofs.varnucht_erase_many.Statement.{statement}
 use Rattle.varnucht.proofs.varnucht_erase_many.Tie as tie

@@ -1,6 +1,6 @@
 //! What the ledger answers: the listing, bodies, start addresses, and whether the disk may go out.
 
-use super::{Entry, Ledger};
+use super::{Ledger, LedgerEntry};
 use crate::calls::{Listed, start_address};
 use crate::refusal::{Reason, Refused};
 use crate::slot::{HEADER_BYTES, Slot, sectors_for};
@@ -41,7 +41,7 @@ impl Ledger {
     }
 
     /// A file that can be read, and the length of its body.
-    fn readable(&self, name: &[u8]) -> Result<(Slot<'_>, &Entry, usize), Refused> {
+    fn readable(&self, name: &[u8]) -> Result<(Slot<'_>, &LedgerEntry, usize), Refused> {
         let (number, entry) = self.named(name)?;
         let slot = entry.as_slot(number);
         if is_spectrum(&slot) {
@@ -54,7 +54,7 @@ impl Ledger {
     }
 }
 
-impl Entry {
+impl LedgerEntry {
     /// A number of the nine bytes before the body, low byte first.
     fn two_bytes(&self, at: usize) -> u16 {
         u16::from_le_bytes([self.payload[at], self.payload[at + 1]])

@@ -2,13 +2,13 @@
 //! it: there is no image, there are no links, and nothing is written in an order.
 //!
 //! - `answers`: listing, reading, start addresses, the check before a release
-//! - `folders`: what lies beneath a directory
+//! - `directories`: what lies beneath a directory
 //! - `refusals`: what each change is refused, but for 20 and 30
 //! - `entering`: what each change enters
 
 mod answers;
+mod directories;
 mod entering;
-mod folders;
 mod refusals;
 
 pub use refusals::{Change, Mark};
@@ -17,14 +17,14 @@ use crate::check::survey;
 use crate::extent::Extent;
 use crate::geometry::{Address, Image, MAP_BITS, PAYLOAD_BYTES, SLOT_BYTES, sector, whole};
 use crate::map::Map;
-use crate::name::{Name, asked, folded};
+use crate::name::{Name, asked_name, folded};
 use crate::refusal::{Reason, Refused};
 use crate::save::KEPT;
 use crate::slot::{Slot, live_slots};
 
 /// A slot that holds a file.
 #[derive(Clone, Debug, PartialEq, Eq)]
-struct Entry {
+struct LedgerEntry {
     /// Its 256 bytes.
     slot: [u8; SLOT_BYTES],
     /// The payload of the file, 510 bytes to a sector, in the order of its chain.
@@ -40,7 +40,7 @@ pub struct Ledger {
     /// The bytes of slot 1 that a save keeps; the others are 0.
     label: [u8; SLOT_BYTES],
     /// From slot 1 on: no file, or an entry.
-    entries: Vec<Option<Entry>>,
+    entries: Vec<Option<LedgerEntry>>,
 }
 
 impl Ledger {
@@ -54,7 +54,7 @@ impl Ledger {
         }
         let mut entries = vec![None; extent.slots().into()];
         for slot in live_slots(image, extent) {
-            entries[usize::from(slot.number) - 1] = Some(Entry::of(image, &slot));
+            entries[usize::from(slot.number) - 1] = Some(LedgerEntry::of(image, &slot));
         }
         Ok(Ledger { extent, label, entries })
     }
@@ -80,7 +80,7 @@ impl Ledger {
     }
 
     /// The entries with the numbers of their slots, rising.
-    fn numbered(&self) -> impl Iterator<Item = (u16, &Entry)> {
+    fn numbered(&self) -> impl Iterator<Item = (u16, &LedgerEntry)> {
         (1..)
             .zip(&self.entries)
             .filter_map(|(number, entry)| Some((number, entry.as_ref()?)))
@@ -97,15 +97,15 @@ impl Ledger {
     }
 
     /// The slot of that name, capitals or not.
-    fn find(&self, name: &Name) -> Option<(u16, &Entry)> {
+    fn find(&self, name: &Name) -> Option<(u16, &LedgerEntry)> {
         let name = folded(name);
         self.numbered()
             .find(|(number, entry)| folded(entry.as_slot(*number).name()) == name)
     }
 
     /// The same for a name asked for: refusals 12 and 15.
-    fn named(&self, name: &[u8]) -> Result<(u16, &Entry), Refused> {
-        let name = asked(name).ok_or(Reason::NameNotUsable.alone())?;
+    fn named(&self, name: &[u8]) -> Result<(u16, &LedgerEntry), Refused> {
+        let name = asked_name(name).ok_or(Reason::NameNotUsable.alone())?;
         self.find(&name).ok_or(Reason::NoSuchName.alone())
     }
 
@@ -117,9 +117,9 @@ impl Ledger {
     }
 }
 
-impl Entry {
+impl LedgerEntry {
     /// The entry of a live slot of an accepted disk: its payload and its sectors along its links.
-    fn of(image: &Image, slot: &Slot) -> Entry {
+    fn of(image: &Image, slot: &Slot) -> LedgerEntry {
         let (mut payload, mut chain) = (Vec::new(), Vec::new());
         let mut here = slot.first();
         while chain.len() < slot.count()
@@ -130,7 +130,7 @@ impl Entry {
             chain.push(bit);
             here = Address::link(bytes);
         }
-        Entry {
+        LedgerEntry {
             slot: *slot.bytes,
             payload,
             chain,

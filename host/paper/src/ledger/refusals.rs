@@ -1,18 +1,18 @@
 //! What each change is refused by the ledger: every number but 20 and 30.
 
-use super::{Entry, Ledger};
+use super::{Ledger, LedgerEntry};
 use crate::calls::start_address;
 use crate::geometry::MAP_BITS;
-use crate::name::{asked, fresh};
+use crate::name::{asked_name, new_name};
 use crate::refusal::{Reason, Refused};
-use crate::save::Wish;
+use crate::save::SaveRequest;
 use crate::slot::{HIDDEN, PROTECTED, is_carried, sectors_for};
 use std::ops::Range;
 
 /// A change that is entered as a whole.
 #[derive(Clone, Copy, Debug)]
 pub enum Change<'a> {
-    Save(Wish<'a>),
+    Save(SaveRequest<'a>),
     Erase(&'a [u8]),
     Rename(&'a [u8], &'a [u8]),
     Mark(Mark, &'a [u8]),
@@ -43,7 +43,7 @@ impl Ledger {
     /// Whether a change is refused, and by what.
     pub fn refuses(&self, change: &Change) -> Result<(), Refused> {
         match *change {
-            Change::Save(ref wish) => self.refuses_save(wish, wish.body.len()),
+            Change::Save(ref request) => self.refuses_save(request, request.body.len()),
             Change::Erase(name) => self.refuses_erase(name),
             Change::Rename(name, new) => self.refuses_rename(name, new),
             Change::Mark(_, name) => self.named(name).map(|_| ()),
@@ -53,12 +53,12 @@ impl Ledger {
 
     /// A save's, for a body of this length: 12, 13, 14, 16, 18, 19. A recording is opened with a body of none, and closed with
     /// the joined pieces.
-    pub fn refuses_save(&self, wish: &Wish, length: usize) -> Result<(), Refused> {
-        let name = fresh(wish.name).ok_or(Reason::NameNotUsable.alone())?;
-        if !is_carried(wish.kind) {
+    pub fn refuses_save(&self, request: &SaveRequest, length: usize) -> Result<(), Refused> {
+        let name = new_name(request.name).ok_or(Reason::NameNotUsable.alone())?;
+        if !is_carried(request.kind) {
             return Err(Reason::WrongKind.alone());
         }
-        if start_address(wish.page, wish.offset).is_none() {
+        if start_address(request.page, request.offset).is_none() {
             return Err(Reason::AddressOutOfRange.alone());
         }
         if let Some((taken, _)) = self.find(&name) {
@@ -78,7 +78,7 @@ impl Ledger {
         Ok(())
     }
 
-    /// Refusal 23, and no other for the whole of a handful.
+    /// Refusal 23, and no other for the whole of an erase of many files.
     pub fn refuses_many(&self, names: &[u8]) -> Result<(), Refused> {
         if !names.len().is_multiple_of(10) {
             return Err(Reason::NamesNotTens.alone());
@@ -100,7 +100,7 @@ impl Ledger {
 
     /// A rename that alters only the case of its own name is allowed; one to the stored bytes is not.
     fn refuses_rename(&self, name: &[u8], new: &[u8]) -> Result<(), Refused> {
-        let (Some(_), Some(new)) = (asked(name), fresh(new)) else {
+        let (Some(_), Some(new)) = (asked_name(name), new_name(new)) else {
             return Err(Reason::NameNotUsable.alone());
         };
         let (number, entry) = self.named(name)?;
@@ -128,14 +128,14 @@ impl Ledger {
     }
 
     /// The lowest run of free map bits that are as many as the file's sectors, which are not free themselves.
-    pub(super) fn run_for(&self, entry: &Entry) -> Option<Range<usize>> {
+    pub(super) fn run_for(&self, entry: &LedgerEntry) -> Option<Range<usize>> {
         let (used, many) = (self.used(), entry.chain.len());
         let runs = (0..=MAP_BITS - many).map(|first| first..first + many);
         runs.into_iter().find(|run| !run.clone().any(|bit| used.has(bit)))
     }
 }
 
-impl Entry {
+impl LedgerEntry {
     /// Whether it is not on consecutive bits in rising order.
     pub(super) fn must_move(&self) -> bool {
         self.chain.windows(2).any(|pair| pair[1] != pair[0] + 1)

@@ -1,9 +1,9 @@
-//! Small helps for the tests: disks, wishes, places.
+//! Small helps for the tests: disks, requests, places.
 #![allow(dead_code)]
 
 pub mod recording;
 
-use paper::{Refused, Wish};
+use paper::{Refused, SaveRequest};
 
 pub const IMAGE: usize = 819_200;
 
@@ -23,9 +23,9 @@ pub fn blank_with(extra: u8) -> Vec<u8> {
     image
 }
 
-/// A wish that nothing stands against on a blank disk.
-pub fn wish<'a>(name: &'a [u8], body: &'a [u8]) -> Wish<'a> {
-    Wish {
+/// A request that nothing stands against on a blank disk.
+pub fn request<'a>(name: &'a [u8], body: &'a [u8]) -> SaveRequest<'a> {
+    SaveRequest {
         kind: 19,
         name,
         page: 29,
@@ -43,7 +43,7 @@ pub fn body(length: usize) -> Vec<u8> {
 
 pub fn put(image: &mut [u8], name: &[u8], length: usize) -> Vec<usize> {
     let mut list = vec![0; 2 * 1_562];
-    let count = paper::save(image, &wish(name, &body(length)), &mut list).expect("there is room");
+    let count = paper::save(image, &request(name, &body(length)), &mut list).expect("there is room");
     numbers(&list[..2 * count])
 }
 

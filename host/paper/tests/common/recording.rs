@@ -7,19 +7,19 @@ use paper::{RECORD_BYTES, Refused, record_add, record_close, record_open};
 const LIST: usize = 3_116;
 
 /// A recording, and the disk that it is on.
-pub struct Take {
+pub struct TestRecording {
     pub image: Vec<u8>,
     pub record: Vec<u8>,
     /// What the calls named.
     pub named: Vec<usize>,
 }
 
-impl Take {
-    pub fn open(image: &[u8], name: &[u8]) -> Take {
+impl TestRecording {
+    pub fn open(image: &[u8], name: &[u8]) -> TestRecording {
         let mut record = vec![0x5c; RECORD_BYTES + 3];
-        assert_eq!(record_open(image, &wish(name, b"not looked at"), &mut record), Ok(()));
+        assert_eq!(record_open(image, &request(name, b"not looked at"), &mut record), Ok(()));
         assert_eq!(record[RECORD_BYTES..], [0x5c; 3], "the rest stays");
-        Take {
+        TestRecording {
             image: image.to_vec(),
             record,
             named: Vec::new(),

@@ -7,7 +7,7 @@ use crate::support::geometry::{IMAGE, SLOT};
 
 static BLANK: [u8; IMAGE] = [0; IMAGE];
 
-/// Numbers that are a good one only if high bits are dropped.
+/// Numbers that are an accepted one only if high bits are dropped.
 const HIGH: [u32; 5] = [1 << 8, 1 << 16, 1 << 24, 1 << 31, u32::MAX - 255];
 
 #[test]

@@ -2,27 +2,27 @@
 //! past the gap, and what a save into slot 1 keeps.
 
 use super::{expect, save};
-use crate::support::asking::Asked;
 use crate::support::calls::{self, BODY, CALLS, Call, NAME, NEW, OUT};
-use crate::support::disks::{self, Disk};
+use crate::support::disks::{self, DrawnDisk};
 use crate::support::fields;
 use crate::support::geometry::{
     BITS, EXTRA, IMAGE, SECTOR, SLOT, address, bit_place, data, fills, is_data, number, slot_place, slot_sector, slots,
 };
 use crate::support::random::Random;
-use crate::support::shapes::{Ground, Order, Shape};
+use crate::support::requests::OwnedRequest;
+use crate::support::shapes::{Background, Order, Shape};
 
 /// The numbers of tracks beyond four that are tried one by one where all would take long.
 const EXTRAS: [usize; 7] = [0, 1, 2, 3, 16, 34, 35];
 
 /// A disk with a file of so many sectors in each of its first slots, the highest bits first, and the end behind them.
-fn filled(extra: usize, files: usize, sectors: usize) -> Disk {
+fn filled(extra: usize, files: usize, sectors: usize) -> DrawnDisk {
     let shape = Shape {
         extra,
         files: (1..=files).map(|slot| (slot, sectors)).collect(),
         end: Some(files + 1).filter(|&end| end <= slots(extra)),
         order: Order::Falling,
-        ground: Ground::Rubbish,
+        background: Background::Rubbish,
         tidy: true,
     };
     disks::of_shape(&shape, &mut Random::new((1_000 * extra + files) as u64))
@@ -31,13 +31,17 @@ fn filled(extra: usize, files: usize, sectors: usize) -> Disk {
 /// Every call that checks the disk gives this number at this slot, whatever else it is asked.
 fn all_refuse(image: &[u8], number: u8, slot: usize) {
     for call in CALLS.into_iter().filter(|call| !call.is_raw()) {
-        assert_eq!(calls::slot(expect(&Asked::new(call), image, number).answer), slot, "{call:?}");
+        assert_eq!(
+            calls::slot(expect(&OwnedRequest::new(call), image, number).answer),
+            slot,
+            "{call:?}"
+        );
     }
 }
 
 /// How many files are listed and how many sectors are free.
 fn listed(image: &[u8], files: usize) -> (usize, usize) {
-    let left = expect(&Asked::new(Call::List).with(OUT, vec![0x5c; 258 * files]), image, 0);
+    let left = expect(&OwnedRequest::new(Call::List).with(OUT, vec![0x5c; 258 * files]), image, 0);
     (calls::value(left.answer), calls::free(left.answer))
 }
 
@@ -61,7 +65,7 @@ fn every_number_of_tracks() {
                 36..=254 => all_refuse(&disk.image, 24, 0),
                 _ => {
                     let extra = if byte == 255 { 0 } else { byte.into() };
-                    expect(&Asked::new(Call::Check), &disk.image, 0);
+                    expect(&OwnedRequest::new(Call::Check), &disk.image, 0);
                     assert_eq!(listed(&disk.image, files), (files, data(extra) - files), "{byte}");
                 }
             }
@@ -77,10 +81,10 @@ fn where_24_stands() {
     for byte in [36, 128, 254] {
         image[EXTRA] = byte;
         all_refuse(&image, 24, 0);
-        expect(&Asked::new(Call::Check), &image[..IMAGE - 1], 1);
-        expect(&Asked::new(Call::Sector), &image, 1);
-        expect(&Asked::new(Call::Next), &image, 0);
-        let added = expect(&Asked::new(Call::ReportAdd).with(OUT, vec![0; 496]), &image, 0);
+        expect(&OwnedRequest::new(Call::Check), &image[..IMAGE - 1], 1);
+        expect(&OwnedRequest::new(Call::Sector), &image, 1);
+        expect(&OwnedRequest::new(Call::Next), &image, 0);
+        let added = expect(&OwnedRequest::new(Call::ReportAdd).with(OUT, vec![0; 496]), &image, 0);
         assert_eq!((added.out[4 * 24], added.out[0]), (1, 0), "it is counted by its number");
     }
     image[EXTRA] = 35;
@@ -101,7 +105,7 @@ fn bits_around_the_directory() {
             all_refuse(&disk.image, 5, 2);
             fields::set_count(disk.slot_mut(2), 3);
             if is_data(bit, extra) {
-                expect(&Asked::new(Call::Check), &disk.image, 10);
+                expect(&OwnedRequest::new(Call::Check), &disk.image, 10);
             } else {
                 all_refuse(&disk.image, 6, 2);
             }
@@ -139,7 +143,7 @@ fn counts_at_the_number_of_data_sectors() {
         for count in [data(extra) - 1, data(extra), data(extra) + 1, BITS, BITS + 1] {
             fields::set_count(disk.slot_mut(2), count);
             let number = if count <= data(extra) { 5 } else { 4 };
-            let answer = expect(&Asked::new(Call::Check), &disk.image, number).answer;
+            let answer = expect(&OwnedRequest::new(Call::Check), &disk.image, number).answer;
             assert_eq!(calls::slot(answer), 2);
         }
     }
@@ -192,27 +196,27 @@ fn slots_past_the_gap() {
 }
 
 /// The slot erased: its file is gone, and a save takes the slot and the file's sector.
-fn taken(full: &Disk, slot: usize) {
+fn taken(full: &DrawnDisk, slot: usize) {
     let (name, files) = (full.files[slot - 1].name, full.files.len());
     let mut disk = full.clone();
     disk.slot_mut(slot)[0] &= !fields::PROTECTED;
-    let erase = Asked::new(Call::Erase).with(NAME, name).with(OUT, [0x5c; 2]);
+    let erase = OwnedRequest::new(Call::Erase).with(NAME, name).with(OUT, [0x5c; 2]);
     let left = expect(&erase, &disk.image, 0);
     assert_eq!(sectors_of(&left.out), [slot_sector(slot)]);
     let erased = left.image.expect("accepted");
     assert_eq!(listed(&erased, files), (files - 1, full.free() + 1));
-    expect(&Asked::new(Call::Start).with(NAME, name), &erased, 15);
+    expect(&OwnedRequest::new(Call::Start).with(NAME, name), &erased, 15);
     let left = expect(&save(vec![7; 10]), &erased, 0);
     assert_eq!(sectors_of(&left.out)[1], slot_sector(slot));
     let image = left.image.expect("accepted");
     assert_eq!(&image[slot_place(slot)..][..4], b"\x13new");
-    let rename = Asked::new(Call::Rename).with(NAME, *b"NEW").with(NEW, *b"newer");
+    let rename = OwnedRequest::new(Call::Rename).with(NAME, *b"NEW").with(NEW, *b"newer");
     let left = expect(&rename.with(OUT, [0x5c; 2]), &image, 0);
     assert_eq!(sectors_of(&left.out), [slot_sector(slot)]);
 }
 
 /// The slot without a name: the directory ends there, and a save clears the old name in the next, across the gap too.
-fn ended(full: &Disk, slot: usize) {
+fn ended(full: &DrawnDisk, slot: usize) {
     let mut disk = full.clone();
     disk.slot_mut(slot)[fields::NAME] = 0;
     assert_eq!(listed(&disk.image, slot - 1).0, slot - 1);
@@ -235,7 +239,11 @@ fn ended(full: &Disk, slot: usize) {
 fn the_longest_listing() {
     let disk = filled(35, 778, 1);
     for (length, number) in [(0, 20), (80 * 258, 20), (200_723, 20), (200_724, 0), (200_725, 0)] {
-        let left = expect(&Asked::new(Call::List).with(OUT, vec![0x5c; length]), &disk.image, number);
+        let left = expect(
+            &OwnedRequest::new(Call::List).with(OUT, vec![0x5c; length]),
+            &disk.image,
+            number,
+        );
         if number == 0 {
             assert_eq!((calls::value(left.answer), calls::free(left.answer)), (778, 1_211 - 778));
             assert_eq!(left.out[777 * 258..][..2], [10, 3]);

@@ -1,12 +1,12 @@
 //! The body of a save: at the edges of sectors and pages, at exactly the free room and one above.
 
 use super::{disk, expect, save};
-use crate::support::asking::Asked;
 use crate::support::calls::{self, Call, NAME, OUT};
 use crate::support::facts::Facts;
 use crate::support::geometry::{BITS, IMAGE, fills};
 use crate::support::names;
 use crate::support::random::Random;
+use crate::support::requests::OwnedRequest;
 
 /// Saves and reads back; the sectors named are the data sectors and those of the directory.
 fn takes(image: &[u8], length: usize, sectors: usize) {
@@ -15,7 +15,7 @@ fn takes(image: &[u8], length: usize, sectors: usize) {
     let directory = Facts::of(image).directory_sectors().len();
     assert_eq!(calls::value(left.answer), sectors + directory, "a body of {length} bytes");
     let image = left.image.expect("accepted");
-    let read = Asked::new(Call::Read).with(NAME, *b"new").with(OUT, vec![0; length]);
+    let read = OwnedRequest::new(Call::Read).with(NAME, *b"new").with(OUT, vec![0; length]);
     let left = expect(&read, &image, 0);
     assert!(
         calls::value(left.answer) == length && left.out == body,

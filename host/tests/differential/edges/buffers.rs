@@ -1,10 +1,10 @@
 //! Lent output buffers: one byte too short, just long enough, longer.
 
 use super::{disk, expect, save};
-use crate::support::asking::Asked;
 use crate::support::calls::{self, CHANGES, Call, NAME, NEW, OUT};
 use crate::support::fields;
 use crate::support::geometry::{BITS, IMAGE, sectors_for};
+use crate::support::requests::OwnedRequest;
 
 #[test]
 fn listings() {
@@ -25,7 +25,7 @@ fn listings() {
             need + 258,
             30_000,
         ] {
-            let asked = Asked::new(Call::List).with(OUT, vec![0x5c; length]);
+            let asked = OwnedRequest::new(Call::List).with(OUT, vec![0x5c; length]);
             let left = expect(&asked, &disk.image, if length < need { 20 } else { 0 });
             assert_eq!(calls::value(left.answer), if length < need { 0 } else { files });
         }
@@ -41,7 +41,9 @@ fn bodies_read() {
             .expect("one is found");
         let (file, need) = (&disk.files[0], disk.files[0].body.len());
         for length in [0, 1, need / 2, need - 1, need, need + 1, need + 512] {
-            let asked = Asked::new(Call::Read).with(NAME, file.name).with(OUT, vec![0x5c; length]);
+            let asked = OwnedRequest::new(Call::Read)
+                .with(NAME, file.name)
+                .with(OUT, vec![0x5c; length]);
             let left = expect(&asked, &disk.image, if length < need { 20 } else { 0 });
             let read = if length < need { 0 } else { need };
             assert!(left.out[..read] == file.body[..read] && left.out[read..].iter().all(|&byte| byte == 0x5c));
@@ -91,7 +93,7 @@ fn lists_of_other_changes() {
     // A save and a gather name data sectors too; `gather` has the lists of the latter.
     for call in CHANGES.into_iter().filter(|call| !matches!(call, Call::Save | Call::Gather)) {
         for length in [0, 1, 2, 3, 4, 5, 3_000] {
-            let mut asked = Asked::new(call).with(NAME, name).with(OUT, vec![0x5c; length]);
+            let mut asked = OwnedRequest::new(call).with(NAME, name).with(OUT, vec![0x5c; length]);
             if call == Call::Rename {
                 asked = asked.with(NEW, *b"other name");
             }

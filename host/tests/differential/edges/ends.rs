@@ -1,13 +1,13 @@
 //! Where the directory ends (document 02, M-103): each end beside each fault behind it, and saves into the end.
 
 use super::{expect, release, save};
-use crate::support::asking::Asked;
 use crate::support::calls::{self, CALLS, Call, NAME, OUT};
-use crate::support::disks::{self, Disk};
+use crate::support::disks::{self, DrawnDisk};
 use crate::support::fields;
 use crate::support::geometry::{BITS, EXTRA, SECTOR, SLOT, SLOTS, fills, slot_place, slot_sector};
 use crate::support::random::Random;
-use crate::support::shapes::{Ground, Order, Shape};
+use crate::support::requests::OwnedRequest;
+use crate::support::shapes::{Background, Order, Shape};
 
 /// The first slot, those around the edge of a sector, those around the edge of each track, and the last.
 const ENDS: [usize; 12] = [1, 2, 3, 4, 19, 20, 21, 22, 41, 60, 79, 80];
@@ -16,15 +16,15 @@ const ENDS: [usize; 12] = [1, 2, 3, 4, 19, 20, 21, 22, 41, 60, 79, 80];
 const BYTES_0: [u8; 4] = [0, 19, 63, 255];
 
 /// A disk whose slots up to this one all have files of two sectors, none of them waste, and no end; the last is carried.
-fn full_to(last: usize) -> Disk {
-    let fits = |disk: &Disk| fields::is_carried(disk.files[last - 1].kind);
+fn full_to(last: usize) -> DrawnDisk {
+    let fits = |disk: &DrawnDisk| fields::is_carried(disk.files[last - 1].kind);
     let drawn = (0..).map(|seed| {
         let shape = Shape {
             extra: 0,
             files: (1..=last).map(|slot| (slot, 2)).collect(),
             end: None,
             order: Order::Scattered,
-            ground: Ground::Rubbish,
+            background: Background::Rubbish,
             tidy: true,
         };
         disks::of_shape(&shape, &mut Random::new(700 + seed))
@@ -33,10 +33,10 @@ fn full_to(last: usize) -> Disk {
 }
 
 /// Every number that a slot can give, with what brings it about in the last file of a disk, beside the file before it.
-fn spoil(disk: &mut Disk, number: u8) {
-    let [twin, bad] = disk.files.last_chunk().expect("two files").clone();
+fn spoil(disk: &mut DrawnDisk, number: u8) {
+    let [twin, faulty] = disk.files.last_chunk().expect("two files").clone();
     let like = disk.slot(twin.slot).to_vec();
-    let slot = disk.slot_mut(bad.slot);
+    let slot = disk.slot_mut(faulty.slot);
     match number {
         2 => slot[0] = 13,
         4 => fields::set_count(slot, BITS + 1),
@@ -45,13 +45,13 @@ fn spoil(disk: &mut Disk, number: u8) {
         7 => slot[fields::PAGES] = 255,
         8 => slot[fields::COUNT..fields::INFO].copy_from_slice(&like[fields::COUNT..fields::INFO]),
         9 => slot[fields::NAME..fields::COUNT].copy_from_slice(&like[fields::NAME..fields::COUNT]),
-        10 => disk.link(bad.chain[1], [4, 1]),
+        10 => disk.link(faulty.chain[1], [4, 1]),
         22 => release::set_length(disk, disk.files.len() - 1, 501),
         25 => {
             slot[0] = 4;
-            disk.sector_mut(bad.chain[0])[1..3].fill(255);
+            disk.sector_mut(faulty.chain[0])[1..3].fill(255);
         }
-        _ => disk.sector_mut(bad.chain[0])[0] ^= 1,
+        _ => disk.sector_mut(faulty.chain[0])[0] ^= 1,
     }
 }
 
@@ -60,17 +60,20 @@ fn spoil(disk: &mut Disk, number: u8) {
 #[test]
 fn faults_behind_the_end() {
     for end in ENDS.into_iter().filter(|&end| end < SLOTS) {
-        let bad = (end + 2).min(SLOTS);
-        let drawn = full_to(bad);
+        let faulty = (end + 2).min(SLOTS);
+        let drawn = full_to(faulty);
         for number in [2, 4, 5, 6, 7, 8, 9, 10, 11, 22, 25] {
             let mut disk = drawn.clone();
             spoil(&mut disk, number);
             disk.slot_mut(end)[0] = 0;
             // The last slot has no file between it and the end that it could be like.
-            if bad == end + 2 || !matches!(number, 8 | 9) {
+            if faulty == end + 2 || !matches!(number, 8 | 9) {
                 let refuses = |call: &Call| !call.is_raw() && (number != 22 || *call == Call::CheckRelease);
                 for call in CALLS.into_iter().filter(refuses) {
-                    assert_eq!(calls::slot(expect(&Asked::new(call), &disk.image, number).answer), bad);
+                    assert_eq!(
+                        calls::slot(expect(&OwnedRequest::new(call), &disk.image, number).answer),
+                        faulty
+                    );
                 }
             }
             for byte_0 in BYTES_0 {
@@ -83,14 +86,18 @@ fn faults_behind_the_end() {
 
 /// No call refuses the disk; the listing has the files before this slot and nothing else; a name that stands behind it is not
 /// found.
-fn ends_at(disk: &Disk, end: usize) {
-    expect(&Asked::new(Call::Check), &disk.image, 0);
-    expect(&Asked::new(Call::CheckRelease), &disk.image, 0);
+fn ends_at(disk: &DrawnDisk, end: usize) {
+    expect(&OwnedRequest::new(Call::Check), &disk.image, 0);
+    expect(&OwnedRequest::new(Call::CheckRelease), &disk.image, 0);
     for call in CALLS.into_iter().filter(|call| call.needs_name()) {
-        expect(&Asked::new(call), &disk.image, 12);
+        expect(&OwnedRequest::new(call), &disk.image, 12);
     }
     let files = end - 1;
-    let left = expect(&Asked::new(Call::List).with(OUT, vec![0x5c; 258 * files]), &disk.image, 0);
+    let left = expect(
+        &OwnedRequest::new(Call::List).with(OUT, vec![0x5c; 258 * files]),
+        &disk.image,
+        0,
+    );
     assert_eq!(
         (calls::value(left.answer), calls::free(left.answer)),
         (files, BITS - 2 * files)
@@ -98,7 +105,7 @@ fn ends_at(disk: &Disk, end: usize) {
     let behind = disk.files.iter().filter(|file| file.slot >= end);
     for name in behind.map(|file| file.name).filter(|name| name[0] != 0) {
         if disk.files[..files].iter().all(|file| file.name != name) {
-            expect(&Asked::new(Call::Start).with(NAME, name), &disk.image, 15);
+            expect(&OwnedRequest::new(Call::Start).with(NAME, name), &disk.image, 15);
         }
     }
 }
@@ -121,7 +128,7 @@ fn rubbish_from_the_end_on() {
 #[derive(Clone, Copy, PartialEq)]
 enum Next {
     /// A live slot's byte 0 and a name.
-    Live,
+    LiveSlot,
     /// A name behind a byte 0 that is 0 already.
     Erased,
     /// No name: the directory ends there too.
@@ -129,7 +136,7 @@ enum Next {
 }
 
 /// A disk with files before the end and old bytes from it on.
-fn ending(end: usize, byte_0: u8, next: Next) -> Disk {
+fn ending(end: usize, byte_0: u8, next: Next) -> DrawnDisk {
     let mut disk = full_to(end);
     disk.files.truncate(end - 1);
     for slot in end..=SLOTS {
@@ -139,7 +146,7 @@ fn ending(end: usize, byte_0: u8, next: Next) -> Disk {
     disk.image[EXTRA] = 255;
     if end < SLOTS {
         let bytes = match next {
-            Next::Live => [19, b'X'],
+            Next::LiveSlot => [19, b'X'],
             Next::Erased => [0, b'X'],
             Next::Nameless => [19, 0],
         };
@@ -153,7 +160,7 @@ fn ending(end: usize, byte_0: u8, next: Next) -> Disk {
 #[test]
 fn saves_into_the_end() {
     for end in ENDS {
-        for next in [Next::Live, Next::Erased, Next::Nameless] {
+        for next in [Next::LiveSlot, Next::Erased, Next::Nameless] {
             for byte_0 in BYTES_0 {
                 let disk = ending(end, byte_0, next);
                 let cleared = (end < SLOTS && next != Next::Nameless).then_some(end + 1);
@@ -172,7 +179,7 @@ fn saves_into_the_end() {
                 assert_eq!((named[3..].to_vec(), left.out[need]), (directory, 0x5c), "end {end}");
                 let image = left.image.expect("accepted");
                 only_these_change(&disk, &image, end, cleared, &named[..3]);
-                let listing = Asked::new(Call::List).with(OUT, vec![0; 258 * end]);
+                let listing = OwnedRequest::new(Call::List).with(OUT, vec![0; 258 * end]);
                 assert_eq!(calls::value(expect(&listing, &image, 0).answer), end);
             }
         }
@@ -180,7 +187,7 @@ fn saves_into_the_end() {
 }
 
 /// The saved slot, two bytes of the next, and the data sectors named.
-fn only_these_change(disk: &Disk, image: &[u8], slot: usize, cleared: Option<usize>, data: &[usize]) {
+fn only_these_change(disk: &DrawnDisk, image: &[u8], slot: usize, cleared: Option<usize>, data: &[usize]) {
     let mut expected = disk.image.clone();
     let mut copy = |from: usize, length: usize| expected[from..from + length].copy_from_slice(&image[from..from + length]);
     copy(slot_place(slot), SLOT);
@@ -196,7 +203,7 @@ fn only_these_change(disk: &Disk, image: &[u8], slot: usize, cleared: Option<usi
 fn saves_into_erased_slots_before_the_end() {
     for end in ENDS.into_iter().filter(|&end| end > 1) {
         for erased in [1, end / 2, end - 1].into_iter().filter(|&slot| slot > 0) {
-            let mut disk = ending(end, 63, Next::Live);
+            let mut disk = ending(end, 63, Next::LiveSlot);
             disk.slot_mut(erased)[0] = 0;
             let left = expect(&save(vec![7; 10]).with(OUT, [0x5c; 4]), &disk.image, 0);
             assert_eq!(calls::value(left.answer), 2);
@@ -225,7 +232,7 @@ fn no_slot_is_left() {
 /// Rows that hold together with an end: 18 never, 19 and 20 as ever.
 #[test]
 fn an_end_with_no_room() {
-    let mut disk = ending(2, 19, Next::Live);
+    let mut disk = ending(2, 19, Next::LiveSlot);
     expect(&save(vec![7; fills(BITS)]), &disk.image, 19);
     expect(&save(vec![7; fills(BITS - 2) + 1]), &disk.image, 19);
     let most = || save(vec![7; fills(BITS - 2)]);

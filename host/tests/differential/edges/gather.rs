@@ -1,17 +1,17 @@
 //! Gathering: document 02, M-112.
 
 use super::expect;
-use crate::support::asking::Asked;
 use crate::support::calls::{self, Call, NAME, OUT};
-use crate::support::compare::Left;
-use crate::support::disks::{Disk, File};
+use crate::support::compare::Returned;
+use crate::support::disks::{DrawnDisk, DrawnFile};
 use crate::support::fields;
 use crate::support::gathers;
 use crate::support::geometry::{BITS, IMAGE, SECTOR, address, bit_place, number, slot_place, slot_sector};
 use crate::support::random::Random;
+use crate::support::requests::OwnedRequest;
 
 /// A disk with a file for each of these chains, in slots 1 on; the first is gathered.
-fn disk(extra: usize, chains: &[Vec<usize>]) -> Disk {
+fn disk(extra: usize, chains: &[Vec<usize>]) -> DrawnDisk {
     gathers::disk(extra, chains, &mut Random::new(20_000_000 + chains.len() as u64))
 }
 
@@ -23,12 +23,14 @@ fn falling(from: usize, to: usize) -> Vec<usize> {
     (from..to).rev().collect()
 }
 
-fn gather(file: &File, room: usize) -> Asked {
-    Asked::new(Call::Gather).with(NAME, file.name).with(OUT, vec![0x5c; room])
+fn gather(file: &DrawnFile, room: usize) -> OwnedRequest {
+    OwnedRequest::new(Call::Gather)
+        .with(NAME, file.name)
+        .with(OUT, vec![0x5c; room])
 }
 
 /// The file goes to the run that begins at this bit, and its bytes with it. Gives what is left.
-fn moves(disk: &Disk, i: usize, start: usize) -> Left {
+fn moves(disk: &DrawnDisk, i: usize, start: usize) -> Returned {
     let file = &disk.files[i];
     let count = file.chain.len();
     let left = expect(&gather(file, 2 * (count + 1) + 3), &disk.image, 0);
@@ -51,7 +53,7 @@ fn moves(disk: &Disk, i: usize, start: usize) -> Left {
 }
 
 /// Nothing is changed, whatever the room in the list, and the answer is this refusal, slot 0; 0: it is left.
-fn stays(disk: &Disk, i: usize, refused: u8) {
+fn stays(disk: &DrawnDisk, i: usize, refused: u8) {
     let file = &disk.files[i];
     for room in [0, 1, 2 * (file.chain.len() + 1), 3_124] {
         let left = expect(&gather(file, room), &disk.image, refused);
@@ -172,7 +174,7 @@ fn lists() {
 #[test]
 fn refusals_in_their_order() {
     let disk = disk(0, &[falling(0, 800), vec![1_000, 900]]);
-    let ask = |name: &[u8], room: usize| Asked::new(Call::Gather).with(NAME, name).with(OUT, vec![0x5c; room]);
+    let ask = |name: &[u8], room: usize| OwnedRequest::new(Call::Gather).with(NAME, name).with(OUT, vec![0x5c; room]);
     for name in [&b""[..], b"\0name", b"eleven byte"] {
         expect(&ask(name, 0), &disk.image, 12);
     }
@@ -263,7 +265,7 @@ fn kinds_and_marks() {
             let name = disk.files[0].name;
             let new = moves(&disk, 0, 0).image.expect("accepted");
             for call in [Call::Read, Call::Start] {
-                let mut asked = Asked::new(call).with(NAME, name);
+                let mut asked = OwnedRequest::new(call).with(NAME, name);
                 if call == Call::Read {
                     asked = asked.with(OUT, vec![0x5c; 9]);
                 }

@@ -2,11 +2,11 @@
 
 use super::names::{ASKING, asking, named};
 use super::{expect, save};
-use crate::support::asking::Asked;
 use crate::support::calls::{self, Call, NAME, NEW, OUT};
-use crate::support::disks::Disk;
+use crate::support::disks::DrawnDisk;
 use crate::support::fields;
 use crate::support::geometry::slot_place;
+use crate::support::requests::OwnedRequest;
 
 /// The letters at the ends of the alphabet and what stands beside them, each with what stands 32 away; and a byte that is a
 /// letter in its low seven bits alone.
@@ -29,7 +29,7 @@ fn with(byte: u8, at: usize) -> [u8; 10] {
 }
 
 /// The places of a file's name bytes in the image.
-fn name_of(disk: &mut Disk, index: usize) -> &mut [u8] {
+fn name_of(disk: &mut DrawnDisk, index: usize) -> &mut [u8] {
     let slot = disk.files[index].slot;
     &mut disk.slot_mut(slot)[fields::NAME..fields::COUNT]
 }
@@ -101,7 +101,7 @@ fn stored_twice() {
                 let mut disk = named(&with(0x7f, at));
                 name_of(&mut disk, 1).copy_from_slice(&with(first, at));
                 name_of(&mut disk, 3).copy_from_slice(&with(second, at));
-                let answer = expect(&Asked::new(Call::Check), &disk.image, if same { 9 } else { 0 }).answer;
+                let answer = expect(&OwnedRequest::new(Call::Check), &disk.image, if same { 9 } else { 0 }).answer;
                 assert_eq!(calls::slot(answer), if same { disk.files[3].slot } else { 0 });
             }
         }
@@ -120,7 +120,7 @@ fn new_names_taken() {
                 .position(|file| &file.name != b"file      ")
                 .expect("another");
             name_of(&mut disk, taken).copy_from_slice(&with(stored, 4));
-            let rename = Asked::new(Call::Rename).with(NAME, *b"FILE").with(OUT, [0; 2]);
+            let rename = OwnedRequest::new(Call::Rename).with(NAME, *b"FILE").with(OUT, [0; 2]);
             for asked in [save(vec![7]).with(NAME, with(given, 4)), rename.with(NEW, with(given, 4))] {
                 let answer = expect(&asked, &disk.image, if same { 16 } else { 0 }).answer;
                 assert_eq!(calls::slot(answer), if same { disk.files[taken].slot } else { 0 });
@@ -140,7 +140,12 @@ fn renames_of_case_alone() {
         .find(|file| &file.name == b"My Tunes 1")
         .expect("it is there")
         .slot;
-    let rename = |name: &[u8], new: &[u8]| Asked::new(Call::Rename).with(NAME, name).with(NEW, new).with(OUT, [0x5c; 2]);
+    let rename = |name: &[u8], new: &[u8]| {
+        OwnedRequest::new(Call::Rename)
+            .with(NAME, name)
+            .with(NEW, new)
+            .with(OUT, [0x5c; 2])
+    };
     for name in [b"My Tunes 1", b"my tunes 1", b"MY TUNES 1"] {
         assert_eq!(
             calls::slot(expect(&rename(name, b"My Tunes 1"), &disk.image, 16).answer),
@@ -160,7 +165,7 @@ fn renames_of_case_alone() {
         expect(&rename(name, b"my tunes 2"), &disk.image, 0);
         expect(&rename(b"my tunes 2", b"my tunes 1"), &disk.image, 15);
     }
-    let short = |new: &[u8]| Asked::new(Call::Rename).with(NAME, *b"my tunes 1").with(NEW, new);
+    let short = |new: &[u8]| OwnedRequest::new(Call::Rename).with(NAME, *b"my tunes 1").with(NEW, new);
     expect(&short(b"My Tunes 1"), &disk.image, 16);
     expect(&short(b"MY TUNES 1"), &disk.image, 20);
     disk.slot_mut(slot)[0] |= fields::PROTECTED;

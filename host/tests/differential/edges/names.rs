@@ -1,10 +1,10 @@
 //! Names asked for and new names: their lengths, their bytes at each place, their spellings, capitals or not.
 
 use super::{disk, expect, save};
-use crate::support::asking::Asked;
 use crate::support::calls::{self, CHANGES, Call, NAME, NEW, OUT};
-use crate::support::disks::Disk;
+use crate::support::disks::DrawnDisk;
 use crate::support::fields;
+use crate::support::requests::OwnedRequest;
 
 /// The calls that ask for a name that is there.
 pub const ASKING: [Call; 9] = [
@@ -20,7 +20,7 @@ pub const ASKING: [Call; 9] = [
 ];
 
 /// A disk with four short files; the first is carried, not protected, starts inside the range and has this name.
-pub fn named(name: &[u8; 10]) -> Disk {
+pub fn named(name: &[u8; 10]) -> DrawnDisk {
     let mut disk = disk(11, 4, 9);
     let file = disk
         .files
@@ -37,8 +37,8 @@ pub fn named(name: &[u8; 10]) -> Disk {
 }
 
 /// One request of this call for a name, with all else such that the name decides.
-pub fn asking(call: Call, name: &[u8]) -> Asked {
-    let asked = Asked::new(call).with(NAME, name);
+pub fn asking(call: Call, name: &[u8]) -> OwnedRequest {
+    let asked = OwnedRequest::new(call).with(NAME, name);
     match call {
         Call::Open | Call::Start => asked,
         Call::Read => asked.with(OUT, vec![0x5c; 6_000]),
@@ -47,7 +47,7 @@ pub fn asking(call: Call, name: &[u8]) -> Asked {
     }
 }
 
-fn asked_for(disk: &Disk, name: &[u8], number: u8) {
+fn asked_for(disk: &DrawnDisk, name: &[u8], number: u8) {
     for call in ASKING {
         expect(&asking(call, name), &disk.image, number);
     }
@@ -107,10 +107,13 @@ fn names_of_any_bytes() {
 }
 
 /// A new name of this call, on a disk that has the name `old`.
-fn new(call: Call, name: &[u8]) -> Asked {
+fn new(call: Call, name: &[u8]) -> OwnedRequest {
     match call {
         Call::Save => save(vec![7; 10]).with(NAME, name),
-        _ => Asked::new(call).with(NAME, *b"old").with(NEW, name).with(OUT, vec![0x5c; 2]),
+        _ => OwnedRequest::new(call)
+            .with(NAME, *b"old")
+            .with(NEW, name)
+            .with(OUT, vec![0x5c; 2]),
     }
 }
 

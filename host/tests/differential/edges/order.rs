@@ -2,23 +2,23 @@
 //! and 25; and nothing from the directory's end on.
 
 use super::expect;
-use crate::support::asking::Asked;
 use crate::support::calls::{self, Call, NAME, NEW, OUT};
-use crate::support::disks::{Disk, File};
+use crate::support::disks::{DrawnDisk, DrawnFile};
 use crate::support::fields;
 use crate::support::geometry::{address, fills};
+use crate::support::requests::OwnedRequest;
 
 /// A disk with three files of five sectors each, all carried and none empty.
-fn disk() -> Disk {
-    let fits = |file: &File| fields::is_carried(file.kind) && file.chain.len() == 5 && !file.body.is_empty();
+fn disk() -> DrawnDisk {
+    let fits = |file: &DrawnFile| fields::is_carried(file.kind) && file.chain.len() == 5 && !file.body.is_empty();
     (40..)
         .map(|seed| super::disk(seed, 3, 15))
         .find(|disk| disk.files.iter().all(fits))
         .expect("one is found")
 }
 
-fn given(disk: &Disk, number: u8, index: usize) {
-    let answer = expect(&Asked::new(Call::Check), &disk.image, number).answer;
+fn given(disk: &DrawnDisk, number: u8, index: usize) {
+    let answer = expect(&OwnedRequest::new(Call::Check), &disk.image, number).answer;
     assert_eq!(calls::slot(answer), if number == 0 { 0 } else { disk.files[index].slot });
 }
 
@@ -32,7 +32,7 @@ fn set_length(slot: &mut [u8], length: usize) {
 fn at_one_slot() {
     let mut disk = disk();
     let (file, earlier) = (disk.files[1].clone(), disk.files[0].clone());
-    let good = disk.slot(file.slot).to_vec();
+    let original = disk.slot(file.slot).to_vec();
     let slot = disk.slot_mut(file.slot);
     slot[0] = 63;
     slot[fields::NAME..fields::COUNT].copy_from_slice(&earlier.name);
@@ -44,18 +44,22 @@ fn at_one_slot() {
     disk.sector_mut(file.chain[0])[0] ^= 1;
     type Mend = fn(&mut [u8], &[u8]);
     let mends: [(u8, Mend); 7] = [
-        (2, |slot, good| slot[0] = good[0]),
+        (2, |slot, original| slot[0] = original[0]),
         (4, |slot, _| fields::set_count(slot, 5)),
         (5, |slot, _| fields::set_count(slot, 6)),
-        (6, |slot, good| slot[fields::FIRST] = good[fields::FIRST]),
-        (7, |slot, good| slot[fields::PAGES..].copy_from_slice(&good[fields::PAGES..])),
-        (8, |slot, good| slot[fields::COUNT..].copy_from_slice(&good[fields::COUNT..])),
-        (9, |slot, good| slot.copy_from_slice(good)),
+        (6, |slot, original| slot[fields::FIRST] = original[fields::FIRST]),
+        (7, |slot, original| {
+            slot[fields::PAGES..].copy_from_slice(&original[fields::PAGES..])
+        }),
+        (8, |slot, original| {
+            slot[fields::COUNT..].copy_from_slice(&original[fields::COUNT..])
+        }),
+        (9, |slot, original| slot.copy_from_slice(original)),
     ];
     for (number, mend) in mends {
         given(&disk, number, 1);
         without_a_name(&disk, file.slot);
-        mend(disk.slot_mut(file.slot), &good);
+        mend(disk.slot_mut(file.slot), &original);
     }
     given(&disk, 10, 1);
     without_a_name(&disk, file.slot);
@@ -67,7 +71,7 @@ fn at_one_slot() {
 }
 
 /// The same disk with a first name byte of 0 in this slot is accepted: the directory ends there.
-fn without_a_name(disk: &Disk, slot: usize) {
+fn without_a_name(disk: &DrawnDisk, slot: usize) {
     let mut ended = disk.clone();
     ended.slot_mut(slot)[fields::NAME] = 0;
     given(&ended, 0, 1);
@@ -109,14 +113,14 @@ fn the_disk_before_the_request() {
             .filter(takes_name)
             .chain([Call::List, Call::EraseMany, Call::RecordAdd, Call::RecordClose])
     {
-        let left = expect(&Asked::new(call), &disk.image, 11);
+        let left = expect(&OwnedRequest::new(call), &disk.image, 11);
         assert_eq!(calls::slot(left.answer), last.slot);
     }
     disk.sector_mut(last.chain[0])[0] ^= 1;
     for call in calls::CALLS.into_iter().filter(|call| call.needs_name()) {
-        expect(&Asked::new(call), &disk.image, 12);
+        expect(&OwnedRequest::new(call), &disk.image, 12);
     }
-    expect(&Asked::new(Call::List), &disk.image, 20);
+    expect(&OwnedRequest::new(Call::List), &disk.image, 20);
 }
 
 /// Rename: all of 12, 15, 16, 17 and 20 that apply, mended one after the other.
@@ -126,7 +130,9 @@ fn rows_of_a_rename() {
     let file = disk.files[1].clone();
     disk.slot_mut(file.slot)[0] |= fields::PROTECTED;
     disk.slot_mut(file.slot)[fields::NAME..fields::COUNT].copy_from_slice(b"old name  ");
-    let mut asked = Asked::new(Call::Rename).with(NAME, *b"not there").with(NEW, *b"old name\n");
+    let mut asked = OwnedRequest::new(Call::Rename)
+        .with(NAME, *b"not there")
+        .with(NEW, *b"old name\n");
     expect(&asked, &disk.image, 12);
     asked = asked.with(NEW, *b"old name");
     expect(&asked, &disk.image, 15);
@@ -145,7 +151,8 @@ fn rows_of_a_rename() {
 fn rows_of_read_open_and_start() {
     let mut disk = disk();
     let file = disk.files[1].clone();
-    let [read, open, start] = [Call::Read, Call::Open, Call::Start].map(|call| Asked::new(call).with(NAME, file.name));
+    let [read, open, start] =
+        [Call::Read, Call::Open, Call::Start].map(|call| OwnedRequest::new(call).with(NAME, file.name));
     disk.slot_mut(file.slot)[fields::OFFSET + 1] = 0;
     let marks = disk.slot(file.slot)[0] & 192;
     disk.slot_mut(file.slot)[0] = marks | 22;

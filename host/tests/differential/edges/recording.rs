@@ -2,15 +2,15 @@
 //! their order.
 
 use super::{expect, save};
-use crate::support::asking::Asked;
 use crate::support::calls::{self, Call, NAME, NEW, OUT, RECORD};
-use crate::support::compare::Left;
+use crate::support::compare::Returned;
 use crate::support::facts::Facts;
 use crate::support::fields;
 use crate::support::geometry::{self, IMAGE, LONGEST, SECTOR, bit_place, fills, slot_place};
 use crate::support::names;
 use crate::support::random::Random;
 use crate::support::recordings::{self, CAME, KIND, LENGTH, OFFSET, OWN_NAME, PAGE, Recording, USED};
+use crate::support::requests::OwnedRequest;
 
 /// A disk of nothing, with this number of directory tracks beyond four.
 fn blank(extra: u8) -> Vec<u8> {
@@ -29,12 +29,12 @@ fn disk(extra: u8, lengths: [usize; 2]) -> Vec<u8> {
 }
 
 /// What an accepted change leaves.
-fn change(asked: Asked, image: &[u8]) -> Vec<u8> {
+fn change(asked: OwnedRequest, image: &[u8]) -> Vec<u8> {
     expect(&asked, image, 0).image.expect("it changes the disk")
 }
 
-fn on_name(call: Call, name: &[u8]) -> Asked {
-    Asked::new(call).with(NAME, name).with(OUT, [0x5c; 2])
+fn on_name(call: Call, name: &[u8]) -> OwnedRequest {
+    OwnedRequest::new(call).with(NAME, name).with(OUT, [0x5c; 2])
 }
 
 /// Opens a recording: the record is what follows from the rule.
@@ -60,7 +60,7 @@ fn add(recording: &mut Recording, piece: &[u8], image: &mut Vec<u8>) -> usize {
     completed.len()
 }
 
-fn listed(left: &Left) -> Vec<usize> {
+fn listed(left: &Returned) -> Vec<usize> {
     let pairs = left.out.chunks(2).take(calls::value(left.answer));
     pairs.map(|pair| usize::from(pair[0]) + 256 * usize::from(pair[1])).collect()
 }
@@ -158,11 +158,11 @@ fn goes_on(recording: &Recording, image: &[u8], body: &[u8]) {
     let added = expect(&recording.add(&[7, 8], 0), image, 0);
     assert_eq!(added.answer, 0);
     let closed = expect(&recording.with(&[7, 8]).close(6), image, 0).image.expect("accepted");
-    let read = Asked::new(Call::Read)
+    let read = OwnedRequest::new(Call::Read)
         .with(NAME, recording.name)
         .with(OUT, vec![0; body.len() + 2]);
     assert!(expect(&read, &closed, 0).out == [body, &[7, 8]].concat());
-    expect(&Asked::new(Call::Check), &closed, 0);
+    expect(&OwnedRequest::new(Call::Check), &closed, 0);
 }
 
 #[test]
@@ -265,7 +265,7 @@ fn rows_of_a_close() {
     let (recording, image) = begun();
     let mut image = change(on_name(Call::Rename, b"B").with(NEW, *b"NEW"), &image);
     let mut asked = recording.close(5);
-    let good = asked.slices[RECORD].clone();
+    let original = asked.slices[RECORD].clone();
     let record = &mut asked.slices[RECORD];
     record[USED] ^= 1;
     (record[OWN_NAME], record[KIND], record[PAGE]) = (31, 21, 32);
@@ -277,16 +277,16 @@ fn rows_of_a_close() {
     expect(&asked, &image, 20);
     asked.slices[RECORD].push(0);
     expect(&asked, &image, 30);
-    asked.slices[RECORD][USED] = good[USED];
+    asked.slices[RECORD][USED] = original[USED];
     expect(&asked, &image, 12);
-    asked.slices[RECORD][OWN_NAME] = good[OWN_NAME];
+    asked.slices[RECORD][OWN_NAME] = original[OWN_NAME];
     expect(&asked, &image, 13);
-    asked.slices[RECORD][KIND] = good[KIND];
+    asked.slices[RECORD][KIND] = original[KIND];
     expect(&asked, &image, 14);
-    asked.slices[RECORD][PAGE] = good[PAGE];
+    asked.slices[RECORD][PAGE] = original[PAGE];
     asked.slices[RECORD][OFFSET + 1] = 0;
     expect(&asked, &image, 14);
-    asked.slices[RECORD][OFFSET + 1] = good[OFFSET + 1];
+    asked.slices[RECORD][OFFSET + 1] = original[OFFSET + 1];
     assert_eq!(calls::slot(expect(&asked, &image, 16).answer), 2);
     let mut image = change(on_name(Call::Rename, b"NEW").with(NEW, *b"B"), &image);
     expect(&asked, &image, 20);

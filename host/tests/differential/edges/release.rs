@@ -1,27 +1,27 @@
 //! The check before a release: a count at the least that the length needs and above it, by kind, and its place in the order.
 
 use super::expect;
-use crate::support::asking::Asked;
 use crate::support::calls::{self, CALLS, Call, NAME, OUT};
-use crate::support::disks::{Disk, File};
+use crate::support::disks::{DrawnDisk, DrawnFile};
 use crate::support::facts::Facts;
 use crate::support::fields;
 use crate::support::geometry::{fills, sectors_for};
 use crate::support::recordings::{self, Recording};
 use crate::support::reports;
+use crate::support::requests::OwnedRequest;
 use crate::support::waste;
 
 /// A disk with three files of five sectors each, all carried, which their bodies need.
-fn disk() -> Disk {
-    let fits = |file: &File| fields::is_carried(file.kind) && file.chain.len() == 5;
-    let tidy = |disk: &Disk| disk.files.iter().all(fits) && waste::lowest(&disk.image).is_none();
+fn disk() -> DrawnDisk {
+    let fits = |file: &DrawnFile| fields::is_carried(file.kind) && file.chain.len() == 5;
+    let tidy = |disk: &DrawnDisk| disk.files.iter().all(fits) && waste::lowest(&disk.image).is_none();
     (40..).map(|seed| super::disk(seed, 3, 15)).find(tidy).expect("one is found")
 }
 
 /// What the two checks give, each with a slot, and that the second is what follows from the first.
-fn given(disk: &Disk, check: (u8, usize), release: (u8, usize)) {
+fn given(disk: &DrawnDisk, check: (u8, usize), release: (u8, usize)) {
     for (call, (number, slot)) in [(Call::Check, check), (Call::CheckRelease, release)] {
-        let answer = expect(&Asked::new(call), &disk.image, number).answer;
+        let answer = expect(&OwnedRequest::new(call), &disk.image, number).answer;
         assert_eq!(calls::slot(answer), slot, "{call:?} gives {number}");
     }
     let first = u64::from(check.0) | (check.1 as u64) << 8;
@@ -32,7 +32,7 @@ fn given(disk: &Disk, check: (u8, usize), release: (u8, usize)) {
 }
 
 /// The length of a file, in its slot and in its header.
-pub fn set_length(disk: &mut Disk, index: usize, length: usize) {
+pub fn set_length(disk: &mut DrawnDisk, index: usize, length: usize) {
     let (slot, first) = (disk.files[index].slot, disk.files[index].chain[0]);
     let (pages, remainder) = ((length / 16_384) as u8, fields::remainder(length, 0xc0));
     let bytes = disk.slot_mut(slot);
@@ -190,26 +190,26 @@ fn other_calls_accept_them() {
     let checks = |call: &Call| !matches!(call, Call::Sector | Call::ReportJoin);
     for call in CALLS.into_iter().filter(checks) {
         let asked = match call {
-            Call::Check | Call::CheckRelease => Asked::new(call),
-            Call::List | Call::Next | Call::Tree => Asked::new(call).with(OUT, vec![0x5c; 1_000]),
-            Call::Open | Call::Start => Asked::new(call).with(NAME, file.name),
-            Call::ReportAdd => Asked::new(call).with(OUT, [0; reports::REPORT]),
+            Call::Check | Call::CheckRelease => OwnedRequest::new(call),
+            Call::List | Call::Next | Call::Tree => OwnedRequest::new(call).with(OUT, vec![0x5c; 1_000]),
+            Call::Open | Call::Start => OwnedRequest::new(call).with(NAME, file.name),
+            Call::ReportAdd => OwnedRequest::new(call).with(OUT, [0; reports::REPORT]),
             Call::Save => super::save(vec![7; 10]),
             Call::RecordOpen => recordings::opening(super::save(Vec::new()), vec![0x5c; recordings::LENGTH]),
             Call::RecordAdd => recording(&disk.image).add(&[7; 10], 0),
             Call::RecordClose => recording(&disk.image).close(8),
-            Call::EraseMany => Asked::new(call)
+            Call::EraseMany => OwnedRequest::new(call)
                 .with(calls::NAMES, file.name)
                 .with(calls::ANSWERS, [0])
                 .with(OUT, [0; 2]),
-            Call::Rename => Asked::new(call)
+            Call::Rename => OwnedRequest::new(call)
                 .with(NAME, file.name)
                 .with(calls::NEW, *b"other")
                 .with(OUT, [0; 2]),
-            Call::Gather => Asked::new(call)
+            Call::Gather => OwnedRequest::new(call)
                 .with(NAME, file.name)
                 .with(OUT, vec![0x5c; 2 * (file.chain.len() + 1)]),
-            _ => Asked::new(call).with(NAME, file.name).with(OUT, [0x5c; 9]),
+            _ => OwnedRequest::new(call).with(NAME, file.name).with(OUT, [0x5c; 9]),
         };
         expect(&asked, &disk.image, if call == Call::CheckRelease { 22 } else { 0 });
     }

@@ -1,21 +1,21 @@
 //! The fields of a slot and the links of a chain, value after value, on one small disk.
 
 use super::expect;
-use crate::support::asking::Asked;
 use crate::support::calls::{self, Call, OUT};
-use crate::support::disks::Disk;
+use crate::support::disks::DrawnDisk;
 use crate::support::fields;
 use crate::support::geometry::{BITS, address, bit_of};
+use crate::support::requests::OwnedRequest;
 
 /// A disk whose second file is carried and has five sectors.
-fn disk() -> Disk {
-    let fits = |disk: &Disk| fields::is_carried(disk.files[1].kind) && disk.files[1].chain.len() == 5;
+fn disk() -> DrawnDisk {
+    let fits = |disk: &DrawnDisk| fields::is_carried(disk.files[1].kind) && disk.files[1].chain.len() == 5;
     (40..).map(|seed| super::disk(seed, 3, 12)).find(fits).expect("one is found")
 }
 
 /// The check gives this number, at the second file's slot.
-fn refused(disk: &Disk, number: u8) {
-    let answer = expect(&Asked::new(Call::Check), &disk.image, number).answer;
+fn refused(disk: &DrawnDisk, number: u8) {
+    let answer = expect(&OwnedRequest::new(Call::Check), &disk.image, number).answer;
     assert_eq!(calls::slot(answer), if number == 0 { 0 } else { disk.files[1].slot });
 }
 
@@ -53,7 +53,7 @@ fn bytes_of_the_name() {
             disk.slot_mut(slot)[fields::NAME + at] = byte;
             refused(&disk, 0);
             // Without a first byte it is no name: the directory ends there.
-            let listing = Asked::new(Call::List).with(OUT, vec![0x5c; 3 * 258]);
+            let listing = OwnedRequest::new(Call::List).with(OUT, vec![0x5c; 3 * 258]);
             let files = calls::value(expect(&listing, &disk.image, 0).answer);
             assert_eq!(files, if at == 0 && byte == 0 { 1 } else { 3 });
         }

@@ -2,15 +2,15 @@
 //! the order.
 
 use super::expect;
-use crate::support::asking::Asked;
 use crate::support::calls::{self, Call, NAME, OUT};
-use crate::support::disks::Disk;
+use crate::support::disks::DrawnDisk;
 use crate::support::fields;
 use crate::support::geometry::{PAYLOAD, bit_place, fills, number};
+use crate::support::requests::OwnedRequest;
 
 /// A disk whose second file has so many sectors and is of this kind, with any header.
-fn disk(kind: u8, sectors: usize) -> Disk {
-    let fits = |disk: &Disk| disk.files[1].chain.len() == sectors;
+fn disk(kind: u8, sectors: usize) -> DrawnDisk {
+    let fits = |disk: &DrawnDisk| disk.files[1].chain.len() == sectors;
     let drawn = (0..).map(|seed| super::disk(seed, 3, sectors + 2)).find(fits);
     let mut disk = drawn.expect("one is found");
     let slot = disk.files[1].slot;
@@ -20,7 +20,7 @@ fn disk(kind: u8, sectors: usize) -> Disk {
 }
 
 /// The length and the start in the header of a file.
-fn head(disk: &mut Disk, index: usize, length: usize, start: usize) {
+fn head(disk: &mut DrawnDisk, index: usize, length: usize, start: usize) {
     let first = disk.files[index].chain[0];
     let sector = disk.sector_mut(first);
     for (at, number) in [(fields::PLUS_D_LENGTH, length), (fields::PLUS_D_START, start)] {
@@ -29,13 +29,13 @@ fn head(disk: &mut Disk, index: usize, length: usize, start: usize) {
 }
 
 /// What the check gives, with its slot.
-fn given(disk: &Disk, number: u8, index: usize) {
-    let answer = expect(&Asked::new(Call::Check), &disk.image, number).answer;
+fn given(disk: &DrawnDisk, number: u8, index: usize) {
+    let answer = expect(&OwnedRequest::new(Call::Check), &disk.image, number).answer;
     assert_eq!(calls::slot(answer), if number == 0 { 0 } else { disk.files[index].slot });
 }
 
 /// The body that a length gives, along the chain that was drawn.
-fn body(disk: &Disk, index: usize, length: usize) -> Vec<u8> {
+fn body(disk: &DrawnDisk, index: usize, length: usize) -> Vec<u8> {
     let chain = disk.files[index].chain.iter();
     let payload: Vec<u8> = chain
         .flat_map(|&bit| &disk.image[bit_place(bit)..][..PAYLOAD])
@@ -45,16 +45,18 @@ fn body(disk: &Disk, index: usize, length: usize) -> Vec<u8> {
 }
 
 /// Read, open and start answer by the header, which fits.
-fn answers(disk: &Disk, index: usize, length: usize, start: usize) {
+fn answers(disk: &DrawnDisk, index: usize, length: usize, start: usize) {
     let file = &disk.files[index];
-    let read = Asked::new(Call::Read).with(NAME, file.name).with(OUT, vec![0x5c; length + 3]);
+    let read = OwnedRequest::new(Call::Read)
+        .with(NAME, file.name)
+        .with(OUT, vec![0x5c; length + 3]);
     let left = expect(&read, &disk.image, 0);
     assert_eq!(calls::value(left.answer), length);
     assert!(left.out == [&body(disk, index, length)[..], &[0x5c; 3]].concat());
-    let open = expect(&Asked::new(Call::Open).with(NAME, file.name), &disk.image, 0).answer;
+    let open = expect(&OwnedRequest::new(Call::Open).with(NAME, file.name), &disk.image, 0).answer;
     let opened = [calls::slot(open), calls::free(open), calls::value(open)];
     assert_eq!(opened, [number(bit_place(file.chain[0])), 9, length]);
-    let started = expect(&Asked::new(Call::Start).with(NAME, file.name), &disk.image, 0).answer;
+    let started = expect(&OwnedRequest::new(Call::Start).with(NAME, file.name), &disk.image, 0).answer;
     assert_eq!(calls::value(started), start);
     if length > 0 {
         expect(&read.with(OUT, vec![0x5c; length - 1]), &disk.image, 20);
@@ -141,7 +143,7 @@ fn by_kind() {
                 (true, false) => answers(&disk, 1, length, 65_535),
                 (false, _) => {
                     for call in [Call::Read, Call::Open, Call::Start] {
-                        let answer = expect(&Asked::new(call).with(NAME, name), &disk.image, 13).answer;
+                        let answer = expect(&OwnedRequest::new(call).with(NAME, name), &disk.image, 13).answer;
                         assert_eq!(calls::slot(answer), slot);
                     }
                 }
@@ -153,7 +155,7 @@ fn by_kind() {
 /// At a slot 25 comes after 10; at two slots the lower decides; and all of 2 to 9 come before it.
 #[test]
 fn in_the_order() {
-    let carried = |disk: &Disk| [0, 2].into_iter().all(|index| fields::is_carried(disk.files[index].kind));
+    let carried = |disk: &DrawnDisk| [0, 2].into_iter().all(|index| fields::is_carried(disk.files[index].kind));
     let drawn = (0..).map(|seed| super::disk(seed, 3, 15));
     let mut disk = drawn
         .filter(|disk| disk.files.iter().all(|file| file.chain.len() == 5))
@@ -203,8 +205,8 @@ fn by_every_call() {
     let mut disk = disk(1, 3);
     head(&mut disk, 1, fills(3) + 1, 0);
     for call in calls::CALLS.into_iter().filter(|call| !call.is_raw()) {
-        // The request itself is bad too, which is looked at later.
-        let answer = expect(&Asked::new(call), &disk.image, 25).answer;
+        // The request itself is refused too, which is looked at later.
+        let answer = expect(&OwnedRequest::new(call), &disk.image, 25).answer;
         assert_eq!(calls::slot(answer), disk.files[1].slot);
     }
     head(&mut disk, 1, fills(3), 0);

@@ -1,19 +1,19 @@
 //! Subdirectories: their rows of the check, the codes one value after the other, rings, what is asked for, and the buffer.
 
 use super::expect;
-use crate::support::asking::Asked;
 use crate::support::calls::{self, CALLS, Call, NAME, OUT};
-use crate::support::disks::{self, Disk};
+use crate::support::disks::{self, DrawnDisk};
 use crate::support::facts::Facts;
 use crate::support::fields;
 use crate::support::geometry::{self, BITS, MOST_EXTRA, MOST_SLOTS};
 use crate::support::names;
 use crate::support::random::Random;
-use crate::support::shapes::{Ground, Order, Shape};
+use crate::support::requests::OwnedRequest;
+use crate::support::shapes::{Background, Order, Shape};
 
 /// A disk with these directories and files by slot: of a directory its code, of a file none; and the code of the directory that
 /// it is in. All have names, and the directory ends behind them.
-fn disk(extra: usize, slots: &[(Option<u8>, u8)]) -> Disk {
+fn disk(extra: usize, slots: &[(Option<u8>, u8)]) -> DrawnDisk {
     let shape = Shape {
         extra,
         files: (1..)
@@ -22,7 +22,7 @@ fn disk(extra: usize, slots: &[(Option<u8>, u8)]) -> Disk {
             .collect(),
         end: Some(slots.len() + 1).filter(|&end| end <= geometry::slots(extra)),
         order: Order::Scattered,
-        ground: Ground::Rubbish,
+        background: Background::Rubbish,
         tidy: false,
     };
     let mut disk = disks::of_shape(&shape, &mut Random::new(slots.len() as u64));
@@ -34,7 +34,7 @@ fn disk(extra: usize, slots: &[(Option<u8>, u8)]) -> Disk {
     disk
 }
 
-fn put(disk: &mut Disk, slot: usize, code: u8, parent: u8) {
+fn put(disk: &mut DrawnDisk, slot: usize, code: u8, parent: u8) {
     let bytes = disk.slot_mut(slot);
     (bytes[fields::CODE], bytes[fields::PARENT]) = (code, parent);
 }
@@ -56,16 +56,16 @@ const NESTED: [(Option<u8>, u8); 8] = [
 ];
 
 /// Asks for a tree with so many bytes of room; the number and the slot must be these.
-fn refused(disk: &Disk, name: &[u8], room: usize, number: u8, slot: usize) {
-    let asked = Asked::new(Call::Tree).with(NAME, name).with(OUT, vec![0x5c; room]);
+fn refused(disk: &DrawnDisk, name: &[u8], room: usize, number: u8, slot: usize) {
+    let asked = OwnedRequest::new(Call::Tree).with(NAME, name).with(OUT, vec![0x5c; room]);
     let answer = expect(&asked, &disk.image, number).answer;
     assert_eq!(calls::slot(answer), slot, "refused {number}");
 }
 
 /// The tree is these slots, and the rest of the buffer stays.
-fn lists(disk: &Disk, name: &[u8], slots: &[usize]) {
+fn lists(disk: &DrawnDisk, name: &[u8], slots: &[usize]) {
     for more in [0, 1, 2, 7, 2_000] {
-        let asked = Asked::new(Call::Tree)
+        let asked = OwnedRequest::new(Call::Tree)
             .with(NAME, name)
             .with(OUT, vec![0x5c; 2 * slots.len() + more]);
         let left = expect(&asked, &disk.image, 0);
@@ -89,7 +89,7 @@ fn nested() {
     lists(&disk, b"NAME 6   ", &[7]);
     lists(&disk, b"nAmE 1", &[]);
     let blank = vec![0; disk.image.len()];
-    expect(&Asked::new(Call::Tree), &blank, 0);
+    expect(&OwnedRequest::new(Call::Tree), &blank, 0);
 }
 
 /// What is asked for: 12 for what cannot be a name, 13 with the slot for a file, 15 for what is not there; and 20 last.
@@ -110,9 +110,9 @@ fn names_asked_for() {
 }
 
 /// Both checks give this number, at slot 3.
-fn checked(disk: &Disk, number: u8) {
+fn checked(disk: &DrawnDisk, number: u8) {
     for call in [Call::Check, Call::CheckRelease] {
-        let answer = expect(&Asked::new(call), &disk.image, number).answer;
+        let answer = expect(&OwnedRequest::new(call), &disk.image, number).answer;
         assert_eq!(calls::slot(answer), if number == 0 { 0 } else { 3 });
     }
 }
@@ -161,8 +161,8 @@ fn what_is_not_looked_at() {
 #[test]
 fn rows_in_order() {
     let mut disk = disk(0, &NESTED);
-    let given = |disk: &Disk, number: u8| {
-        let answer = expect(&Asked::new(Call::Check), &disk.image, number).answer;
+    let given = |disk: &DrawnDisk, number: u8| {
+        let answer = expect(&OwnedRequest::new(Call::Check), &disk.image, number).answer;
         assert_eq!(calls::slot(answer), if number == 0 { 0 } else { 5 });
     };
     let slot = disk.slot_mut(5);
@@ -188,19 +188,21 @@ fn other_calls() {
         let mut disk = disk(0, &NESTED);
         disk.slot_mut(1)[0] = marks | fields::DIRECTORY;
         for call in [Call::Read, Call::Open, Call::Start] {
-            let answer = expect(&Asked::new(call).with(NAME, name(1)), &disk.image, 13).answer;
+            let answer = expect(&OwnedRequest::new(call).with(NAME, name(1)), &disk.image, 13).answer;
             assert_eq!(calls::slot(answer), 1);
         }
         for call in [Call::Hide, Call::Show, Call::Protect, Call::Release] {
-            expect(&Asked::new(call).with(NAME, name(1)).with(OUT, [0; 2]), &disk.image, 0);
+            expect(&OwnedRequest::new(call).with(NAME, name(1)).with(OUT, [0; 2]), &disk.image, 0);
         }
         let protected = marks & 64 != 0;
-        let rename = Asked::new(Call::Rename).with(NAME, name(1)).with(calls::NEW, *b"other");
+        let rename = OwnedRequest::new(Call::Rename)
+            .with(NAME, name(1))
+            .with(calls::NEW, *b"other");
         expect(&rename.with(OUT, [0; 2]), &disk.image, if protected { 17 } else { 0 });
-        let erase = Asked::new(Call::Erase).with(NAME, name(1)).with(OUT, [0; 2]);
+        let erase = OwnedRequest::new(Call::Erase).with(NAME, name(1)).with(OUT, [0; 2]);
         expect(&erase, &disk.image, if protected { 17 } else { 0 });
         let room = vec![0x5c; 8 * 258];
-        let listed = expect(&Asked::new(Call::List).with(OUT, room), &disk.image, 0).answer;
+        let listed = expect(&OwnedRequest::new(Call::List).with(OUT, room), &disk.image, 0).answer;
         assert_eq!((calls::value(listed), calls::free(listed)), (8, BITS - 4));
     }
 }
@@ -267,9 +269,9 @@ fn in_the_order() {
     put(&mut disk, 5, 0, 0);
     refused(&disk, b"", 0, 26, 5);
     for call in CALLS.into_iter().filter(|call| call.needs_name()) {
-        expect(&Asked::new(call), &disk.image, 12);
+        expect(&OwnedRequest::new(call), &disk.image, 12);
     }
-    expect(&Asked::new(Call::Check), &disk.image, 0);
+    expect(&OwnedRequest::new(Call::Check), &disk.image, 0);
     let file = disk.files[7].chain[0];
     disk.link(file, [9, 9]);
     refused(&disk, b"", 0, 10, 8);
@@ -349,12 +351,14 @@ fn what_is_not_live() {
 /// 29: a directory that another live slot names, whatever that is; not before 15 and 17, and before 20.
 #[test]
 fn erases() {
-    let erase = |disk: &Disk, slot: usize, room: usize, number: u8| {
-        let asked = Asked::new(Call::Erase).with(NAME, name(slot)).with(OUT, vec![0x5c; room]);
+    let erase = |disk: &DrawnDisk, slot: usize, room: usize, number: u8| {
+        let asked = OwnedRequest::new(Call::Erase)
+            .with(NAME, name(slot))
+            .with(OUT, vec![0x5c; room]);
         let left = expect(&asked, &disk.image, number);
         let given = calls::slot(left.answer);
         assert_eq!(given, if matches!(number, 17 | 29) { slot } else { 0 });
-        left.image.map(|image| Disk { image, ..disk.clone() })
+        left.image.map(|image| DrawnDisk { image, ..disk.clone() })
     };
     let disk = disk(0, &NESTED);
     for slot in [3, 5, 6] {
@@ -383,7 +387,7 @@ fn erases() {
 #[test]
 fn every_code_of_an_erase() {
     let mut disk = disk(0, &[(None, 0), (Some(1), 0), (Some(2), 0)]);
-    let asked = Asked::new(Call::Erase).with(NAME, name(2)).with(OUT, [0; 2]);
+    let asked = OwnedRequest::new(Call::Erase).with(NAME, name(2)).with(OUT, [0; 2]);
     for code in 0..=255 {
         for parent in [0, 1, 127, 128, 254, 255, code, code ^ 1] {
             for (slot, own) in [(1, 0), (3, 0), (1, code), (3, code)] {
@@ -407,7 +411,7 @@ fn a_file_has_no_code() {
     refused(&disk, b"", 0, 27, 3);
     for slot in [1, 3] {
         expect(
-            &Asked::new(Call::Erase).with(NAME, name(slot)).with(OUT, [0; 2]),
+            &OwnedRequest::new(Call::Erase).with(NAME, name(slot)).with(OUT, [0; 2]),
             &disk.image,
             0,
         );

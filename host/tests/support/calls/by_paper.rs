@@ -2,10 +2,10 @@
 
 use super::packed::{Parts, pack};
 use super::{ANSWERS, Call, IMAGE, NAMES, OUT, RECORD, Request};
-use paper::{Reader, Refused, Wish};
+use paper::{Reader, Refused, SaveRequest};
 
 /// What `paper` answers, and what it leaves of the slices that a call may change.
-pub struct Answer {
+pub struct PaperAnswer {
     pub packed: u64,
     /// None: the call does not change it.
     pub image: Option<Vec<u8>>,
@@ -14,9 +14,9 @@ pub struct Answer {
     pub record: Vec<u8>,
 }
 
-pub fn ask_paper(request: &Request) -> Answer {
+pub fn ask_paper(request: &Request) -> PaperAnswer {
     let lent = |role: usize| request.slices[role].to_vec();
-    let mut answer = Answer {
+    let mut answer = PaperAnswer {
         packed: 0,
         image: request.call.is_change().then(|| lent(IMAGE)),
         out: lent(OUT),
@@ -29,14 +29,14 @@ pub fn ask_paper(request: &Request) -> Answer {
             answer.image = Some(image);
             sectors.map(|sectors| [0, sectors, 0])
         }
-        None => look(request, &mut answer),
+        None => query(request, &mut answer),
     };
     answer.packed = pack(given);
     answer
 }
 
 /// The calls that read.
-fn look(request: &Request, lent: &mut Answer) -> Result<Parts, Refused> {
+fn query(request: &Request, lent: &mut PaperAnswer) -> Result<Parts, Refused> {
     let out = &mut lent.out[..];
     let [image, two, name, ..] = request.slices;
     let [a, b, c] = request.numbers;
@@ -55,7 +55,7 @@ fn look(request: &Request, lent: &mut Answer) -> Result<Parts, Refused> {
         Call::Tree => paper::tree(image, name, out).map(|slots| [0, slots, 0]),
         Call::Start => paper::start(image, name).map(|address| [0, address as usize, 0]),
         Call::Sector => paper::sector(image, two, a, b, c).map(|place| [0, place, 0]),
-        Call::RecordOpen => paper::record_open(image, &wish(request), &mut lent.record).map(|()| [0, 0, 0]),
+        Call::RecordOpen => paper::record_open(image, &save_request(request), &mut lent.record).map(|()| [0, 0, 0]),
         Call::ReportAdd => paper::report_add(image, out).map(|disks| [0, disks, 0]),
         Call::ReportJoin => paper::report_join(out, two).map(|disks| [0, disks, 0]),
         call => unreachable!("{call:?} is a change"),
@@ -68,11 +68,11 @@ fn at(reader: Reader, value: usize) -> Parts {
 }
 
 /// The changes: how many sectors.
-fn change(request: &Request, image: &mut [u8], lent: &mut Answer) -> Result<usize, Refused> {
+fn change(request: &Request, image: &mut [u8], lent: &mut PaperAnswer) -> Result<usize, Refused> {
     let [_, _, name, new, _, _, body, ..] = request.slices;
     let list = &mut lent.out[..];
     match request.call {
-        Call::Save => paper::save(image, &wish(request), list),
+        Call::Save => paper::save(image, &save_request(request), list),
         Call::Erase => paper::erase(image, name, list),
         Call::EraseMany => paper::erase_many(image, request.slices[NAMES], &mut lent.answers, list),
         Call::Rename => paper::rename(image, name, new, list),
@@ -88,10 +88,10 @@ fn change(request: &Request, image: &mut [u8], lent: &mut Answer) -> Result<usiz
 }
 
 /// What a save or a recording asks for.
-fn wish<'a>(request: &Request<'a>) -> Wish<'a> {
+fn save_request<'a>(request: &Request<'a>) -> SaveRequest<'a> {
     let [_, _, name, _, exec, info, body, ..] = request.slices;
     let [kind, page, offset] = request.numbers;
-    Wish {
+    SaveRequest {
         kind,
         name,
         page,

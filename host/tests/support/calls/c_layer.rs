@@ -5,12 +5,12 @@ use varnucht::raw;
 
 /// A slice as the C layer takes it.
 #[derive(Clone, Copy, Debug)]
-pub struct Part {
+pub struct RawSlice {
     pub front: *mut u8,
     pub length: usize,
 }
 
-pub const NOTHING: Part = Part {
+pub const NOTHING: RawSlice = RawSlice {
     front: std::ptr::null_mut(),
     length: 0,
 };
@@ -20,7 +20,7 @@ pub const NOTHING: Part = Part {
 /// # Safety
 ///
 /// Every part is readable over its length; those that the call changes are writable too and overlap no other.
-pub unsafe fn ask_c(call: Call, numbers: [u32; 3], parts: &[Part; SLICES]) -> u64 {
+pub unsafe fn ask_c(call: Call, numbers: [u32; 3], parts: &[RawSlice; SLICES]) -> u64 {
     let [image, two, name, new, exec, info, body, out, names, answers, record] = *parts;
     let [a, b, c] = numbers;
     let (i, il, n, nl, o, ol) = (image.front, image.length, name.front, name.length, out.front, out.length);

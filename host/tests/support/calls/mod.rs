@@ -5,8 +5,8 @@ mod by_paper;
 mod c_layer;
 mod packed;
 
-pub use by_paper::{Answer, ask_paper};
-pub use c_layer::{NOTHING, Part, ask_c};
+pub use by_paper::{PaperAnswer, ask_paper};
+pub use c_layer::{NOTHING, RawSlice, ask_c};
 pub use packed::{free, refusal, slot, value};
 
 /// The next piece where nothing comes and no byte follows: the place behind all sectors.
@@ -65,7 +65,7 @@ pub const CALLS: [Call; 23] = [
     Call::ReportJoin,
 ];
 
-/// The changes that count as one, whole or not at all, and that stand alone. Of a handful that is erased each sector does, and a
+/// The changes that count as one, whole or not at all, and that stand alone. Of many files that are erased at once each sector does, and a
 /// recording takes several calls.
 pub const CHANGES: [Call; 8] = [
     Call::Save,
@@ -90,7 +90,7 @@ pub const INFO: usize = 5;
 pub const BODY: usize = 6;
 /// The output buffer of list, read, next and tree, the list of sector numbers of a change, the report that is added or joined to.
 pub const OUT: usize = 7;
-/// The names of a handful that is erased, and the answers to them.
+/// The names of many files that are erased at once, and the answers to them.
 pub const NAMES: usize = 8;
 pub const ANSWERS: usize = 9;
 /// The record of a recording.

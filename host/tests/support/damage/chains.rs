@@ -1,7 +1,7 @@
 //! Damage to the links of a chain: number 10.
 
-use super::{Damage, Outcome};
-use crate::support::disks::Disk;
+use super::{Damage, Expected};
+use crate::support::disks::DrawnDisk;
 use crate::support::geometry::{BITS, address};
 use crate::support::random::Random;
 
@@ -22,7 +22,7 @@ pub const ALL: &[&Damage] = &[
 ];
 
 /// Puts a link into a drawn sector before the last.
-fn inside(disk: &mut Disk, index: usize, next: [u8; 2], random: &mut Random) -> Option<Outcome> {
+fn inside(disk: &mut DrawnDisk, index: usize, next: [u8; 2], random: &mut Random) -> Option<Expected> {
     let file = &disk.files[index];
     let (slot, count) = (file.slot, file.chain.len());
     if count < 2 {
@@ -30,39 +30,39 @@ fn inside(disk: &mut Disk, index: usize, next: [u8; 2], random: &mut Random) -> 
     }
     let from = file.chain[random.below(count - 1)];
     disk.link(from, next);
-    Some(Outcome::Refused(10, slot))
+    Some(Expected::Refused(10, slot))
 }
 
-fn last(disk: &mut Disk, index: usize, next: [u8; 2]) -> Option<Outcome> {
+fn last(disk: &mut DrawnDisk, index: usize, next: [u8; 2]) -> Option<Expected> {
     let file = &disk.files[index];
     let (slot, from) = (file.slot, *file.chain.last()?);
     disk.link(from, next);
-    Some(Outcome::Refused(10, slot))
+    Some(Expected::Refused(10, slot))
 }
 
-fn to_directory(disk: &mut Disk, index: usize, random: &mut Random) -> Option<Outcome> {
+fn to_directory(disk: &mut DrawnDisk, index: usize, random: &mut Random) -> Option<Expected> {
     let next = [random.below(4) as u8, random.between(1, 10) as u8];
     inside(disk, index, next, random)
 }
 
-fn to_no_track(disk: &mut Disk, index: usize, random: &mut Random) -> Option<Outcome> {
+fn to_no_track(disk: &mut DrawnDisk, index: usize, random: &mut Random) -> Option<Expected> {
     let next = [random.pick(&[80, 81, 126, 127, 208, 209, 255]), random.between(1, 10) as u8];
     inside(disk, index, next, random)
 }
 
-fn to_no_sector(disk: &mut Disk, index: usize, random: &mut Random) -> Option<Outcome> {
+fn to_no_sector(disk: &mut DrawnDisk, index: usize, random: &mut Random) -> Option<Expected> {
     let [track, _] = address(random.below(BITS));
     let next = [track, random.pick(&[0, 11, 12, 128, 255])];
     inside(disk, index, next, random)
 }
 
 /// A data sector, free or another file's, but not of this file's map.
-fn to_foreign(disk: &mut Disk, index: usize, random: &mut Random) -> Option<Outcome> {
+fn to_foreign(disk: &mut DrawnDisk, index: usize, random: &mut Random) -> Option<Expected> {
     let next = foreign(disk, index, random)?;
     inside(disk, index, next, random)
 }
 
-fn to_itself(disk: &mut Disk, index: usize, random: &mut Random) -> Option<Outcome> {
+fn to_itself(disk: &mut DrawnDisk, index: usize, random: &mut Random) -> Option<Expected> {
     let chain = &disk.files[index].chain;
     (chain.len() > 1).then_some(())?;
     let at = random.below(chain.len() - 1);
@@ -70,7 +70,7 @@ fn to_itself(disk: &mut Disk, index: usize, random: &mut Random) -> Option<Outco
 }
 
 /// To a sector passed before: to the first, or to any.
-fn back(disk: &mut Disk, index: usize, random: &mut Random) -> Option<Outcome> {
+fn back(disk: &mut DrawnDisk, index: usize, random: &mut Random) -> Option<Expected> {
     let chain = &disk.files[index].chain;
     (chain.len() > 2).then_some(())?;
     let at = random.between(1, chain.len() - 2);
@@ -78,12 +78,12 @@ fn back(disk: &mut Disk, index: usize, random: &mut Random) -> Option<Outcome> {
     link_within(disk, index, at, to)
 }
 
-fn early_end(disk: &mut Disk, index: usize, random: &mut Random) -> Option<Outcome> {
+fn early_end(disk: &mut DrawnDisk, index: usize, random: &mut Random) -> Option<Expected> {
     inside(disk, index, [0, 0], random)
 }
 
 /// One sector of the map is left out: the last link comes one too early.
-fn skipping(disk: &mut Disk, index: usize, random: &mut Random) -> Option<Outcome> {
+fn skipping(disk: &mut DrawnDisk, index: usize, random: &mut Random) -> Option<Expected> {
     let chain = &disk.files[index].chain;
     (chain.len() > 2).then_some(())?;
     let at = random.below(chain.len() - 2);
@@ -91,30 +91,30 @@ fn skipping(disk: &mut Disk, index: usize, random: &mut Random) -> Option<Outcom
 }
 
 /// The link of the sector at one place of the chain made the address of that at another.
-fn link_within(disk: &mut Disk, index: usize, at: usize, to: usize) -> Option<Outcome> {
+fn link_within(disk: &mut DrawnDisk, index: usize, at: usize, to: usize) -> Option<Expected> {
     let file = &disk.files[index];
     let (slot, from, next) = (file.slot, file.chain[at], address(file.chain[to]));
     disk.link(from, next);
-    Some(Outcome::Refused(10, slot))
+    Some(Expected::Refused(10, slot))
 }
 
-fn last_into_file(disk: &mut Disk, index: usize, random: &mut Random) -> Option<Outcome> {
+fn last_into_file(disk: &mut DrawnDisk, index: usize, random: &mut Random) -> Option<Expected> {
     let next = address(random.pick(&disk.files[index].chain));
     last(disk, index, next)
 }
 
-fn last_elsewhere(disk: &mut Disk, index: usize, random: &mut Random) -> Option<Outcome> {
+fn last_elsewhere(disk: &mut DrawnDisk, index: usize, random: &mut Random) -> Option<Expected> {
     let next = foreign(disk, index, random)?;
     last(disk, index, next)
 }
 
-fn last_half(disk: &mut Disk, index: usize, random: &mut Random) -> Option<Outcome> {
+fn last_half(disk: &mut DrawnDisk, index: usize, random: &mut Random) -> Option<Expected> {
     let byte = random.between(1, 255) as u8;
     let next = if random.coin() { [0, byte] } else { [byte, 0] };
     last(disk, index, next)
 }
 
-fn foreign(disk: &Disk, index: usize, random: &mut Random) -> Option<[u8; 2]> {
+fn foreign(disk: &DrawnDisk, index: usize, random: &mut Random) -> Option<[u8; 2]> {
     let chain = &disk.files[index].chain;
     (chain.len() < BITS).then_some(())?;
     loop {
@@ -126,7 +126,7 @@ fn foreign(disk: &Disk, index: usize, random: &mut Random) -> Option<[u8; 2]> {
 }
 
 /// The sectors behind the first in a new order, linked without a fault. The disk's own note of the chain follows.
-fn reordered(disk: &mut Disk, index: usize, random: &mut Random) -> Option<Outcome> {
+fn reordered(disk: &mut DrawnDisk, index: usize, random: &mut Random) -> Option<Expected> {
     let mut chain = disk.files[index].chain.clone();
     (chain.len() > 2).then_some(())?;
     random.shuffle(&mut chain[1..]);
@@ -135,5 +135,5 @@ fn reordered(disk: &mut Disk, index: usize, random: &mut Random) -> Option<Outco
     }
     disk.link(chain[chain.len() - 1], [0, 0]);
     disk.files[index].chain = chain;
-    Some(Outcome::Accepted)
+    Some(Expected::Accepted)
 }

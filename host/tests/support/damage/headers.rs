@@ -1,7 +1,7 @@
 //! Damage to the nine bytes of a carried file and to what they must equal: number 11; and to those of a Spectrum file: 25.
 
-use super::{Damage, Outcome};
-use crate::support::disks::Disk;
+use super::{Damage, Expected};
+use crate::support::disks::DrawnDisk;
 use crate::support::fields;
 use crate::support::geometry::fills;
 use crate::support::random::Random;
@@ -25,7 +25,7 @@ pub const ALL: &[&Damage] = &[
 ];
 
 /// Changes one byte of the header of a carried file.
-fn header(disk: &mut Disk, index: usize, at: usize, change: impl FnOnce(u8) -> u8) -> Option<Outcome> {
+fn header(disk: &mut DrawnDisk, index: usize, at: usize, change: impl FnOnce(u8) -> u8) -> Option<Expected> {
     let file = &disk.files[index];
     let (slot, first) = (file.slot, file.chain[0]);
     fields::is_carried(file.kind).then_some(())?;
@@ -33,37 +33,37 @@ fn header(disk: &mut Disk, index: usize, at: usize, change: impl FnOnce(u8) -> u
     let old = *byte;
     *byte = change(old);
     assert!(*byte != old, "nothing damaged");
-    Some(Outcome::Refused(11, slot))
+    Some(Expected::Refused(11, slot))
 }
 
-fn kind(disk: &mut Disk, index: usize, random: &mut Random) -> Option<Outcome> {
+fn kind(disk: &mut DrawnDisk, index: usize, random: &mut Random) -> Option<Expected> {
     header(disk, index, 0, |old| old ^ random.between(1, 255) as u8)
 }
 
 /// The first byte is compared whole: bits 6 and 7 count too.
-fn kind_with_marks(disk: &mut Disk, index: usize, random: &mut Random) -> Option<Outcome> {
+fn kind_with_marks(disk: &mut DrawnDisk, index: usize, random: &mut Random) -> Option<Expected> {
     header(disk, index, 0, |old| old ^ random.pick(&[64, 128, 192]))
 }
 
-fn remainder(disk: &mut Disk, index: usize, random: &mut Random) -> Option<Outcome> {
+fn remainder(disk: &mut DrawnDisk, index: usize, random: &mut Random) -> Option<Expected> {
     let bit = random.below(14);
     header(disk, index, fields::HEADER_REMAINDER + bit / 8, |old| old ^ 1 << (bit % 8))
 }
 
-fn pages(disk: &mut Disk, index: usize, random: &mut Random) -> Option<Outcome> {
+fn pages(disk: &mut DrawnDisk, index: usize, random: &mut Random) -> Option<Expected> {
     header(disk, index, fields::HEADER_PAGES, |old| old ^ random.between(1, 255) as u8)
 }
 
-fn slot_kind(disk: &mut Disk, index: usize, random: &mut Random) -> Option<Outcome> {
+fn slot_kind(disk: &mut DrawnDisk, index: usize, random: &mut Random) -> Option<Expected> {
     let file = &disk.files[index];
     let (slot, old) = (file.slot, file.kind);
     fields::is_carried(old).then_some(())?;
     let kind = 16 + (old - 16 + random.between(1, 4) as u8) % 5;
     disk.slot_mut(slot)[0] ^= old ^ kind;
-    Some(Outcome::Refused(11, slot))
+    Some(Expected::Refused(11, slot))
 }
 
-fn slot_length(disk: &mut Disk, index: usize, random: &mut Random) -> Option<Outcome> {
+fn slot_length(disk: &mut DrawnDisk, index: usize, random: &mut Random) -> Option<Expected> {
     let file = &disk.files[index];
     fields::is_carried(file.kind).then_some(())?;
     let (slot, old) = (file.slot, file.body.len());
@@ -74,9 +74,9 @@ fn slot_length(disk: &mut Disk, index: usize, random: &mut Random) -> Option<Out
     };
     set_length(disk.slot_mut(slot), length, random);
     Some(if length == old {
-        Outcome::Accepted
+        Expected::Accepted
     } else {
-        Outcome::Refused(11, slot)
+        Expected::Refused(11, slot)
     })
 }
 
@@ -85,30 +85,30 @@ fn set_length(slot: &mut [u8], length: usize, random: &mut Random) {
     slot[fields::REMAINDER..fields::EXEC].copy_from_slice(&fields::remainder(length, random.byte()));
 }
 
-fn slot_junk(disk: &mut Disk, index: usize, random: &mut Random) -> Option<Outcome> {
+fn slot_junk(disk: &mut DrawnDisk, index: usize, random: &mut Random) -> Option<Expected> {
     let slot = disk.files[index].slot;
     disk.slot_mut(slot)[fields::REMAINDER + 1] ^= random.pick(&[64, 128, 192]);
-    Some(Outcome::Accepted)
+    Some(Expected::Accepted)
 }
 
-fn header_junk(disk: &mut Disk, index: usize, random: &mut Random) -> Option<Outcome> {
+fn header_junk(disk: &mut DrawnDisk, index: usize, random: &mut Random) -> Option<Expected> {
     header(disk, index, fields::HEADER_REMAINDER + 1, |old| {
         old ^ random.pick(&[64, 128, 192])
     })?;
-    Some(Outcome::Accepted)
+    Some(Expected::Accepted)
 }
 
-fn unread(disk: &mut Disk, index: usize, random: &mut Random) -> Option<Outcome> {
+fn unread(disk: &mut DrawnDisk, index: usize, random: &mut Random) -> Option<Expected> {
     let first = disk.files[index].chain[0];
     fields::is_carried(disk.files[index].kind).then_some(())?;
     let sector = disk.sector_mut(first);
     random.fill(&mut sector[fields::HEADER_OFFSET..fields::HEADER_PAGES]);
     sector[fields::HEADER_PAGE] = random.byte();
-    Some(Outcome::Accepted)
+    Some(Expected::Accepted)
 }
 
 /// Slot and header both give the length that fills the sectors to the last byte.
-fn longest(disk: &mut Disk, index: usize, random: &mut Random) -> Option<Outcome> {
+fn longest(disk: &mut DrawnDisk, index: usize, random: &mut Random) -> Option<Expected> {
     let file = &disk.files[index];
     fields::is_carried(file.kind).then_some(())?;
     let (slot, first, length) = (file.slot, file.chain[0], fills(file.chain.len()));
@@ -116,41 +116,41 @@ fn longest(disk: &mut Disk, index: usize, random: &mut Random) -> Option<Outcome
     let sector = disk.sector_mut(first);
     sector[fields::HEADER_PAGES] = (length / 16_384) as u8;
     sector[fields::HEADER_REMAINDER..fields::HEADER_OFFSET].copy_from_slice(&fields::remainder(length, random.byte()));
-    Some(Outcome::Accepted)
+    Some(Expected::Accepted)
 }
 
 /// Puts a length into the header of a Spectrum file; none where two bytes do not hold it.
-fn spectrum(disk: &mut Disk, index: usize, length: usize) -> Option<Outcome> {
+fn spectrum(disk: &mut DrawnDisk, index: usize, length: usize) -> Option<Expected> {
     let file = &disk.files[index];
     fields::is_spectrum(file.kind).then_some(())?;
     let bytes = u16::try_from(length).ok()?.to_le_bytes();
     let (slot, first, most) = (file.slot, file.chain[0], fills(file.chain.len()));
     disk.sector_mut(first)[fields::PLUS_D_LENGTH..][..2].copy_from_slice(&bytes);
     Some(if length > most {
-        Outcome::Refused(25, slot)
+        Expected::Refused(25, slot)
     } else {
-        Outcome::Accepted
+        Expected::Accepted
     })
 }
 
-fn spectrum_longest(disk: &mut Disk, index: usize, _: &mut Random) -> Option<Outcome> {
+fn spectrum_longest(disk: &mut DrawnDisk, index: usize, _: &mut Random) -> Option<Expected> {
     let length = fills(disk.files[index].chain.len()).min(65_535);
     spectrum(disk, index, length)
 }
 
-fn spectrum_too_long(disk: &mut Disk, index: usize, _: &mut Random) -> Option<Outcome> {
+fn spectrum_too_long(disk: &mut DrawnDisk, index: usize, _: &mut Random) -> Option<Expected> {
     let length = fills(disk.files[index].chain.len()) + 1;
     spectrum(disk, index, length)
 }
 
-fn spectrum_far_too_long(disk: &mut Disk, index: usize, random: &mut Random) -> Option<Outcome> {
+fn spectrum_far_too_long(disk: &mut DrawnDisk, index: usize, random: &mut Random) -> Option<Expected> {
     let least = fills(disk.files[index].chain.len()) + 1;
     let length = (least <= 65_535).then(|| random.between(least, 65_535))?;
     spectrum(disk, index, length)
 }
 
 /// Kind, start and the last four bytes are not compared with anything, and neither is what the slot says of a length.
-fn spectrum_unread(disk: &mut Disk, index: usize, random: &mut Random) -> Option<Outcome> {
+fn spectrum_unread(disk: &mut DrawnDisk, index: usize, random: &mut Random) -> Option<Expected> {
     let file = &disk.files[index];
     fields::is_spectrum(file.kind).then_some(())?;
     let (slot, first) = (file.slot, file.chain[0]);
@@ -158,5 +158,5 @@ fn spectrum_unread(disk: &mut Disk, index: usize, random: &mut Random) -> Option
     sector[0] = random.byte();
     random.fill(&mut sector[fields::PLUS_D_START..fields::HEADER]);
     random.fill(&mut disk.slot_mut(slot)[fields::PAGES..fields::EXEC]);
-    Some(Outcome::Accepted)
+    Some(Expected::Accepted)
 }

@@ -1,7 +1,7 @@
 //! Damage to the map: numbers 5, 6, 8, and 10 where the chain leaves the map.
 
-use super::{Damage, Outcome};
-use crate::support::disks::Disk;
+use super::{Damage, Expected};
+use crate::support::disks::DrawnDisk;
 use crate::support::fields;
 use crate::support::geometry::{BITS, address, is_data};
 use crate::support::random::Random;
@@ -23,101 +23,101 @@ pub const ALL: &[&Damage] = &[
     &Damage { title: "the first address and its bit an earlier file's", own: false, apply: first_of_earlier },
 ];
 
-fn bit_more(disk: &mut Disk, index: usize, random: &mut Random) -> Option<Outcome> {
+fn bit_more(disk: &mut DrawnDisk, index: usize, random: &mut Random) -> Option<Expected> {
     let slot = disk.files[index].slot;
     let bit = random.pick(&others(disk, index)?);
     fields::set_bit(disk.slot_mut(slot), bit, true);
-    Some(Outcome::Refused(5, slot))
+    Some(Expected::Refused(5, slot))
 }
 
-fn bit_less(disk: &mut Disk, index: usize, random: &mut Random) -> Option<Outcome> {
+fn bit_less(disk: &mut DrawnDisk, index: usize, random: &mut Random) -> Option<Expected> {
     let slot = disk.files[index].slot;
     let bit = random.pick(&disk.files[index].chain);
     fields::set_bit(disk.slot_mut(slot), bit, false);
-    Some(Outcome::Refused(5, slot))
+    Some(Expected::Refused(5, slot))
 }
 
-fn first_moved(disk: &mut Disk, index: usize, random: &mut Random) -> Option<Outcome> {
+fn first_moved(disk: &mut DrawnDisk, index: usize, random: &mut Random) -> Option<Expected> {
     let to = random.pick(&free(disk)?);
     let from = disk.files[index].chain[0];
-    Some(Outcome::Refused(6, moved(disk, index, from, to)))
+    Some(Expected::Refused(6, moved(disk, index, from, to)))
 }
 
-fn later_moved(disk: &mut Disk, index: usize, random: &mut Random) -> Option<Outcome> {
+fn later_moved(disk: &mut DrawnDisk, index: usize, random: &mut Random) -> Option<Expected> {
     let to = random.pick(&free(disk)?);
     let from = later_bit(disk, index, random)?;
-    Some(Outcome::Refused(10, moved(disk, index, from, to)))
+    Some(Expected::Refused(10, moved(disk, index, from, to)))
 }
 
 /// A free sector counted in that the chain never reaches: the last link is met too early.
-fn counted_more(disk: &mut Disk, index: usize, random: &mut Random) -> Option<Outcome> {
+fn counted_more(disk: &mut DrawnDisk, index: usize, random: &mut Random) -> Option<Expected> {
     let bit = random.pick(&free(disk)?);
-    Some(Outcome::Refused(10, counted(disk, index, bit)))
+    Some(Expected::Refused(10, counted(disk, index, bit)))
 }
 
 /// A free sector counted in and chained behind the last: no rule of the first check is against it.
-fn waste(disk: &mut Disk, index: usize, random: &mut Random) -> Option<Outcome> {
+fn waste(disk: &mut DrawnDisk, index: usize, random: &mut Random) -> Option<Expected> {
     let bit = random.pick(&free(disk)?);
     let last = *disk.files[index].chain.last()?;
     counted(disk, index, bit);
     disk.link(last, address(bit));
     disk.link(bit, [0, 0]);
-    Some(Outcome::Accepted)
+    Some(Expected::Accepted)
 }
 
-fn shared_with_earlier(disk: &mut Disk, index: usize, random: &mut Random) -> Option<Outcome> {
+fn shared_with_earlier(disk: &mut DrawnDisk, index: usize, random: &mut Random) -> Option<Expected> {
     let bit = bit_of_earlier(disk, index, random)?;
-    Some(Outcome::Refused(8, counted(disk, index, bit)))
+    Some(Expected::Refused(8, counted(disk, index, bit)))
 }
 
-fn shared_with_later(disk: &mut Disk, index: usize, random: &mut Random) -> Option<Outcome> {
+fn shared_with_later(disk: &mut DrawnDisk, index: usize, random: &mut Random) -> Option<Expected> {
     let with_sectors = |&later: &usize| !disk.files[later].chain.is_empty();
     let later = some((index + 1..disk.files.len()).filter(with_sectors).collect())?;
     let later = random.pick(&later);
     let bit = random.pick(&disk.files[later].chain);
     counted(disk, index, bit);
-    Some(Outcome::Refused(8, disk.files[later].slot))
+    Some(Expected::Refused(8, disk.files[later].slot))
 }
 
-fn moved_to_earlier(disk: &mut Disk, index: usize, random: &mut Random) -> Option<Outcome> {
+fn moved_to_earlier(disk: &mut DrawnDisk, index: usize, random: &mut Random) -> Option<Expected> {
     let to = bit_of_earlier(disk, index, random)?;
     let from = later_bit(disk, index, random)?;
-    Some(Outcome::Refused(8, moved(disk, index, from, to)))
+    Some(Expected::Refused(8, moved(disk, index, from, to)))
 }
 
 /// A file whose chain begins in an earlier file's sector, with the map to fit.
-fn first_of_earlier(disk: &mut Disk, index: usize, random: &mut Random) -> Option<Outcome> {
+fn first_of_earlier(disk: &mut DrawnDisk, index: usize, random: &mut Random) -> Option<Expected> {
     let to = bit_of_earlier(disk, index, random)?;
     let from = disk.files[index].chain[0];
     let slot = moved(disk, index, from, to);
     let at = address(to);
     disk.slot_mut(slot)[fields::FIRST..fields::MAP].copy_from_slice(&at);
-    Some(Outcome::Refused(8, slot))
+    Some(Expected::Refused(8, slot))
 }
 
-fn moved_inside(disk: &mut Disk, index: usize, random: &mut Random) -> Option<Outcome> {
+fn moved_inside(disk: &mut DrawnDisk, index: usize, random: &mut Random) -> Option<Expected> {
     let to = random.pick(&inside(disk)?);
     let from = later_bit(disk, index, random)?;
-    Some(Outcome::Refused(6, moved(disk, index, from, to)))
+    Some(Expected::Refused(6, moved(disk, index, from, to)))
 }
 
-fn counted_inside(disk: &mut Disk, index: usize, random: &mut Random) -> Option<Outcome> {
+fn counted_inside(disk: &mut DrawnDisk, index: usize, random: &mut Random) -> Option<Expected> {
     let bit = random.pick(&inside(disk)?);
     let fits = disk.files[index].chain.len() < disk.data();
-    fits.then(|| Outcome::Refused(6, counted(disk, index, bit)))
+    fits.then(|| Expected::Refused(6, counted(disk, index, bit)))
 }
 
 /// A file whose chain begins in the directory, with the map to fit.
-fn first_inside(disk: &mut Disk, index: usize, random: &mut Random) -> Option<Outcome> {
+fn first_inside(disk: &mut DrawnDisk, index: usize, random: &mut Random) -> Option<Expected> {
     let to = random.pick(&inside(disk)?);
     let from = disk.files[index].chain[0];
     let slot = moved(disk, index, from, to);
     disk.slot_mut(slot)[fields::FIRST..fields::MAP].copy_from_slice(&address(to));
-    Some(Outcome::Refused(6, slot))
+    Some(Expected::Refused(6, slot))
 }
 
 /// One bit cleared and one set, so that the number stays. Gives the slot.
-fn moved(disk: &mut Disk, index: usize, from: usize, to: usize) -> usize {
+fn moved(disk: &mut DrawnDisk, index: usize, from: usize, to: usize) -> usize {
     let slot = disk.files[index].slot;
     fields::set_bit(disk.slot_mut(slot), from, false);
     fields::set_bit(disk.slot_mut(slot), to, true);
@@ -125,7 +125,7 @@ fn moved(disk: &mut Disk, index: usize, from: usize, to: usize) -> usize {
 }
 
 /// One bit more set, and the count raised with it. Gives the slot.
-fn counted(disk: &mut Disk, index: usize, bit: usize) -> usize {
+fn counted(disk: &mut DrawnDisk, index: usize, bit: usize) -> usize {
     let slot = disk.files[index].slot;
     let count = disk.files[index].chain.len() + 1;
     fields::set_bit(disk.slot_mut(slot), bit, true);
@@ -133,24 +133,24 @@ fn counted(disk: &mut Disk, index: usize, bit: usize) -> usize {
     slot
 }
 
-fn later_bit(disk: &Disk, index: usize, random: &mut Random) -> Option<usize> {
+fn later_bit(disk: &DrawnDisk, index: usize, random: &mut Random) -> Option<usize> {
     let chain = &disk.files[index].chain;
     (chain.len() > 1).then(|| random.pick(&chain[1..]))
 }
 
-fn bit_of_earlier(disk: &Disk, index: usize, random: &mut Random) -> Option<usize> {
+fn bit_of_earlier(disk: &DrawnDisk, index: usize, random: &mut Random) -> Option<usize> {
     let earlier = disk.files[..index].iter().flat_map(|file| file.chain.iter().copied());
     some(earlier.collect()).map(|bits| random.pick(&bits))
 }
 
 /// The bits that are not this file's.
-fn others(disk: &Disk, index: usize) -> Option<Vec<usize>> {
+fn others(disk: &DrawnDisk, index: usize) -> Option<Vec<usize>> {
     let chain = &disk.files[index].chain;
     some((0..BITS).filter(|bit| !chain.contains(bit)).collect())
 }
 
 /// The bits of the directory's own sectors, its edges often.
-fn inside(disk: &Disk) -> Option<Vec<usize>> {
+fn inside(disk: &DrawnDisk) -> Option<Vec<usize>> {
     let mut bits: Vec<usize> = (0..BITS).filter(|&bit| !is_data(bit, disk.extra)).collect();
     let edges = bits.iter().copied().filter(|&bit| bit == 1 || bit + 1 == 10 * disk.extra);
     bits.extend(edges.collect::<Vec<_>>().repeat(bits.len() / 4));
@@ -158,7 +158,7 @@ fn inside(disk: &Disk) -> Option<Vec<usize>> {
 }
 
 /// The data sectors' bits that are no file's.
-fn free(disk: &Disk) -> Option<Vec<usize>> {
+fn free(disk: &DrawnDisk) -> Option<Vec<usize>> {
     let mut used = [false; BITS];
     disk.files
         .iter()

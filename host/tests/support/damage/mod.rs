@@ -3,21 +3,21 @@
 
 mod bytes;
 mod chains;
+mod directories;
 mod ends;
 mod firsts;
-mod folders;
 mod headers;
 mod maps;
 mod names;
 mod slots;
 mod tracks;
 
-use super::disks::{self, Disk};
+use super::disks::{self, DrawnDisk};
 use super::random::Random;
 
 /// What the check must say of the damaged disk.
 #[derive(Clone, Copy, Debug, PartialEq, Eq)]
-pub enum Outcome {
+pub enum Expected {
     Accepted,
     /// Number and slot.
     Refused(u8, usize),
@@ -32,7 +32,7 @@ pub struct Damage {
     /// It touches one file alone or none, and its outcome hangs on no other file but for those behind an end that it makes.
     pub own: bool,
     /// Damages the file with this index; none, and nothing done, where that file does not allow it.
-    pub apply: fn(&mut Disk, usize, &mut Random) -> Option<Outcome>,
+    pub apply: fn(&mut DrawnDisk, usize, &mut Random) -> Option<Expected>,
 }
 
 pub fn all() -> Vec<&'static Damage> {
@@ -44,7 +44,7 @@ pub fn all() -> Vec<&'static Damage> {
         chains::ALL,
         headers::ALL,
         ends::ALL,
-        folders::ALL,
+        directories::ALL,
         tracks::ALL,
         bytes::ALL,
     ]
@@ -52,7 +52,7 @@ pub fn all() -> Vec<&'static Damage> {
 }
 
 /// A drawn disk with this damage.
-pub fn one(damage: &Damage, random: &mut Random) -> (Disk, Outcome) {
+pub fn one(damage: &Damage, random: &mut Random) -> (DrawnDisk, Expected) {
     for _ in 0..1_000 {
         let mut disk = disks::draw(random);
         if let Some((_, outcome)) = somewhere(damage, &mut disk, random) {
@@ -63,7 +63,7 @@ pub fn one(damage: &Damage, random: &mut Random) -> (Disk, Outcome) {
 }
 
 /// A drawn disk with two damages or more, so that the order decides between them.
-pub fn several(random: &mut Random) -> (Disk, Outcome) {
+pub fn several(random: &mut Random) -> (DrawnDisk, Expected) {
     let all = all();
     loop {
         let mut disk = disks::draw(random);
@@ -77,11 +77,11 @@ pub fn several(random: &mut Random) -> (Disk, Outcome) {
         let mut outcome = if i != j && first.own && second.own {
             earlier(one, other)
         } else {
-            Outcome::Open
+            Expected::Open
         };
         while random.one_in(3) {
             if somewhere(random.pick(&all), &mut disk, random).is_some() {
-                outcome = Outcome::Open;
+                outcome = Expected::Open;
             }
         }
         return (disk, outcome);
@@ -89,10 +89,10 @@ pub fn several(random: &mut Random) -> (Disk, Outcome) {
 }
 
 /// At the first file that allows it, from a drawn one on. Damages to directories take these alone, and all others files.
-fn somewhere(damage: &Damage, disk: &mut Disk, random: &mut Random) -> Option<(usize, Outcome)> {
+fn somewhere(damage: &Damage, disk: &mut DrawnDisk, random: &mut Random) -> Option<(usize, Expected)> {
     let files = disk.files.len();
     let from = if files == 0 { return None } else { random.below(files) };
-    let to_directory = folders::ALL.iter().any(|other| other.title == damage.title);
+    let to_directory = directories::ALL.iter().any(|other| other.title == damage.title);
     let fits: Vec<bool> = disk.files.iter().map(|file| file.chain.is_empty() == to_directory).collect();
     (0..files)
         .map(|i| (from + i) % files)
@@ -102,14 +102,14 @@ fn somewhere(damage: &Damage, disk: &mut Disk, random: &mut Random) -> Option<(u
 
 /// 24 comes first; then all slots for 2 to 9, before all slots for 10, 11 and 25; then the lowest slot, and at a slot the lowest
 /// number. What stands behind the directory's end is not seen.
-fn earlier(one: Outcome, other: Outcome) -> Outcome {
+fn earlier(one: Expected, other: Expected) -> Expected {
     let (one, other) = (seen_before(one, other), seen_before(other, one));
-    let rank = |outcome: Outcome| match outcome {
-        Outcome::Refused(number, slot) => Some((matches!(number, 10 | 11 | 25), slot, number)),
+    let rank = |outcome: Expected| match outcome {
+        Expected::Refused(number, slot) => Some((matches!(number, 10 | 11 | 25), slot, number)),
         _ => None,
     };
     match (rank(one), rank(other)) {
-        _ if one == Outcome::Open || other == Outcome::Open => Outcome::Open,
+        _ if one == Expected::Open || other == Expected::Open => Expected::Open,
         (Some(a), Some(b)) => {
             if a <= b {
                 one
@@ -123,9 +123,9 @@ fn earlier(one: Outcome, other: Outcome) -> Outcome {
 }
 
 /// The outcome of a damage beside another that may end the directory before it.
-fn seen_before(outcome: Outcome, beside: Outcome) -> Outcome {
+fn seen_before(outcome: Expected, beside: Expected) -> Expected {
     match (outcome, beside) {
-        (Outcome::Refused(_, slot), Outcome::Ends(end)) if slot > end => Outcome::Accepted,
+        (Expected::Refused(_, slot), Expected::Ends(end)) if slot > end => Expected::Accepted,
         _ => outcome,
     }
 }

@@ -1,7 +1,7 @@
 //! Damage to kind, count and length: numbers 2, 4, 5, 7.
 
-use super::{Damage, Outcome};
-use crate::support::disks::Disk;
+use super::{Damage, Expected};
+use crate::support::disks::DrawnDisk;
 use crate::support::fields;
 use crate::support::geometry::{BITS, EXTRA, fills};
 use crate::support::random::Random;
@@ -23,7 +23,7 @@ pub const ALL: &[&Damage] = &[
     &Damage { title: "bytes that no rule reads", own: true, apply: unread },
 ];
 
-pub fn unknown_kind(disk: &mut Disk, index: usize, random: &mut Random) -> Option<Outcome> {
+pub fn unknown_kind(disk: &mut DrawnDisk, index: usize, random: &mut Random) -> Option<Expected> {
     let slot = disk.files[index].slot;
     let kind = loop {
         let byte = random.byte();
@@ -32,64 +32,64 @@ pub fn unknown_kind(disk: &mut Disk, index: usize, random: &mut Random) -> Optio
         }
     };
     disk.slot_mut(slot)[0] = kind;
-    Some(Outcome::Refused(2, slot))
+    Some(Expected::Refused(2, slot))
 }
 
 /// A kind made one that is only known: its header is looked at no more.
-fn kind_not_read(disk: &mut Disk, index: usize, random: &mut Random) -> Option<Outcome> {
+fn kind_not_read(disk: &mut DrawnDisk, index: usize, random: &mut Random) -> Option<Expected> {
     set_kind(disk, index, random.pick(&[5, 6, 12, 22, 23]));
-    Some(Outcome::Accepted)
+    Some(Expected::Accepted)
 }
 
 /// A kind made one of the Spectrum: what stands in its first sector is then its header, and must not say too long a length.
-fn kind_of_spectrum(disk: &mut Disk, index: usize, random: &mut Random) -> Option<Outcome> {
+fn kind_of_spectrum(disk: &mut DrawnDisk, index: usize, random: &mut Random) -> Option<Expected> {
     set_kind(disk, index, random.between(1, 4) as u8);
     let file = &disk.files[index];
     let length = fields::plus_d(disk.first(file), fields::PLUS_D_LENGTH);
     Some(if length > fills(file.chain.len()) {
-        Outcome::Refused(25, file.slot)
+        Expected::Refused(25, file.slot)
     } else {
-        Outcome::Accepted
+        Expected::Accepted
     })
 }
 
 /// A directory has no sectors.
-fn made_directory(disk: &mut Disk, index: usize, _: &mut Random) -> Option<Outcome> {
+fn made_directory(disk: &mut DrawnDisk, index: usize, _: &mut Random) -> Option<Expected> {
     set_kind(disk, index, fields::DIRECTORY);
-    Some(Outcome::Refused(4, disk.files[index].slot))
+    Some(Expected::Refused(4, disk.files[index].slot))
 }
 
-pub fn set_kind(disk: &mut Disk, index: usize, kind: u8) {
+pub fn set_kind(disk: &mut DrawnDisk, index: usize, kind: u8) {
     let slot = disk.files[index].slot;
     let byte = &mut disk.slot_mut(slot)[0];
     *byte = *byte & 192 | kind;
 }
 
-pub fn marks(disk: &mut Disk, index: usize, random: &mut Random) -> Option<Outcome> {
+pub fn marks(disk: &mut DrawnDisk, index: usize, random: &mut Random) -> Option<Expected> {
     let slot = disk.files[index].slot;
     disk.slot_mut(slot)[0] ^= random.pick(&[64, 128, 192]);
-    Some(Outcome::Accepted)
+    Some(Expected::Accepted)
 }
 
-pub fn erased(disk: &mut Disk, index: usize, _: &mut Random) -> Option<Outcome> {
+pub fn erased(disk: &mut DrawnDisk, index: usize, _: &mut Random) -> Option<Expected> {
     let slot = disk.files[index].slot;
     disk.slot_mut(slot)[0] = 0;
-    Some(Outcome::Accepted)
+    Some(Expected::Accepted)
 }
 
-fn count_outside(disk: &mut Disk, index: usize, random: &mut Random) -> Option<Outcome> {
+fn count_outside(disk: &mut DrawnDisk, index: usize, random: &mut Random) -> Option<Expected> {
     let slot = disk.files[index].slot;
     let count = random.pick(&[0, disk.data() + 1, disk.data() + 2, BITS + 1, 2_048, 32_768, 65_535]);
     fields::set_count(disk.slot_mut(slot), count);
-    Some(Outcome::Refused(4, slot))
+    Some(Expected::Refused(4, slot))
 }
 
-fn count_by(disk: &mut Disk, index: usize, more: isize) -> Option<Outcome> {
+fn count_by(disk: &mut DrawnDisk, index: usize, more: isize) -> Option<Expected> {
     let count = disk.files[index].chain.len().wrapping_add_signed(more);
     miscounted(disk, index, count)
 }
 
-fn count_swapped(disk: &mut Disk, index: usize, _: &mut Random) -> Option<Outcome> {
+fn count_swapped(disk: &mut DrawnDisk, index: usize, _: &mut Random) -> Option<Expected> {
     let count = disk.files[index].chain.len();
     let swapped = count % 256 * 256 + count / 256;
     if swapped == count {
@@ -100,42 +100,42 @@ fn count_swapped(disk: &mut Disk, index: usize, _: &mut Random) -> Option<Outcom
 }
 
 /// Another count than the map has bits.
-fn miscounted(disk: &mut Disk, index: usize, count: usize) -> Option<Outcome> {
+fn miscounted(disk: &mut DrawnDisk, index: usize, count: usize) -> Option<Expected> {
     let slot = disk.files[index].slot;
     fields::set_count(disk.slot_mut(slot), count);
     let number = if (1..=disk.data()).contains(&count) { 5 } else { 4 };
-    Some(Outcome::Refused(number, slot))
+    Some(Expected::Refused(number, slot))
 }
 
-fn too_long_by_one(disk: &mut Disk, index: usize, random: &mut Random) -> Option<Outcome> {
+fn too_long_by_one(disk: &mut DrawnDisk, index: usize, random: &mut Random) -> Option<Expected> {
     let length = fills(disk.files[index].chain.len()) + 1;
     too_long(disk, index, length, random)
 }
 
-fn far_too_long(disk: &mut Disk, index: usize, random: &mut Random) -> Option<Outcome> {
+fn far_too_long(disk: &mut DrawnDisk, index: usize, random: &mut Random) -> Option<Expected> {
     let least = fills(disk.files[index].chain.len()) + 1;
     let length = random.between(least, 256 * 16_384 - 1);
     too_long(disk, index, length, random)
 }
 
-fn too_long(disk: &mut Disk, index: usize, length: usize, random: &mut Random) -> Option<Outcome> {
+fn too_long(disk: &mut DrawnDisk, index: usize, length: usize, random: &mut Random) -> Option<Expected> {
     let (slot, kind) = (disk.files[index].slot, disk.files[index].kind);
     let bytes = disk.slot_mut(slot);
     bytes[fields::PAGES] = (length / 16_384) as u8;
     bytes[fields::REMAINDER..fields::EXEC].copy_from_slice(&fields::remainder(length, random.byte()));
     Some(if fields::is_carried(kind) {
-        Outcome::Refused(7, slot)
+        Expected::Refused(7, slot)
     } else {
-        Outcome::Accepted
+        Expected::Accepted
     })
 }
 
 /// Bytes 210 to 238 and 242 to 255: information, start, execution bytes, and those without a name; of slot 1 not that which says
 /// the directory tracks.
-fn unread(disk: &mut Disk, index: usize, random: &mut Random) -> Option<Outcome> {
+fn unread(disk: &mut DrawnDisk, index: usize, random: &mut Random) -> Option<Expected> {
     let (slot, extra) = (disk.files[index].slot, disk.image[EXTRA]);
     random.fill(&mut disk.slot_mut(slot)[fields::MAP + fields::MAP_BYTES..fields::PAGES]);
     random.fill(&mut disk.slot_mut(slot)[fields::EXEC..]);
     disk.image[EXTRA] = extra;
-    Some(Outcome::Accepted)
+    Some(Expected::Accepted)
 }

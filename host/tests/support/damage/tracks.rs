@@ -1,7 +1,7 @@
 //! Changes of the number of directory tracks: number 24, and what another number makes of the disk.
 
-use super::{Damage, Outcome};
-use crate::support::disks::Disk;
+use super::{Damage, Expected};
+use crate::support::disks::DrawnDisk;
 use crate::support::geometry::{EXTRA, MOST_EXTRA};
 use crate::support::random::Random;
 
@@ -12,29 +12,29 @@ pub const ALL: &[&Damage] = &[
     &Damage { title: "another number of directory tracks", own: false, apply: another },
 ];
 
-fn too_many(disk: &mut Disk, _: usize, random: &mut Random) -> Option<Outcome> {
+fn too_many(disk: &mut DrawnDisk, _: usize, random: &mut Random) -> Option<Expected> {
     disk.image[EXTRA] = match random.coin() {
         true => random.pick(&[36, 37, 64, 127, 128, 253, 254]),
         false => random.between(MOST_EXTRA + 1, 254) as u8,
     };
-    Some(Outcome::Refused(24, 0))
+    Some(Expected::Refused(24, 0))
 }
 
 /// Both are read as 0.
-fn none(disk: &mut Disk, _: usize, random: &mut Random) -> Option<Outcome> {
+fn none(disk: &mut DrawnDisk, _: usize, random: &mut Random) -> Option<Expected> {
     (disk.extra == 0 && matches!(disk.image[EXTRA], 0 | 255)).then(|| {
         disk.image[EXTRA] = random.pick(&[0, 255]);
-        Outcome::Accepted
+        Expected::Accepted
     })
 }
 
 /// Slots become data or data slots, or the directory goes on into what was free.
-fn another(disk: &mut Disk, _: usize, random: &mut Random) -> Option<Outcome> {
+fn another(disk: &mut DrawnDisk, _: usize, random: &mut Random) -> Option<Expected> {
     disk.image[EXTRA] = match random.below(4) {
         0 => 255,
         1 => random.pick(&[0, 1, 2, 34, 35]),
         2 => random.between(0, MOST_EXTRA) as u8,
         _ => (disk.extra + 1).min(MOST_EXTRA) as u8,
     };
-    Some(Outcome::Open)
+    Some(Expected::Open)
 }

@@ -1,4 +1,0 @@
-pub mod Index
-pub mod Seek
-pub mod Settling
-pub mod Whole

@@ -1,0 +1,9 @@
+pub mod Table
+pub mod Pairs
+pub mod Lent
+pub mod Bounds
+pub mod Safe
+pub mod Trees
+pub mod Gathers
+pub mod EraseMany
+pub mod Records

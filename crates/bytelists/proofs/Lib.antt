@@ -1,9 +1,0 @@
-pub mod Table
-pub mod Pairs
-pub mod Lent
-pub mod Changing
-pub mod Safe
-pub mod Trees
-pub mod Gathers
-pub mod Handfuls
-pub mod Records

@@ -1,1 +1,0 @@
-// The order of ticks, of what the app gets back: the image and the list's bytes; laws, no code.

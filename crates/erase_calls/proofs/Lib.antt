@@ -1,0 +1,4 @@
+pub mod Index
+pub mod Seek
+pub mod EraseEach
+pub mod Whole

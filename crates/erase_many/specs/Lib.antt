@@ -1,0 +1,3 @@
+pub mod EraseMany
+pub mod EraseManyCut
+pub mod ErasedMap

@@ -1,0 +1,1 @@
+// Erasing many files at once: definitions and laws; no code.

@@ -1,4 +1,0 @@
-pub mod Handful
-pub mod Parts
-pub mod Left
-pub mod Ticked

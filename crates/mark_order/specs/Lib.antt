@@ -1,0 +1,3 @@
+pub mod MarkCalls
+pub mod RenameBack
+pub mod MarkOrder

@@ -1,0 +1,3 @@
+pub mod Crash
+pub mod Demand3
+pub mod EraseManyLaws

@@ -1,5 +1,0 @@
-pub mod Picked
-pub mod Asked
-pub mod Placed
-pub mod Shut
-pub mod Next

@@ -1,3 +1,0 @@
-pub mod Ticks
-pub mod Back
-pub mod Order

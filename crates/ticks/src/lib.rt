@@ -1,1 +1,0 @@
-// The order of ticks: marks in either order, marks of two phones merged, and a rename taken back; definitions and laws, no code.

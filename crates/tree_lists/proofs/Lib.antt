@@ -1,0 +1,4 @@
+pub mod Filled
+pub mod Named
+pub mod Results
+pub mod Refused

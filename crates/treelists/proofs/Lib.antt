@@ -1,4 +1,0 @@
-pub mod Filled
-pub mod Named
-pub mod Told
-pub mod Refused

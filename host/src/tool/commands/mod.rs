@@ -1,0 +1,21 @@
+//! What each command does, a file or a folder for each. None needs another; the table above names them all.
+pub mod add;
+pub mod attributes;
+pub mod blank;
+pub mod check;
+pub mod dump;
+pub mod erase;
+pub mod extract;
+pub mod gather;
+pub mod help;
+pub mod list;
+pub mod map;
+pub mod read;
+pub mod record;
+pub mod rename;
+pub mod report;
+pub mod salvage;
+pub mod save;
+pub mod sector;
+pub mod start;
+pub mod tree;
