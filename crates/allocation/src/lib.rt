@@ -113,13 +113,15 @@ pub fn pick_bits(map: &[u8], n: usize, list: &mut [u16])
             return;
         }
         let c = b;
-        if is_full(map, c) {
-            b += 8;
-        } else {
+        if !maps::has_bit(map, c) {
             b += 1;
-            if !maps::has_bit(map, c) {
-                list[j] = c as u16;
-                j += 1;
+            list[j] = c as u16;
+            j += 1;
+        } else {
+            if is_full(map, c) {
+                b += 8;
+            } else {
+                b += 1;
             }
         }
     }

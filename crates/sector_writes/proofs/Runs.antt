@@ -97,6 +97,10 @@ module _ (front back d : List ℕ) (at from : ℕ) where
 
 -- ---- the sector
 
+-- a link, by its two bytes
+pub link-put : (d : List ℕ) (at t s : ℕ) (d′ d″ : List ℕ) → d′ ≡ put d at (t ∷ []) → d″ ≡ put d′ (at + 1) (s ∷ []) → d″ ≡ put d at (t ∷ s ∷ [])
+link-put d at t s d′ d″ p q = q ∙ ap (λ (y : List ℕ). put y (at + 1) (s ∷ [])) p ∙ put-append d at (t ∷ []) (s ∷ [])
+
 -- its payload, and after it the link
 block-put : (d : List ℕ) (at : ℕ) (st : List ℕ) (f t s : ℕ) (d′ d″ : List ℕ) → d′ ≡ put d at (bytesFrom st f 510) → d″ ≡ put d′ (at + 510) (t ∷ s ∷ [])
     → d″ ≡ put d at (sectorBytes st f t s)

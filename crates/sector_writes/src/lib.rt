@@ -1,6 +1,6 @@
 // The data sectors of a file: the header in front of its body, the link to a sector, and a sector with its payload and its link.
 ghost use mathlib.Core.Path.{_≡_};
-ghost use mathlib.Core.List.{_++_};
+ghost use mathlib.Core.List.{_++_, _∷_, []};
 ghost use Prim.Native.Nat.{_≤_};
 ghost use Rattle.buffers.specs.Bytes.{put};
 ghost use Rattle.geometry.specs.Disk.{placeOrEnd};
@@ -80,6 +80,17 @@ fn write_payload(image: &mut [u8], at: usize, front: &[u8], back: &[u8], from: u
     write_run(image, at + n, back, 0, 510 - n);
 }
 
+// Puts a link at a place. Byte by byte: two bytes laid down one after the other and read back as a pair would make the machine wait.
+fn write_link(image: &mut [u8], at: usize, link: Link)
+    requires { ⌜ at ≤ 819710 ⌝ }
+    ensures { λ _. ⌜ now (image .exit) ≡ put (now (image .entry)) at (link .track ∷ link .sector ∷ []) ⌝ }
+{
+    let track = [link.track];
+    buffers::copy_into(image, at, &track);
+    let sector = [link.sector];
+    buffers::copy_into(image, at + 1, &sector);
+}
+
 // Writes the sector of a map bit: as payload the 510 bytes from a place on of two lists one after the other, 0 past their end;
 // and then a link.
 pub fn write_sector(
@@ -94,6 +105,5 @@ pub fn write_sector(
 {
     let at = geometry::bit_place(bit);
     write_payload(image, at, front, back, from);
-    let last = [link.track, link.sector];
-    buffers::copy_into(image, at + 510, &last);
+    write_link(image, at + 510, link);
 }

@@ -29,31 +29,17 @@ same-length-2 c = picked-long _ _ _ _ _ _ (c .before .before .before .loop .inv)
 returns-2 : tie.Need-returns-2 Inv-loop μ-loop
 returns-2 c = picked-room _ _ _ _ _ _ (c .before .before .before .loop .inv) (c .if2 .taken)
 
-is-full-requires : tie.Need-is-full-requires Inv-loop μ-loop
-is-full-requires c κs = search needs
+has-bit-requires : tie.Need-has-bit-requires Inv-loop μ-loop
+has-bit-requires c κs = search needs
 
 add-b : tie.Need-add-b Inv-loop μ-loop
 add-b c = search needs
-
-loop-less : tie.Need-loop-less Inv-loop μ-loop
-loop-less c = search needs
-
-loop-again : tie.Need-loop-again Inv-loop μ-loop
-loop-again c =
-    let t = c .before .before .before .before in
-    picked-full _ _ _ _ _ _ (t .before .loop .inv) (t .loop-test .taken) (sym (c .before .is-full .ensures) ∙ c .if3 .taken)
-
-add-b-2 : tie.Need-add-b-2 Inv-loop μ-loop
-add-b-2 c = search needs
-
-has-bit-requires : tie.Need-has-bit-requires Inv-loop μ-loop
-has-bit-requires c κs = search needs
 
 cast-list : tie.Need-cast-list Inv-loop μ-loop
 cast-list c = search needs
 
 mul-list : tie.Need-mul-list Inv-loop μ-loop
-mul-list c = omega (arith, c .before .before .before .before .if2 .left, picked-long _ _ _ _ _ _ (c .before .before .before .before .before .before .before .loop .inv))
+mul-list c = omega (arith, c .before .before .if2 .left, picked-long _ _ _ _ _ _ (c .before .before .before .before .before .loop .inv))
 
 slice-write-list : tie.Need-slice-write-list Inv-loop μ-loop
 slice-write-list c = search needs
@@ -61,13 +47,30 @@ slice-write-list c = search needs
 add-j : tie.Need-add-j Inv-loop μ-loop
 add-j c = search needs
 
+loop-less : tie.Need-loop-less Inv-loop μ-loop
+loop-less c = search needs
+
+loop-again : tie.Need-loop-again Inv-loop μ-loop
+loop-again c =
+    let t = c .before .before .before .before in
+    picked-clear _ _ _ _ _ _ (t .before .loop .inv) (t .loop-test .taken) (c .before .before .before .if1 .left) (sym (c .before .has-bit .ensures) ∙ not-true _ (c .if3 .taken))
+
+is-full-requires : tie.Need-is-full-requires Inv-loop μ-loop
+is-full-requires c κs = search needs
+
+add-b-2 : tie.Need-add-b-2 Inv-loop μ-loop
+add-b-2 c = search needs
+
 loop-less-2 : tie.Need-loop-less-2 Inv-loop μ-loop
 loop-less-2 c = search needs
 
 loop-again-2 : tie.Need-loop-again-2 Inv-loop μ-loop
 loop-again-2 c =
     let t = c .before .before .before .before .before .before in
-    picked-clear _ _ _ _ _ _ (t .before .loop .inv) (t .loop-test .taken) (c .before .before .before .before .before .if1 .left) (sym (c .before .has-bit .ensures) ∙ not-true _ (c .if4 .taken))
+    picked-full _ _ _ _ _ _ (t .before .loop .inv) (t .loop-test .taken) (sym (c .before .is-full .ensures) ∙ c .if4 .taken)
+
+add-b-3 : tie.Need-add-b-3 Inv-loop μ-loop
+add-b-3 c = search needs
 
 loop-less-3 : tie.Need-loop-less-3 Inv-loop μ-loop
 loop-less-3 c = search needs
@@ -75,7 +78,7 @@ loop-less-3 c = search needs
 loop-again-3 : tie.Need-loop-again-3 Inv-loop μ-loop
 loop-again-3 c =
     let t = c .before .before .before .before .before .before in
-    picked-set _ _ _ _ _ _ (t .before .loop .inv) (t .loop-test .taken) (sym (c .before .has-bit .ensures) ∙ not-false _ (c .if4 .left))
+    picked-set _ _ _ _ _ _ (t .before .loop .inv) (t .loop-test .taken) (sym (c .before .before .before .has-bit .ensures) ∙ not-false _ (c .before .before .if3 .left))
 
 same-length-3 : tie.Need-same-length-3 Inv-loop μ-loop
 same-length-3 c = picked-long _ _ _ _ _ _ (c .before .loop .inv)
@@ -94,18 +97,19 @@ pick-bits-spec =
     returns
     same-length-2
     returns-2
-    is-full-requires
-    add-b
-    loop-less
-    loop-again
-    add-b-2
     has-bit-requires
+    add-b
     cast-list
     mul-list
     slice-write-list
     add-j
+    loop-less
+    loop-again
+    is-full-requires
+    add-b-2
     loop-less-2
     loop-again-2
+    add-b-3
     loop-less-3
     loop-again-3
     same-length-3

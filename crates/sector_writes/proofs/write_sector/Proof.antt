@@ -12,14 +12,11 @@ bit-place-requires c κs = search needs
 write-payload-requires : tie.Need-write-payload-requires
 write-payload-requires c κs = end-le _ _ (c .before .bit-place .ensures)
 
-add-copy-into : tie.Need-add-copy-into
-add-copy-into c = let h = end-le _ _ (c .before .before .before .before .before .bit-place .ensures) in omega arith
+add-write-link : tie.Need-add-write-link
+add-write-link c = let h = end-le _ _ (c .before .before .before .before .before .bit-place .ensures) in omega arith
 
-slice-aggregate-copy-into : tie.Need-slice-aggregate-copy-into
-slice-aggregate-copy-into c = search needs
-
-copy-into-requires : tie.Need-copy-into-requires
-copy-into-requires c κs = search needs
+write-link-requires : tie.Need-write-link-requires
+write-link-requires c κs = let h = end-le _ _ (c .before .before .before .before .before .bit-place .ensures) in omega arith
 
 same-length : tie.Need-same-length
 same-length c = search needs
@@ -27,8 +24,8 @@ same-length c = search needs
 returns : tie.Need-returns
 returns c =
     let w = c .before .before in
-    let p = w .before .before .before .before .before in
-    block-at _ _ _ (p .before .before .bit-place .ensures) _ _ _ _ _ _ (p .write-payload .ensures) (w .copy-into .ensures)
+    let p = w .before .before .before .before in
+    block-at _ _ _ (p .before .before .bit-place .ensures) _ _ _ _ _ _ (p .write-payload .ensures) (w .write-link .ensures)
 
 pub write-sector-spec : {M : Type 1} → statement M
 write-sector-spec =
@@ -36,8 +33,7 @@ write-sector-spec =
     (tie.spec
     bit-place-requires
     write-payload-requires
-    add-copy-into
-    slice-aggregate-copy-into
-    copy-into-requires
+    add-write-link
+    write-link-requires
     same-length
     returns)
