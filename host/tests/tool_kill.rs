@@ -42,10 +42,16 @@ fn a_killed_tool_leaves_the_old_files_or_the_new() {
     let mut pace = fixture.measure();
     println!("at first: {}, saves of 20 to {} sectors", pace.words(), pace.most_sectors());
     let [mut saves, mut recordings, mut gathers, mut many, mut others] = [(); 5].map(|()| Tally::default());
-    while saves.kills() < kills {
+    // How many moments fall between two writes, and how often a file is there to gather, hangs on the machine too.
+    while saves.kills() < kills
+        || saves.middle < kills / 5
+        || recordings.middle < kills / 10
+        || gathers.kills() < kills / 5
+        || many.rounds < kills / 10
+    {
         assert!(
-            saves.rounds < 3 * kills + 20,
-            "too few runs were still there to kill: {saves}"
+            saves.rounds < 5 * kills + 20,
+            "too few were killed, or between two writes: saves {saves}; recordings {recordings}; gathers {gathers}; several erased {many}"
         );
         fixture.save_round(&mut pace, &mut saves);
         if saves.rounds % 2 == 1 {
@@ -67,13 +73,6 @@ fn a_killed_tool_leaves_the_old_files_or_the_new() {
     println!("gathers: {gathers}");
     println!("several erased at once: {many}");
     println!("erase, rename, hide, show: {others}");
-    assert!(many.rounds >= kills / 10, "too few files were erased at once: {many}");
-    assert!(
-        recordings.middle >= kills / 10,
-        "too few recordings were killed between two writes: {recordings}"
-    );
-    assert!(gathers.kills() >= kills / 5, "too few gathers were killed: {gathers}");
-    assert!(saves.middle >= kills / 5, "too few kills fell between two writes: {saves}");
 }
 
 #[test]
@@ -82,10 +81,10 @@ fn a_journey_through_kills_goes_as_the_ledger_says() {
     let kills = number("VARNUCHT_KILLS", 120);
     let mut journey = Journey::new(number("VARNUCHT_SEED", 1) as u64);
     let (mut pace, mut changes) = (journey.measure(), Tally::default());
-    while changes.kills() < kills {
+    while changes.kills() < kills || changes.middle < kills / 8 {
         assert!(
-            changes.rounds < 4 * kills + 20,
-            "too few runs were still there to kill: {changes}"
+            changes.rounds < 5 * kills + 20,
+            "too few were killed, or between two writes: {changes}"
         );
         journey.round(&mut pace, &mut changes);
         if changes.rounds % 16 == 0 {
@@ -93,8 +92,4 @@ fn a_journey_through_kills_goes_as_the_ledger_says() {
         }
     }
     println!("a journey: {changes}");
-    assert!(
-        changes.middle >= kills / 8,
-        "too few kills fell between two writes: {changes}"
-    );
 }

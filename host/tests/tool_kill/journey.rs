@@ -69,6 +69,9 @@ impl Journey {
 
     /// A change that the ledger refuses: the tool does too, and leaves every byte.
     pub fn refused_round(&mut self) {
+        if self.ledger.files() == 0 {
+            return;
+        }
         let name = self.any_name();
         let request = SaveRequest {
             name: name.clone(),
@@ -92,6 +95,9 @@ impl Journey {
 
     fn step(&mut self, pace: &Pace) -> Step {
         let size = self.fixture.draw.number(20, pace.most_sectors() + 1);
+        if self.ledger.files() == 0 {
+            return self.save(size);
+        }
         if self.ledger.free() < size || self.ledger.files() > 40 {
             return self.erase();
         }
@@ -187,6 +193,7 @@ impl Journey {
         }
     }
 
+    /// Of a file that is there; there must be one.
     fn any_name(&mut self) -> Vec<u8> {
         let names = self.ledger.names();
         names[self.fixture.draw.number(0, names.len())].to_vec()
