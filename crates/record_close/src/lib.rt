@@ -17,15 +17,15 @@ ghost use Rattle.saves.specs.Write.{Bits};
 ghost use Rattle.recordings.specs.Recording.{closeData, closeSteps};
 ghost use Rattle.recordings.specs.Calls.{closeCall};
 ghost use Rattle.record_close.specs.Close.{requestOf, endSectors, endNumbers, RecordingChain, Closable, CloseReady, StillFits, CloseSlotOf};
+use allocation::HeaderFields;
 use files::Lookup;
 use recording_links::Continuation;
-use sector_writes::Link;
 use recordings::Record;
 use refusals::Answer;
 use refusals::Reason;
 use refusals::Verdict;
+use sector_writes::Link;
 use surveys::UsedMap;
-use allocation::HeaderFields;
 
 // The kind of the file that is recorded, and where it is loaded.
 fn start_of(kept: Record) -> HeaderFields

@@ -5,12 +5,12 @@ ghost use Rattle.refusals.specs.Answers.{replyOf};
 ghost use Rattle.recordings.specs.Calls.{blankRecord, openRecordingReply, openedRecord};
 ghost use Rattle.saves.specs.Write.{saveRequest};
 ghost use Rattle.record_open.specs.Fresh.{freshFor};
+use allocation::HeaderFields;
 use files::Lookup;
 use recordings::Record;
 use refusals::Reason;
 use refusals::Verdict;
 use surveys::UsedMap;
-use allocation::HeaderFields;
 
 // What an opening gives: why it is refused, if it is; and the record, which is then blank.
 pub struct OpenedRecord {

@@ -13,13 +13,13 @@ ghost use Rattle.changes.specs.ChangeCalls.{ReturnsChange, Applied};
 ghost use Rattle.allocation.specs.Taken.{lowestClearBits};
 ghost use Rattle.sector_writes.specs.Sector.{linkToNext};
 ghost use Rattle.saves.specs.Write.{saveRequest, saveRequestFor, Bits, Writable, SaveReady, SaveSlot};
+use allocation::HeaderFields;
 use files::Lookup;
-use sector_writes::Link;
 use refusals::Answer;
 use refusals::Reason;
 use refusals::Verdict;
+use sector_writes::Link;
 use surveys::UsedMap;
-use allocation::HeaderFields;
 
 // The link to the sector `j` of a chain; past its end there is none.
 fn link_to(bits: &[u16], j: usize) -> Link

@@ -6,8 +6,8 @@ ghost use Rattle.buffers.specs.Bytes.{put};
 ghost use Rattle.geometry.specs.Disk.{placeOrEnd};
 ghost use Rattle.plans.specs.Saving.{sectorBytes};
 ghost use Rattle.sector_writes.specs.Sector.{header, bytesFrom, linkToBit};
-use geometry::Address;
 use allocation::HeaderFields;
+use geometry::Address;
 
 // The last two bytes of a data sector: where the next one is.
 pub struct Link {

@@ -9,8 +9,8 @@ ghost use Rattle.directory.specs.Places.{slots};
 ghost use Rattle.plans.specs.Saving.{mapWith};
 ghost use Rattle.plans.specs.Plan.{oldName, sameSector, withoutNextName};
 ghost use Rattle.slot_writes.specs.Filed.{chainBytes, startFields, freshSlot, keptSlot, slotOf, hasNextName, directorySectors, slotWritten};
-use sector_writes::Link;
 use allocation::HeaderFields;
+use sector_writes::Link;
 
 // The map with the bits of a chain set.
 pub fn map_with(bits: &[u16]) -> [u8; 195]
