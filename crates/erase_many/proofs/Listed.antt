@@ -13,7 +13,7 @@ use Rattle.buffers.proofs.Tests.{or-either, or-left, or-right}
 use Rattle.directory.specs.Places.{slots, slotAt, dirSector}
 use Rattle.directory.proofs.Places.{gap-is, slot-sector, slot-within}
 use Rattle.steps.specs.Sectors.{isListed, Once}
-use Rattle.steps.proofs.Sectors.{listed-head}
+use Rattle.plans.proofs.NewFile.{listed-at}
 use Rattle.erase_many.specs.EraseMany.{pairs, touches, sectorsFrom, sectorsWith}
 
 -- ---- two slots to a sector
@@ -98,11 +98,6 @@ rising-more : (x : ℕ) (xs : List ℕ) → ((k : ℕ) → k < length xs → x <
 rising-more x xs h r j zero a b = absurd (omega arith)
 rising-more x xs h r zero (suc k) a b = h k (omega arith)
 rising-more x xs h r (suc j) (suc k) a b = r j k (omega arith) (omega arith)
-
-pub listed-at : (xs : List ℕ) (k : ℕ) → k < length xs → isListed (getD xs k 0) xs ≡ true
-listed-at [] k h = absurd (omega arith)
-listed-at (x ∷ xs) zero h = listed-head x xs
-listed-at (x ∷ xs) (suc k) h = or-right (eqb (getD xs k 0) x) (isListed (getD xs k 0) xs) (listed-at xs k (omega arith))
 
 -- the first k + 1 of a list are the first k, and the next
 pub listed-next : (a k : ℕ) (xs : List ℕ) → k < length xs → isListed a (take (suc k) xs) ≡ (isListed a (take k xs) || eqb a (getD xs k 0))

@@ -27,10 +27,11 @@ use Rattle.steps.proofs.Sectors.{length-cut, cut-old, cut-new, cut-none, cut-al
 use Rattle.plans.specs.Safe.{Safe}
 use Rattle.plans.proofs.Frame.{disk-accepted, holds, holds-sector}
 use Rattle.plans.proofs.Kept.{accepted-apart}
+use Rattle.plans.proofs.NewFile.{listed-at}
 use Rattle.erase_many.specs.EraseMany.{isErased, sectorsWith}
 use Rattle.operations.specs.Operations.{findsIn}
 use Rattle.erase_many.specs.EraseManyCut.{CutLeaves}
-use Rattle.erase_many.proofs.Listed.{listed-at, listed-next, sectors-small}
+use Rattle.erase_many.proofs.Listed.{listed-next, sectors-small}
 use Rattle.erase_many.proofs.Meaning.{gone-was, Fewer}
 use Rattle.erase_many.proofs.EraseManyCut.{fewer-long, cut-leaves}
 
