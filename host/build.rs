@@ -1,4 +1,4 @@
-//! Links the proved archive, which `rt staticlib varnucht` writes to `target/staticlib` of the repository.
+//! Links the proved archive, which `cross/keep` writes to `target/staticlib` of the repository.
 //! `VARNUCHT_ARCHIVE` names another folder to take it from.
 use std::env;
 use std::path::PathBuf;
@@ -15,7 +15,7 @@ fn main() {
     println!("cargo::rerun-if-changed={}", archive.display());
     if !archive.is_file() {
         println!(
-            "cargo::error={} is missing: write it with `rt staticlib varnucht`",
+            "cargo::error={} is missing: write it with `cross/keep`",
             archive.display()
         );
         return;

@@ -1,4 +1,6 @@
 // What a save takes: the lowest slot that holds no file, or what is refused before; and the lowest free map bits.
+#![tactic(auto)]
+
 ghost use Rattle.std.specs.Prelude.{◌≡◌};
 ghost use Rattle.buffers.specs.Bytes.{put};
 ghost use Rattle.refusals.specs.Answers.{reply_of};
@@ -14,7 +16,7 @@ use refusals::{Reason, Verdict};
 use surveys::UsedMap;
 
 // The kind of a file, and where it is loaded.
-#[derive(Drop)]
+#[derive(Clone, Copy)]
 pub struct HeaderFields {
     pub kind: usize,
     pub page: usize,

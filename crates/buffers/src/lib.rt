@@ -1,4 +1,6 @@
 // Bytes of a lent buffer: a byte, eight as one number, a part, a run of bytes copied.
+#![tactic(auto)]
+
 ghost use Rattle.std.specs.Prelude.{◌≡◌, ℕ, ◌+◌, ◌-◌, ◌≤◌, ◌<◌, min, length, get_or};
 ghost use Rattle.buffers.specs.Bytes.{part, put, word, word_or};
 

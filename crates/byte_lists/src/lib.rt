@@ -1,5 +1,7 @@
 // The changes for the app's C layer, with the list of sectors as bytes, two to a number, low byte first; and the listing of a
 // directory with its slots so.
+#![tactic(auto)]
+
 ghost use Rattle.std.specs.Prelude.{◌≡◌, ◌+◌, ◌*◌, ◌/◌, ◌≤◌, length, take};
 ghost use Rattle.buffers.specs.Bytes.{put};
 ghost use Rattle.refusals.specs.Answers.{outcome_of, out};

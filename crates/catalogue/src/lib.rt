@@ -1,4 +1,6 @@
 // The text of the listing program: a line for each live, unhidden slot and then the free count, or a refusal.
+#![tactic(auto)]
+
 ghost use Rattle.std.specs.Prelude.{◌≡◌, length};
 ghost use Rattle.refusals.specs.Answers.{outcome_of, out};
 ghost use Rattle.text_lines.specs.Written.{Wrote};

@@ -1,4 +1,6 @@
 // The chain of a file: row 10 of the table at one slot.
+#![tactic(auto)]
+
 ghost use Rattle.std.specs.Prelude.{◌≡◌, ◌<◌};
 ghost use Rattle.geometry.specs.Disk.{bit_of, place_or_end};
 ghost use Rattle.slots.specs.Slot.{first_of, slot_fields};

@@ -1,5 +1,7 @@
 // The changes to one slot: erase, rename, hide, show, protect, release. Each tests all that it can refuse before it writes,
 // and it writes the directory sector of that slot alone.
+#![tactic(auto)]
+
 ghost use Rattle.std.specs.Prelude.{◌≡◌, [], ◌∷◌, ◌+◌, ◌≤◌, ◌<◌, length};
 ghost use Rattle.buffers.specs.Bytes.{put};
 ghost use Rattle.directory.specs.Places.{slot_at};
@@ -166,7 +168,7 @@ pub fn rename(image: &mut [u8], name: &[u8], new: &[u8], list: &mut [u16]) -> An
 }
 
 // The four marks.
-#[derive(Drop)]
+#[derive(Clone, Copy)]
 pub enum Marking {
     Hide,
     Show,

@@ -1,5 +1,7 @@
 // The directory: where its slots lie, how many of them are read, and a slot by its name. All of it goes by the directory's
 // bytes alone, and answers for a slice of any length.
+#![tactic(auto)]
+
 ghost use Rattle.std.specs.Prelude.{◌≡◌, ◌≤◌, ◌<◌};
 ghost use Rattle.slots.specs.Tracks.{bad_tracks};
 ghost use Rattle.directory.specs.Places.{slot_place, dir_sector_or};
@@ -10,7 +12,7 @@ ghost use Rattle.directory.specs.Find.{find, found_at};
 pub const SLOTS: usize = 778;
 
 // A live slot, counted from 0, or none.
-#[derive(Drop)]
+#[derive(Clone, Copy)]
 pub enum Found {
     At(usize),
     Nothing,

@@ -1,5 +1,7 @@
 // The disk check, whole: the first refusal of the table in its order, and with it the used map. Beside it the release check,
 // by the same pass.
+#![tactic(auto)]
+
 ghost use Rattle.std.specs.Prelude.{◌≡◌};
 ghost use Rattle.refusals.specs.Order.{scan};
 ghost use Rattle.refusals.specs.Answers.{reply_of};

@@ -1,10 +1,13 @@
 // The raw sector call over the images of drives 1 and 2.
+#![tactic(auto)]
+
 ghost use Rattle.std.specs.Prelude.{◌≡◌};
 ghost use Rattle.drives.specs.Raw.{raw_refusal, raw_sector};
 
 use refusals::Reason;
 
 // The refusal's number, 0 for none.
+#[tactic(auto, unfolding(crate::specs::Raw::raw_refusal, crate::specs::Raw::is_image, crate::specs::Raw::is_drive))]
 pub fn raw_refusal(one: &[u8], two: &[u8], drive: usize, track: usize, sector: usize) -> usize
     ensures { result ≡ raw_refusal one.now two.now drive track sector }
 {

@@ -1,5 +1,7 @@
 // Erasing many files at once. The names are answered first, on a map of the slots erased so far; then the sectors that
 // change are counted; and only then anything is written.
+#![tactic(auto)]
+
 ghost use Rattle.std.specs.Prelude.{◌≡◌, ◌∷◌, [], ◌+◌, ◌*◌, ◌≤◌, ◌<◌, ltb, length, get_or, set};
 ghost use Rattle.buffers.specs.Bytes.{any, put};
 ghost use Rattle.maps.specs.Bits.{has};

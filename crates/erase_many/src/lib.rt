@@ -1,1 +1,2 @@
 // Erasing many files at once: definitions and laws; no code.
+#![tactic(auto)]

@@ -1,4 +1,6 @@
 // The calls that read an accepted disk: its listing, a file's body, a file's start address.
+#![tactic(auto)]
+
 ghost use Rattle.std.specs.Prelude.{◌≡◌, true, ◌*◌, ◌≤◌, ◌<◌, length};
 ghost use Rattle.buffers.specs.Bytes.{put};
 ghost use Rattle.refusals.specs.Order.{refuse};
@@ -76,7 +78,7 @@ pub fn list(image: &[u8], buf: &mut [u8]) -> Answer
 }
 
 // A live slot, counted from 0, by its name; or what is refused before it is found: the disk check's numbers, 12, 15.
-#[derive(Drop)]
+#[derive(Clone, Copy)]
 pub enum Lookup {
     At(usize),
     Err(Refused),

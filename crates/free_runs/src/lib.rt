@@ -1,4 +1,6 @@
 // The lowest run of clear bits of a map, found in one pass.
+#![tactic(auto)]
+
 ghost use Rattle.std.specs.Prelude.{◌≡◌};
 ghost use Rattle.directory.specs.Find.{found_at};
 ghost use Rattle.free_runs.specs.Runs.{stretch, lowest_clear};

@@ -1,5 +1,7 @@
 // Gathering a scattered file: its sectors copied to the lowest run of free ones, then its slot, and the list of the sectors
 // written.
+#![tactic(auto)]
+
 ghost use Rattle.std.specs.Prelude.{◌≡◌, ◌+◌, ◌≤◌, length};
 ghost use Rattle.buffers.specs.Bytes.{part, put};
 ghost use Rattle.geometry.specs.Disk.{place_or_end};
@@ -21,14 +23,14 @@ use refusals::{Answer, Reason, Refused, Verdict};
 use surveys::UsedMap;
 
 // The last two bytes of a data sector: where the next one is.
-#[derive(Drop)]
+#[derive(Clone, Copy)]
 struct Link {
     track: u8,
     sector: u8,
 }
 
 // Where a file went: its slot, counted from 0, how many sectors, and the map bit of the first.
-#[derive(Drop)]
+#[derive(Clone, Copy)]
 pub struct Move {
     pub slot: usize,
     pub count: usize,
@@ -36,7 +38,7 @@ pub struct Move {
 }
 
 // What a gather comes to: the file stays where it is, it was moved, or the call is refused.
-#[derive(Drop)]
+#[derive(Clone, Copy)]
 pub enum Gathered {
     InPlace,
     Relocated(Move),

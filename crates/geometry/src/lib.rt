@@ -1,5 +1,7 @@
 // The sector arithmetic: tracks and sectors, places in the image, map bits.
 // It stands below the directory rules. Every function answers for numbers of any size.
+#![tactic(auto)]
+
 ghost use Rattle.std.specs.Prelude.{◌≡◌, ◌≤◌};
 ghost use Rattle.geometry.specs.Disk.{is_sector, is_data, bit_of, place_or_end, spot_of, spot_of_bit, map_bit_of, address_of};
 
@@ -14,21 +16,21 @@ pub const IMAGE_SIZE: usize = 819200;
 pub const DATA_SECTORS: usize = 1560;
 
 // Where a sector begins in the image.
-#[derive(Drop)]
+#[derive(Clone, Copy)]
 pub enum Spot {
     At(usize),
     NoSector,
 }
 
 // The map bit of a sector.
-#[derive(Drop)]
+#[derive(Clone, Copy)]
 pub enum MapBit {
     Bit(usize),
     NotData,
 }
 
 // The track and the sector of a map bit.
-#[derive(Drop)]
+#[derive(Clone, Copy)]
 pub enum Address {
     Sector(usize, usize),
     NoBit,
@@ -53,6 +55,7 @@ pub fn is_sector(track: usize, sector: usize) -> bool
 }
 
 // Has the map a bit for it?
+#[tactic(auto, unfolding(crate::specs::Disk::is_data))]
 pub fn is_data(track: usize, sector: usize) -> bool
     ensures { result ≡ is_data track sector }
 {

@@ -1,4 +1,6 @@
 // What a file's first sector says: rows 11 and 25 of the table at one slot, after row 10, and the length of the file's body.
+#![tactic(auto)]
+
 ghost use Rattle.std.specs.Prelude.{◌≡◌, true, ◌≤◌, ◌<◌};
 ghost use Rattle.refusals.specs.Answers.{reply_of};
 ghost use Rattle.maps.specs.Bits.{has};

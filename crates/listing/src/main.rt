@@ -1,4 +1,6 @@
 // Writes the listing of the disk image on standard input: the catalogue's text, and nothing else.
+#![tactic(auto)]
+
 ghost use Rattle.std.specs.Prelude.{◌≡◌, length};
 
 use refusals::Answer;

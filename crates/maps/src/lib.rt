@@ -1,4 +1,6 @@
 // Maps of 195 bytes, a bit for each data sector, worked on by bytes.
+#![tactic(auto)]
+
 ghost use Rattle.std.specs.Prelude.{◌≡◌, ◌&&◌, ◌+◌, ◌*◌, ◌≤◌, ◌<◌, length};
 ghost use Rattle.std.specs.Int.Bits.{bit_or, bit_and};
 ghost use Rattle.std.specs.Int.Count.{ones};

@@ -1,4 +1,6 @@
 // Names: when two are the same, capitals or not, which can be asked for, and how one is filled to ten bytes.
+#![tactic(auto)]
+
 ghost use Rattle.std.specs.Prelude.{◌≡◌};
 ghost use Rattle.buffers.specs.Bytes.{part};
 ghost use Rattle.names.specs.Name.{same_name, same_bytes, lower, askable, padded, key_of};
@@ -21,6 +23,7 @@ pub fn same_bytes(a: &[u8], b: &[u8]) -> bool
 }
 
 // A capital letter as its small one, every other byte as it is.
+#[tactic(auto, unfolding(crate::specs::Name::lower))]
 fn lower(b: u8) -> u8
     ensures { result ≡ lower b }
 {
@@ -65,6 +68,7 @@ pub fn key_of(name: &[u8]) -> u64
 }
 
 // Whether a name can be asked for.
+#[tactic(auto, unfolding(crate::specs::Name::askable))]
 pub fn is_askable(name: &[u8]) -> bool
     ensures { result ≡ askable name.now }
 {

@@ -1,5 +1,7 @@
 // Rows 26 to 28, which the listing of a directory asks for: whether the directories of a disk make a tree; and row 29, which
 // an erase asks for. All of it goes by the directory's bytes alone, and answers for a slice of any length.
+#![tactic(auto)]
+
 ghost use Rattle.std.specs.Prelude.{◌≡◌, ◌-◌, get_or, set, replicate};
 ghost use Rattle.buffers.specs.Bytes.{any};
 ghost use Rattle.refusals.specs.Order.{rows, scan};
@@ -13,7 +15,7 @@ use refusals::{Reason, Refused, Verdict};
 
 // The directories by their codes: 0 where none has the code, else one more than the code of the directory that it is in.
 // Their number, and whether each has a code of its own (else the table is not whole).
-#[derive(Drop)]
+#[derive(Clone, Copy)]
 struct Codes {
     verdict: Verdict,
     above: [u16; 256],
@@ -21,7 +23,7 @@ struct Codes {
 }
 
 // Whether the directories make a tree, and how many there are where they do (else 0).
-#[derive(Drop)]
+#[derive(Clone, Copy)]
 pub struct Nesting {
     pub verdict: Verdict,
     pub number: usize,

@@ -1,4 +1,6 @@
 // An answer as one number, for the app's C layer: refusal + 256 × slot + 2^24 × value + 2^48 × free.
+#![tactic(auto)]
+
 ghost use Rattle.std.specs.Prelude.{◌≡◌};
 ghost use Rattle.refusals.specs.Answers.{reply_of, outcome_of};
 ghost use Rattle.packing.specs.Packed.{clipped, clipped_at, check_outcome};

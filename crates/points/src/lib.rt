@@ -1,5 +1,7 @@
 // What the programs of the documents' points share: the lines that they write, one for each call with its answer, and an
 // empty disk. No contract can say what is written, so one that only writes states nothing.
+#![tactic(auto)]
+
 ghost use Rattle.std.specs.Prelude.{◌≡◌, length, get_or, replicate};
 ghost use Rattle.files.specs.Calls.{listing, reading};
 
@@ -11,8 +13,8 @@ pub const LARGEST: usize = 18446744073709551615;
 
 // An empty disk.
 pub fn blank() -> [u8; 819200]
-    ensures value { result ≡ replicate 819200 0 }
-    ensures value_2 { 819200 ≡ length result }
+    ensures zeros { result ≡ replicate 819200 0 }
+    ensures size { 819200 ≡ length result }
 {
     [0; 819200]
 }

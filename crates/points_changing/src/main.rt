@@ -1,4 +1,5 @@
 // Points of document 01: erase, rename and the marks, and what a save takes of an erased file.
+#![tactic(auto)]
 
 fn saved(what: &[u8], image: &mut [u8], name: &[u8], body: &[u8], list: &mut [u16]) {
     points::title(b"save of ", what);

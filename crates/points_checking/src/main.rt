@@ -1,4 +1,6 @@
 // Points of document 01: disks that the check refuses, and those that it only just accepts, by one change of two bytes for each.
+#![tactic(auto)]
+
 ghost use Rattle.std.specs.Prelude.{◌<◌};
 
 // The check of a disk with two bytes changed, which are then put back.

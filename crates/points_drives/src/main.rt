@@ -1,4 +1,5 @@
 // Points of document 01: the raw sector over two images.
+#![tactic(auto)]
 
 fn raw<'a>(one: &'a [u8], two: &'a [u8], drive: usize, track: usize, sector: usize) {
     points::number(b"drive ", drive);

@@ -1,5 +1,7 @@
 // Points of document 02: where the directory ends. A disk with rubbish in every slot gets an end at slots 1, 2, 20, 21 and 80,
 // and a save there; and behind an end stands a slot with each fault that the check knows.
+#![tactic(auto)]
+
 ghost use Rattle.std.specs.Prelude.{◌<◌};
 
 use geometry::Address;

@@ -1,5 +1,7 @@
 // Points of document 02: erasing an erase-many at once. No name, one, one twice, two in one sector, all of 80 and of 778, names that
 // are refused, whole calls that are, and a cut between a file and the directory that it was in.
+#![tactic(auto)]
+
 ghost use Rattle.std.specs.Prelude.{◌<◌};
 
 use geometry::Address;

@@ -1,5 +1,6 @@
 // Points of document 02: a scattered file gathered. A descending chain, runs at the middle and at the end of the disk, one that is a
 // bit short, a hole that is large enough only with the file's own sectors, files that are left, and short lists.
+#![tactic(auto)]
 
 fn saved(image: &mut [u8], name: &[u8], body: &[u8], len: usize, list: &mut [u16]) {
     points::title(b"save of ", name);

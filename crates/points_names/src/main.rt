@@ -1,4 +1,6 @@
 // Points of document 02's M-105: names that differ only in a to z against A to Z are the same name.
+#![tactic(auto)]
+
 use readers::OpenAnswer;
 use refusals::Answer;
 

@@ -1,4 +1,6 @@
 // Points of document 01: listing, reading and start addresses.
+#![tactic(auto)]
+
 ghost use Rattle.std.specs.Prelude.{◌≡◌, length};
 
 // A read into a buffer of dots.

@@ -1,4 +1,6 @@
 // Points of document 02's M-100: a file opened by name, its body piece by piece, and readers that no call made.
+#![tactic(auto)]
+
 use readers::{OpenAnswer, Place};
 
 fn opened(what: &[u8], image: &[u8], name: &[u8]) {

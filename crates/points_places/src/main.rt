@@ -1,4 +1,6 @@
 // Points of document 01: the places of sectors and map bits, and the numbers that a slot holds.
+#![tactic(auto)]
+
 use geometry::{Address, MapBit, Spot};
 
 fn sector_line(track: usize, sector: usize) {

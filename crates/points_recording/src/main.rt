@@ -1,6 +1,8 @@
 // Points of document 02: save while recording. Bodies about the ends of sectors in pieces of 1, 510 and 511 bytes and whole, and the
 // largest in pieces of 4,096, each held to one save; and what may come between opening and close: a hide, a save, a save and its
 // erase, a piece that is cut, another recording, and a rename that takes the name.
+#![tactic(auto)]
+
 ghost use Rattle.std.specs.Prelude.{◌≤◌};
 
 use recordings::Record;

@@ -1,4 +1,6 @@
 // Points of document 02: the release check beside the first, on disks built from the document's own numbers.
+#![tactic(auto)]
+
 ghost use Rattle.std.specs.Prelude.{◌<◌};
 
 // What each check says of a disk.

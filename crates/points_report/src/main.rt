@@ -1,4 +1,6 @@
 // Points of document 02's M-111: reports as the app lends them, on each side of every edge.
+#![tactic(auto)]
+
 use geometry::Address;
 use refusals::Answer;
 

@@ -1,4 +1,5 @@
 // Points of document 01: save, up to the largest body that a disk holds.
+#![tactic(auto)]
 
 fn saved(what: &[u8], image: &mut [u8], name: &[u8], body: &[u8], list: &mut [u16]) {
     points::title(b"save of ", what);

@@ -1,4 +1,6 @@
 // Points of document 02's M-107: files of kinds 1 to 4, whose header has their length and their start.
+#![tactic(auto)]
+
 use readers::OpenAnswer;
 use refusals::Answer;
 

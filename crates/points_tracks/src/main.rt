@@ -1,5 +1,7 @@
 // Points of document 02: directories of more than four tracks. What byte 255 of slot 1 says, where the slots past the gap lie,
 // which map bits are data, what a save into slot 1 keeps, and a directory of 778 slots.
+#![tactic(auto)]
+
 ghost use Rattle.std.specs.Prelude.{◌<◌};
 
 use geometry::Address;

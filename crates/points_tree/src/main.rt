@@ -1,5 +1,7 @@
 // Points of document 02: subdirectories. Directories inside directories to depth 255, an empty one, two with one code, an orphan,
 // rings; the erase of each, and lists that are one number short.
+#![tactic(auto)]
+
 ghost use Rattle.std.specs.Prelude.{◌<◌};
 
 use refusals::Answer;

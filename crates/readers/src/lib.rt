@@ -1,4 +1,6 @@
 // A file's body piece by piece: it is opened by name, and then the next bytes are asked for, as many as a lent buffer holds.
+#![tactic(auto)]
+
 ghost use Rattle.std.specs.Prelude.{◌≡◌, ◌<◌, length};
 ghost use Rattle.chains.specs.File.{file_of};
 ghost use Rattle.readers.specs.Positions.{position_or_next};
@@ -19,14 +21,14 @@ const PAYLOAD: usize = 510;
 const LONGEST_BODY: usize = 795591;
 
 // Where a byte of a chain stands: the number of its sector, and its offset among the sector's 510 payload bytes.
-#[derive(Drop)]
+#[derive(Clone, Copy)]
 pub struct Position {
     pub sector: usize,
     pub offset: usize,
 }
 
 // What is still to be read of a file: where its next byte stands, and how many bytes are left.
-#[derive(Drop)]
+#[derive(Clone, Copy)]
 pub struct Place {
     pub sector: usize,
     pub offset: usize,
@@ -34,7 +36,7 @@ pub struct Place {
 }
 
 // What a piece answers: how many bytes came, and what is then still to be read.
-#[derive(Drop)]
+#[derive(Clone, Copy)]
 pub struct Piece {
     pub came: usize,
     pub sector: usize,
@@ -44,7 +46,7 @@ pub struct Piece {
 
 // What opening answers: where the body begins, with its length, or a refusal. An enum can hold no reference, so the reader
 // itself is made of the place.
-#[derive(Drop)]
+#[derive(Clone, Copy)]
 pub enum OpenAnswer {
     At(Place),
     Err(Refused),
@@ -52,7 +54,7 @@ pub enum OpenAnswer {
 
 // "The reader holds the lent disk and its place in the chain." While it is held the disk is lent to it: "A disk being read can't
 // be changed until the reader is given up."
-#[derive(Drop)]
+#[derive(Clone, Copy)]
 pub struct Reader<'a> {
     pub image: &'a [u8],
     pub sector: usize,

@@ -1,4 +1,6 @@
 // A piece of a recording: the sectors that it completes are written, each with its link, and the record grows by it.
+#![tactic(auto)]
+
 ghost use Rattle.std.specs.Prelude.{◌≡◌, ◌++◌, ◌∷◌, [], ◌+◌, ◌≤◌, ◌<◌, length};
 ghost use Rattle.buffers.specs.Bytes.{put};
 ghost use Rattle.geometry.specs.Disk.{bit_number};
@@ -15,7 +17,7 @@ use refusals::{Answer, Reason, Verdict};
 use surveys::UsedMap;
 
 // What a piece comes to: the answer, and the record of the recording then.
-#[derive(Drop)]
+#[derive(Clone, Copy)]
 pub struct Added {
     pub answer: Answer,
     pub record: Record,

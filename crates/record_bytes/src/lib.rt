@@ -1,4 +1,6 @@
 // The record of a recording as the app lends it: 2,048 bytes at the front of a buffer, laid out here and nowhere else.
+#![tactic(auto)]
+
 ghost use Rattle.std.specs.Prelude.{◌≡◌};
 ghost use Rattle.buffers.specs.Bytes.{put};
 ghost use Rattle.report_bytes.specs.Bytes.{four_of};

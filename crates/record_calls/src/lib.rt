@@ -1,4 +1,6 @@
 // The calls of a recording as the app makes them: the record lent as bytes, and the list of sectors as bytes, two to a number.
+#![tactic(auto)]
+
 ghost use Rattle.std.specs.Prelude.{◌≡◌, []};
 ghost use Rattle.refusals.specs.Order.{refuse};
 ghost use Rattle.refusals.specs.Answers.{outcome_of, refused, unless, out};

@@ -1,5 +1,7 @@
 // Closing a recording: the last sector of its chain, the first if it is another, then the directory's part, and the list of the
 // sectors written.
+#![tactic(auto)]
+
 ghost use Rattle.std.specs.Prelude.{◌≡◌, ◌+◌, ◌-◌, ◌*◌, ◌≤◌, ◌<◌, length, get_or};
 ghost use Rattle.buffers.specs.Bytes.{put};
 ghost use Rattle.geometry.specs.Disk.{bit_number, place_or_end};
@@ -25,8 +27,8 @@ use sector_writes::Link;
 use surveys::UsedMap;
 
 // The kind of the file that is recorded, and where it is loaded.
-fn start_of(kept: Record) -> HeaderFields
-    ensures { result ≡ header_fields_of (request_of kept) }
+fn start_of(kept: &Record) -> HeaderFields
+    ensures { result ≡ header_fields_of (request_of kept.now) }
 {
     HeaderFields {
         kind: kept.kind,
@@ -43,9 +45,9 @@ fn bit_at(bits: &[u16], j: usize) -> usize
 }
 
 // Writes the first sector of a recording, at a map bit.
-fn write_first(image: &mut [u8], kept: Record, bit: usize, link: Link)
-    requires { FieldsFit (header_fields_of (request_of kept)) (length (request_of kept).body) }
-    ensures { image.new ≡ put image.old (place_or_end bit) (sector_bytes (stream (request_of kept)) 0 link.track link.sector) }
+fn write_first(image: &mut [u8], kept: &Record, bit: usize, link: Link)
+    requires { FieldsFit (header_fields_of (request_of kept.now)) (length (request_of kept.now).body) }
+    ensures { image.new ≡ put image.old (place_or_end bit) (sector_bytes (stream (request_of kept.now)) 0 link.track link.sector) }
 {
     let long = kept.long;
     let head = sector_writes::header_of(start_of(kept), long);
@@ -54,9 +56,9 @@ fn write_first(image: &mut [u8], kept: Record, bit: usize, link: Link)
 }
 
 // Writes the last sector of a recording, the `n`-th and not the first, at a map bit.
-fn write_last(image: &mut [u8], kept: Record, n: usize, bit: usize)
-    requires { (n ≡ sectors_taken (request_of kept)) × (1 < n) × (n ≤ 1560) }
-    ensures { image.new ≡ put image.old (place_or_end bit) (sector_bytes (stream (request_of kept)) (510 * (n - 1)) 0 0) }
+fn write_last(image: &mut [u8], kept: &Record, n: usize, bit: usize)
+    requires { (n ≡ sectors_taken (request_of kept.now)) × (1 < n) × (n ≤ 1560) }
+    ensures { image.new ≡ put image.old (place_or_end bit) (sector_bytes (stream (request_of kept.now)) (510 * (n - 1)) 0 0) }
 {
     let from = 510 * (n - 1) - 9;
     let body = kept.last;
@@ -69,9 +71,9 @@ fn write_last(image: &mut [u8], kept: Record, n: usize, bit: usize)
 }
 
 // Writes the last sector of a recording, and then the first if it is another.
-fn write_ends(image: &mut [u8], kept: Record, bits: &[u16])
-    requires { RecordingChain kept bits.now }
-    ensures { image.new ≡ apply image.old (close_data (request_of kept) bits.now) }
+fn write_ends(image: &mut [u8], kept: &Record, bits: &[u16])
+    requires { RecordingChain kept.now bits.now }
+    ensures { image.new ≡ apply image.old (close_data (request_of kept.now) bits.now) }
 {
     let n = bits.len();
     if n < 2 {
@@ -88,9 +90,9 @@ fn write_ends(image: &mut [u8], kept: Record, bits: &[u16])
 }
 
 // Writes a recording into slot `i`: the ends of its chain, no old name behind the slot, then the slot.
-fn write_recording(image: &mut [u8], i: usize, old: bool, kept: Record, bits: &[u16])
-    requires { Closable i old kept bits.now × (256 ≤ length image.old) }
-    ensures { image.new ≡ apply image.old (close_steps old image.old i (request_of kept) bits.now) }
+fn write_recording(image: &mut [u8], i: usize, old: bool, kept: &Record, bits: &[u16])
+    requires { Closable i old kept.now bits.now × (256 ≤ length image.old) }
+    ensures { image.new ≡ apply image.old (close_steps old image.old i (request_of kept.now) bits.now) }
 {
     let map = slot_writes::map_with(bits);
     let first = sector_writes::link_of(bit_at(bits, 0));
@@ -158,11 +160,11 @@ fn write_close(
     n: usize,
     i: usize,
     old: bool,
-    kept: Record,
+    kept: &Record,
     list: &mut [u16],
 )
-    requires { CloseReady map.now n i old kept list.old × (256 ≤ length image.old) }
-    ensures { Applied (close_steps old image.old i (request_of kept) (lowest_clear_bits map.now n)) image.old list.old image.new list.new (end_sectors n + length (dir_sectors old i)) }
+    requires { CloseReady map.now n i old kept.now list.old × (256 ≤ length image.old) }
+    ensures { Applied (close_steps old image.old i (request_of kept.now) (lowest_clear_bits map.now n)) image.old list.old image.new list.new (end_sectors n + length (dir_sectors old i)) }
 {
     let mut bits = no_bits();
     allocation::pick_bits(map, n, &mut bits);
@@ -172,9 +174,9 @@ fn write_close(
 }
 
 // Closes into the free slot `i` of an accepted disk whose used map is `used`, where the sectors and the list suffice.
-fn close_at(image: &mut [u8], used: UsedMap, i: usize, kept: Record, list: &mut [u16]) -> Answer
-    requires { CloseSlotOf image.old used i kept }
-    ensures { changed (outcome_of result) image.new list.new ≡ close_call kept image.old list.old }
+fn close_at(image: &mut [u8], used: UsedMap, i: usize, kept: &Record, list: &mut [u16]) -> Answer
+    requires { CloseSlotOf image.old used i kept.now }
+    ensures { changed (outcome_of result) image.new list.new ≡ close_call kept.now image.old list.old }
 {
     // No disk holds more, and past the largest number the sectors could not be counted.
     if 795591 < kept.long {
@@ -195,9 +197,9 @@ fn close_at(image: &mut [u8], used: UsedMap, i: usize, kept: Record, list: &mut 
 }
 
 // Closes on an accepted disk whose used map is `used` and which the recording still fits.
-fn close_still(image: &mut [u8], used: UsedMap, kept: Record, list: &mut [u16]) -> Answer
-    requires { StillFits image.old used kept }
-    ensures { changed (outcome_of result) image.new list.new ≡ close_call kept image.old list.old }
+fn close_still(image: &mut [u8], used: UsedMap, kept: &Record, list: &mut [u16]) -> Answer
+    requires { StillFits image.old used kept.now }
+    ensures { changed (outcome_of result) image.new list.new ≡ close_call kept.now image.old list.old }
 {
     let name = kept.name;
     match allocation::slot_for(image, start_of(kept), &name) {
@@ -222,7 +224,7 @@ pub fn close(image: &mut [u8], kept: Record, list: &mut [u16]) -> Answer
             let n = (buffers::lesser(kept.long, 795592) + 518) / 510;
             match recording_links::follow(image, used, &was, kept.tracks, n) {
                 Continuation::Stale => refusals::refused_answer(Reason::RecordingMoved, 0),
-                Continuation::NextBit(_) => close_still(image, used, kept, list),
+                Continuation::NextBit(_) => close_still(image, used, &kept, list),
             }
         }
     }

@@ -1,4 +1,6 @@
 // Opening a recording: what a save with an empty body refuses, but for its list; else the record, with nothing in it yet.
+#![tactic(auto)]
+
 ghost use Rattle.std.specs.Prelude.{◌≡◌, []};
 ghost use Rattle.refusals.specs.Answers.{reply_of};
 ghost use Rattle.recordings.specs.Calls.{blank_record, open_recording_reply, opened_record};
@@ -12,7 +14,7 @@ use refusals::{Reason, Verdict};
 use surveys::UsedMap;
 
 // What an opening gives: why it is refused, if it is; and the record, which is then blank.
-#[derive(Drop)]
+#[derive(Clone, Copy)]
 pub struct OpenedRecord {
     pub verdict: Verdict,
     pub record: Record,

@@ -1,4 +1,6 @@
 // The sectors of a recording that its pieces have written: known by the bits that were free at its opening, and by where each leads.
+#![tactic(auto)]
+
 ghost use Rattle.std.specs.Prelude.{◌≡◌, ◌<◌};
 ghost use Rattle.chains.specs.File.{sector_at};
 ghost use Rattle.recordings.specs.Recording.{leads_to};
@@ -8,7 +10,7 @@ use surveys::UsedMap;
 
 // How these sectors lead on: one lacks its link, or the disk is not as it was at opening; or the map bit of the next sector to be
 // written, 1,560 where there is none.
-#[derive(Drop)]
+#[derive(Clone, Copy)]
 pub enum Continuation {
     Stale,
     NextBit(usize),

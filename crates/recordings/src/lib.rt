@@ -1,8 +1,9 @@
 // Save while recording: a save whose body comes in pieces. Definitions and laws, and the record that is kept of a recording.
+#![tactic(auto)]
 
 // What is kept of a recording, of bounded size: a save's particulars, the used map and n as they were at opening, how many bytes
 // came, and those that wait for the close: the first sector's body bytes, and the bytes of the last sector, which is being filled.
-#[derive(Drop)]
+#[derive(Clone, Copy)]
 pub struct Record {
     pub kind: usize,
     pub name: [u8; 10],

@@ -1,11 +1,13 @@
 // The table of refusals: why a call refuses, and the slot it was found at.
+#![tactic(auto)]
+
 ghost use Rattle.std.specs.Prelude.{◌≡◌, ◌≤◌};
 ghost use Rattle.std.proofs.Math.Option.{some};
 ghost use Rattle.refusals.specs.Order.{refuse};
 ghost use Rattle.refusals.specs.Answers.{refusal_number, last_number, reply_of, outcome_of, refused};
 
 // The rows of the table. `NameMissing` is given no more; its number stays its own.
-#[derive(Drop)]
+#[derive(Clone, Copy)]
 pub enum Reason {
     NotAnImage,
     KindUnknown,
@@ -42,21 +44,21 @@ pub enum Reason {
 }
 
 // A refusal: its reason, and the slot (from 1) it was found at, or 0.
-#[derive(Drop)]
+#[derive(Clone, Copy)]
 pub struct Refused {
     pub reason: Reason,
     pub slot: usize,
 }
 
 // What a check finds.
-#[derive(Drop)]
+#[derive(Clone, Copy)]
 pub enum Verdict {
     Accepted,
     Err(Refused),
 }
 
 // What a call answers: a value (how many, a length, an address) with the free sectors of a listing, or a refusal.
-#[derive(Drop)]
+#[derive(Clone, Copy)]
 pub enum Answer {
     Done(usize, usize),
     Err(Refused),

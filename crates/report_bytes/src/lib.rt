@@ -1,5 +1,7 @@
 // Reports as the app lends them: numbers of four bytes each, low byte first, at the front of a buffer. A number is raised where
 // it lies, so that a call copies nothing and a disk costs what it changes.
+#![tactic(auto)]
+
 ghost use Rattle.std.specs.Prelude.{◌≡◌, ◌+◌, ◌*◌, ◌^◌, ◌<◌, ◌≤◌, length, slice_index};
 ghost use Rattle.buffers.specs.Bytes.{put};
 ghost use Rattle.refusals.specs.Answers.{outcome_of, out};

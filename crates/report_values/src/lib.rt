@@ -1,4 +1,6 @@
 // Reports by value: what the calls on lent bytes give, of a report that is handed over and handed back.
+#![tactic(auto)]
+
 ghost use Rattle.std.specs.Prelude.{◌≡◌, replicate};
 ghost use Rattle.refusals.specs.Answers.{outcome_of, out};
 ghost use Rattle.report_bytes.specs.Bytes.{add_disk_bytes, join_reports_bytes};
@@ -6,13 +8,13 @@ ghost use Rattle.report_bytes.specs.Bytes.{add_disk_bytes, join_reports_bytes};
 use refusals::Answer;
 
 // A report: its bytes.
-#[derive(Drop)]
+#[derive(Clone, Copy)]
 pub struct Report {
     pub bytes: [u8; report_bytes::REPORT_BYTES],
 }
 
 // What a call gives of one: its answer, and the report after it.
-#[derive(Drop)]
+#[derive(Clone, Copy)]
 pub struct Reported {
     pub answer: Answer,
     pub report: Report,

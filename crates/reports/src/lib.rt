@@ -1,5 +1,7 @@
 // The class of a sector count, in a report over disks: how many are accepted, refused by each number, and what files the
 // accepted hold.
+#![tactic(auto)]
+
 ghost use Rattle.std.specs.Prelude.{◌≡◌, true, ◌<◌};
 ghost use Rattle.reports.specs.Numbers.{in_class};
 

@@ -1,4 +1,6 @@
 // Saving a file: its data sectors along a chain of free bits, then the directory's part, and the list of the sectors written.
+#![tactic(auto)]
+
 ghost use Rattle.std.specs.Prelude.{◌≡◌, ◌++◌, map, ◌+◌, ◌≤◌, length, drop, take};
 ghost use Rattle.buffers.specs.Bytes.{put};
 ghost use Rattle.geometry.specs.Disk.{bit_number};

@@ -1,4 +1,6 @@
 // The data sectors of a file: the header in front of its body, the link to a sector, and a sector with its payload and its link.
+#![tactic(auto)]
+
 ghost use Rattle.std.specs.Prelude.{◌≡◌, ◌++◌, ◌∷◌, [], ◌≤◌};
 ghost use Rattle.buffers.specs.Bytes.{put};
 ghost use Rattle.geometry.specs.Disk.{place_or_end};
@@ -9,7 +11,7 @@ use allocation::HeaderFields;
 use geometry::Address;
 
 // The last two bytes of a data sector: where the next one is.
-#[derive(Drop)]
+#[derive(Clone, Copy)]
 pub struct Link {
     pub track: u8,
     pub sector: u8,

@@ -1,4 +1,6 @@
 // The slots of each directory, linked: to go from slot to slot of one directory without passing the others.
+#![tactic(auto)]
+
 ghost use Rattle.std.specs.Prelude.{◌≡◌};
 ghost use Rattle.directory.specs.Directory.{directory};
 ghost use Rattle.siblings.specs.Links.{links_of, link_entry};

@@ -1,4 +1,6 @@
 // The slots of a map, a bit to a slot: the sectors of the directory that they lie in, and their first bytes set to 0.
+#![tactic(auto)]
+
 ghost use Rattle.std.specs.Prelude.{◌≡◌, ◌∷◌, [], ◌≤◌, ◌<◌, length};
 ghost use Rattle.buffers.specs.Bytes.{put};
 ghost use Rattle.maps.specs.Bits.{has};

@@ -1,4 +1,6 @@
 // The directory's part of a save: the slot that it writes, the old name behind the directory's end, and the sectors that it names.
+#![tactic(auto)]
+
 ghost use Rattle.std.specs.Prelude.{◌≡◌, true, not, ◌&&◌, ◌∷◌, [], suc, ◌≤◌, ◌<◌, length};
 ghost use Rattle.buffers.specs.Bytes.{put};
 ghost use Rattle.directory.specs.Places.{slots};

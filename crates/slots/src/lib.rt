@@ -1,5 +1,7 @@
 // One slot of the directory: its fields, and rows 2, 4 to 7 and 22 of the table. A slot is 256 bytes; of a shorter
 // slice the missing bytes count as 0.
+#![tactic(auto)]
+
 ghost use Rattle.std.specs.Prelude.{◌≡◌, ◌+◌, ◌*◌, ◌≤◌, ◌<◌};
 ghost use Rattle.refusals.specs.Answers.{reply_of};
 ghost use Rattle.slots.specs.Slot.{is_live, is_nameless, hidden, protected, kind_of, known, carried, spectrum, readable, is_directory, code_of, parent_of, name_of, is_named, count_of, first_of, map_of, page_of, offset_of, pages_of, remainder_of, slot_fields, length_of};

@@ -1,5 +1,7 @@
 // The pass over rows 2 to 9 of the directory, with 22 for the release check, and the used map. It goes by the directory's bytes
 // alone, and answers for a slice of any length.
+#![tactic(auto)]
+
 ghost use Rattle.std.specs.Prelude.{◌≡◌, ◌≤◌, ◌<◌};
 ghost use Rattle.maps.specs.Bits.{clear_map, join};
 ghost use Rattle.refusals.specs.Answers.{reply_of};
@@ -14,7 +16,7 @@ ghost use Rattle.surveys.specs.Steps.{DisjointMaps, Reached, Surveyed};
 use refusals::{Reason, Verdict};
 
 // The used map: 195 map bytes together with their number of set bits, and the number of directory tracks beyond four.
-#[derive(Drop)]
+#[derive(Clone, Copy)]
 pub struct UsedMap {
     pub bytes: [u8; 195],
     pub count: usize,
@@ -23,7 +25,7 @@ pub struct UsedMap {
 
 // What the pass over rows 2 to 9 gives: its verdict, and where that is accepted the used map and how many slots are live
 // (else a clear map and 0).
-#[derive(Drop)]
+#[derive(Clone, Copy)]
 pub struct Survey {
     pub verdict: Verdict,
     pub used: UsedMap,

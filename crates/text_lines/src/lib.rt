@@ -1,4 +1,6 @@
 // The lines of the listing program: a file's, the free count's and a refusal's, put to a page.
+#![tactic(auto)]
+
 ghost use Rattle.std.specs.Prelude.{◌≡◌, cond, [], ◌∷◌, ◌+◌, ◌<◌, get_or};
 ghost use Rattle.buffers.specs.Bytes.{tab};
 ghost use Rattle.refusals.specs.Answers.{refusal_of};
@@ -72,6 +74,7 @@ fn mark_of(s: &[u8]) -> [u8; 3]
     }
 }
 
+#[tactic(auto, unfolding(crate::specs::Lines::shown))]
 fn shown_byte(b: u8) -> u8
     ensures { result ≡ shown b }
 {

@@ -1,4 +1,6 @@
 // What lies beneath a directory, to any depth: how many, and their slots.
+#![tactic(auto)]
+
 ghost use Rattle.std.specs.Prelude.{◌≡◌, ◌+◌, ◌≤◌, ◌<◌, ◌∷◌, [], leb, length};
 ghost use Rattle.std.proofs.Math.Option.{none};
 ghost use Rattle.buffers.specs.Bytes.{put};

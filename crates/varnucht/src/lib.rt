@@ -1,5 +1,7 @@
-// The calls of the app's C layer: a byte slice is a pointer and then a length, and every answer is one number,
+// The calls of the app's C layer, which `varnucht_c` exports: every answer is one number,
 // refusal + 256 × slot + 2^24 × value + 2^48 × free.
+#![tactic(auto)]
+
 ghost use Rattle.std.specs.Prelude.{◌≡◌, [], length};
 ghost use Rattle.packing.specs.Packed.{packed};
 ghost use Rattle.files.specs.Calls.{listing, reading, start_address};
@@ -20,8 +22,7 @@ use readers::{OpenAnswer, Place};
 use refusals::Answer;
 
 // The check.
-#[unsafe(no_mangle)]
-pub extern "C" fn varnucht_check(image: &[u8]) -> u64
+pub fn varnucht_check(image: &[u8]) -> u64
     ensures { result ≡ packed (check_call image.now) }
 {
     let verdict = disk::check(image);
@@ -29,8 +30,7 @@ pub extern "C" fn varnucht_check(image: &[u8]) -> u64
 }
 
 // The release check: the check, which here also refuses a carried kind with more sectors than its length needs.
-#[unsafe(no_mangle)]
-pub extern "C" fn varnucht_check_release(image: &[u8]) -> u64
+pub fn varnucht_check_release(image: &[u8]) -> u64
     ensures { result ≡ packed (check_release_call image.now) }
 {
     let released = disk::check_release(image);
@@ -38,8 +38,7 @@ pub extern "C" fn varnucht_check_release(image: &[u8]) -> u64
 }
 
 // The listing, put to the front of `out`: how many, and the free sectors.
-#[unsafe(no_mangle)]
-pub extern "C" fn varnucht_list(image: &[u8], out: &mut [u8]) -> u64
+pub fn varnucht_list(image: &[u8], out: &mut [u8]) -> u64
     ensures { (result ≡ packed (listing image.now out.old).outcome) × (out.new ≡ (listing image.now out.old).buffer) }
 {
     let listed = files::list(image, out);
@@ -47,8 +46,7 @@ pub extern "C" fn varnucht_list(image: &[u8], out: &mut [u8]) -> u64
 }
 
 // A file's body, put to the front of `out`: its length.
-#[unsafe(no_mangle)]
-pub extern "C" fn varnucht_read(image: &[u8], name: &[u8], out: &mut [u8]) -> u64
+pub fn varnucht_read(image: &[u8], name: &[u8], out: &mut [u8]) -> u64
     ensures { (result ≡ packed (reading image.now name.now out.old).outcome) × (out.new ≡ (reading image.now name.now out.old).buffer) }
 {
     let copied = files::read(image, name, out);
@@ -56,8 +54,7 @@ pub extern "C" fn varnucht_read(image: &[u8], name: &[u8], out: &mut [u8]) -> u6
 }
 
 // A file's start address.
-#[unsafe(no_mangle)]
-pub extern "C" fn varnucht_start(image: &[u8], name: &[u8]) -> u64
+pub fn varnucht_start(image: &[u8], name: &[u8]) -> u64
     ensures { result ≡ packed (start_address image.now name.now) }
 {
     let started = files::start(image, name);
@@ -65,8 +62,7 @@ pub extern "C" fn varnucht_start(image: &[u8], name: &[u8]) -> u64
 }
 
 // Opens a file by name: the body's length, and where its first byte stands.
-#[unsafe(no_mangle)]
-pub extern "C" fn varnucht_open(image: &[u8], name: &[u8]) -> u64
+pub fn varnucht_open(image: &[u8], name: &[u8]) -> u64
     ensures { result ≡ packed_opening (open_file image.now name.now) }
 {
     match readers::begin(image, name) {
@@ -76,14 +72,7 @@ pub extern "C" fn varnucht_open(image: &[u8], name: &[u8]) -> u64
 }
 
 // The next bytes of an opened file, put to the front of `out`: how many came, and where the byte after them stands.
-#[unsafe(no_mangle)]
-pub extern "C" fn varnucht_next(
-    image: &[u8],
-    sector: u32,
-    offset: u32,
-    left: u32,
-    out: &mut [u8],
-) -> u64
+pub fn varnucht_next(image: &[u8], sector: u32, offset: u32, left: u32, out: &mut [u8]) -> u64
     ensures { (result ≡ packed_piece (piece_of image.now (read_place sector offset left) (length out.old))) × (out.new ≡ buffer_after image.now (read_place sector offset left) out.old) }
 {
     let at = Place {
@@ -96,14 +85,7 @@ pub extern "C" fn varnucht_next(
 }
 
 // A raw sector: its place in the image of the drive asked for.
-#[unsafe(no_mangle)]
-pub extern "C" fn varnucht_sector(
-    one: &[u8],
-    two: &[u8],
-    drive: u32,
-    track: u32,
-    sector: u32,
-) -> u64
+pub fn varnucht_sector(one: &[u8], two: &[u8], drive: u32, track: u32, sector: u32) -> u64
     ensures { result ≡ packed (raw_sector_call one.now two.now drive track sector) }
 {
     let refusal = drives::raw_refusal(one, two, drive as usize, track as usize, sector as usize);
@@ -117,8 +99,7 @@ pub extern "C" fn varnucht_sector(
 }
 
 // Erases a file: how many sectors, and their numbers to the front of the list.
-#[unsafe(no_mangle)]
-pub extern "C" fn varnucht_erase(image: &mut [u8], name: &[u8], list: &mut [u8]) -> u64
+pub fn varnucht_erase(image: &mut [u8], name: &[u8], list: &mut [u8]) -> u64
     ensures { ReturnsCall (erase name.now) image.old list.old result image.new list.new }
 {
     let erased = byte_lists::erase(image, name, list);
@@ -126,8 +107,7 @@ pub extern "C" fn varnucht_erase(image: &mut [u8], name: &[u8], list: &mut [u8])
 }
 
 // Gives a file a new name.
-#[unsafe(no_mangle)]
-pub extern "C" fn varnucht_rename(image: &mut [u8], name: &[u8], new: &[u8], list: &mut [u8]) -> u64
+pub fn varnucht_rename(image: &mut [u8], name: &[u8], new: &[u8], list: &mut [u8]) -> u64
     ensures { ReturnsCall (rename name.now new.now) image.old list.old result image.new list.new }
 {
     let renamed = byte_lists::rename(image, name, new, list);
@@ -143,40 +123,35 @@ fn mark(image: &mut [u8], name: &[u8], marking: Marking, list: &mut [u8]) -> u64
 }
 
 // Hides a file.
-#[unsafe(no_mangle)]
-pub extern "C" fn varnucht_hide(image: &mut [u8], name: &[u8], list: &mut [u8]) -> u64
+pub fn varnucht_hide(image: &mut [u8], name: &[u8], list: &mut [u8]) -> u64
     ensures { ReturnsCall (mark hide name.now) image.old list.old result image.new list.new }
 {
     mark(image, name, Marking::Hide, list)
 }
 
 // Shows a hidden file.
-#[unsafe(no_mangle)]
-pub extern "C" fn varnucht_show(image: &mut [u8], name: &[u8], list: &mut [u8]) -> u64
+pub fn varnucht_show(image: &mut [u8], name: &[u8], list: &mut [u8]) -> u64
     ensures { ReturnsCall (mark show name.now) image.old list.old result image.new list.new }
 {
     mark(image, name, Marking::Show, list)
 }
 
 // Protects a file.
-#[unsafe(no_mangle)]
-pub extern "C" fn varnucht_protect(image: &mut [u8], name: &[u8], list: &mut [u8]) -> u64
+pub fn varnucht_protect(image: &mut [u8], name: &[u8], list: &mut [u8]) -> u64
     ensures { ReturnsCall (mark protect name.now) image.old list.old result image.new list.new }
 {
     mark(image, name, Marking::Protect, list)
 }
 
 // Takes a file's protection away.
-#[unsafe(no_mangle)]
-pub extern "C" fn varnucht_release(image: &mut [u8], name: &[u8], list: &mut [u8]) -> u64
+pub fn varnucht_release(image: &mut [u8], name: &[u8], list: &mut [u8]) -> u64
     ensures { ReturnsCall (mark release name.now) image.old list.old result image.new list.new }
 {
     mark(image, name, Marking::Release, list)
 }
 
 // Saves a file.
-#[unsafe(no_mangle)]
-pub extern "C" fn varnucht_save(
+pub fn varnucht_save(
     image: &mut [u8],
     kind: u32,
     name: &[u8],
@@ -204,8 +179,7 @@ pub extern "C" fn varnucht_save(
 }
 
 // What lies beneath a directory, the root where the name is empty: how many, and their slots to the front of `list`.
-#[unsafe(no_mangle)]
-pub extern "C" fn varnucht_tree(image: &[u8], name: &[u8], list: &mut [u8]) -> u64
+pub fn varnucht_tree(image: &[u8], name: &[u8], list: &mut [u8]) -> u64
     ensures { (result ≡ packed (tree_listing_bytes image.now name.now list.old).outcome) × (list.new ≡ (tree_listing_bytes image.now name.now list.old).buffer) }
 {
     let beneath = byte_lists::list_tree(image, name, list);
@@ -213,8 +187,7 @@ pub extern "C" fn varnucht_tree(image: &[u8], name: &[u8], list: &mut [u8]) -> u
 }
 
 // Adds a disk to a report: the disks in it after.
-#[unsafe(no_mangle)]
-pub extern "C" fn varnucht_report_add(image: &[u8], report: &mut [u8]) -> u64
+pub fn varnucht_report_add(image: &[u8], report: &mut [u8]) -> u64
     ensures { (result ≡ packed (add_disk_bytes report.old image.now).outcome) × (report.new ≡ (add_disk_bytes report.old image.now).buffer) }
 {
     let added = report_bytes::add(image, report);
@@ -222,8 +195,7 @@ pub extern "C" fn varnucht_report_add(image: &[u8], report: &mut [u8]) -> u64
 }
 
 // Joins another report to one: the disks in both.
-#[unsafe(no_mangle)]
-pub extern "C" fn varnucht_report_join(report: &mut [u8], other: &[u8]) -> u64
+pub fn varnucht_report_join(report: &mut [u8], other: &[u8]) -> u64
     ensures { (result ≡ packed (join_reports_bytes report.old other.now).outcome) × (report.new ≡ (join_reports_bytes report.old other.now).buffer) }
 {
     let joined = report_bytes::join(report, other);
@@ -231,8 +203,7 @@ pub extern "C" fn varnucht_report_join(report: &mut [u8], other: &[u8]) -> u64
 }
 
 // Gathers a file: how many sectors, 0 where it lies on consecutive bits already, and their numbers to the front of the list.
-#[unsafe(no_mangle)]
-pub extern "C" fn varnucht_gather(image: &mut [u8], name: &[u8], list: &mut [u8]) -> u64
+pub fn varnucht_gather(image: &mut [u8], name: &[u8], list: &mut [u8]) -> u64
     ensures { ReturnsCall (gather name.now) image.old list.old result image.new list.new }
 {
     let gathered = byte_lists::gather(image, name, list);
@@ -241,8 +212,7 @@ pub extern "C" fn varnucht_gather(image: &mut [u8], name: &[u8], list: &mut [u8]
 
 // Erases an erase-many of files, their names of ten bytes each laid end to end: how many sectors, an answer of one byte to each name,
 // 0 for done, and the numbers of the sectors, rising, to the front of `list`.
-#[unsafe(no_mangle)]
-pub extern "C" fn varnucht_erase_many(
+pub fn varnucht_erase_many(
     image: &mut [u8],
     names: &[u8],
     answers: &mut [u8],
@@ -255,8 +225,7 @@ pub extern "C" fn varnucht_erase_many(
 }
 
 // Opens a recording with a save's particulars: its record, of 2,048 bytes, comes to the front of `kept`.
-#[unsafe(no_mangle)]
-pub extern "C" fn varnucht_record_open(
+pub fn varnucht_record_open(
     image: &[u8],
     kind: u32,
     name: &[u8],
@@ -282,13 +251,7 @@ pub extern "C" fn varnucht_record_open(
 }
 
 // Adds a piece to a recording: how many sectors, and their numbers to the front of `list`. The record grows by it.
-#[unsafe(no_mangle)]
-pub extern "C" fn varnucht_record_add(
-    image: &mut [u8],
-    piece: &[u8],
-    kept: &mut [u8],
-    list: &mut [u8],
-) -> u64
+pub fn varnucht_record_add(image: &mut [u8], piece: &[u8], kept: &mut [u8], list: &mut [u8]) -> u64
     ensures { ReturnsPiece piece.now image.old kept.old list.old result image.new kept.new list.new }
 {
     let wrote = record_calls::add(image, piece, kept, list);
@@ -296,8 +259,7 @@ pub extern "C" fn varnucht_record_add(
 }
 
 // Closes a recording: how many sectors, and their numbers to the front of `list`. The record stays as it is.
-#[unsafe(no_mangle)]
-pub extern "C" fn varnucht_record_close(image: &mut [u8], kept: &[u8], list: &mut [u8]) -> u64
+pub fn varnucht_record_close(image: &mut [u8], kept: &[u8], list: &mut [u8]) -> u64
     ensures { ReturnsClose image.old kept.now list.old result image.new list.new }
 {
     let closed = record_calls::close(image, kept, list);

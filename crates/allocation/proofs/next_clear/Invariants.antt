@@ -1,0 +1,13 @@
+-- `allocation::next_clear` meets its contract: before each turn no bit from `from` on and below `b` is clear.
+use Prim.Native.Nat.{◌-◌}
+use mathlib.Core.Path.{sym, ◌∙◌}
+use borrow.Author.Tests.{not-true, not-false}
+use Rattle.allocation.proofs.Next.{NoneClear, passed_none, passed_full, passed_set, passed_clear, passed_all}
+use borrow.Author.Rules.{rules}
+use Rattle.allocation.proofs.next_clear.Given as goal
+
+abbrev pub invariant-loop-b : goal.invariant-loop-b
+invariant-loop-b l = NoneClear l.map l.from l.b
+
+abbrev pub decreases-loop-b : goal.decreases-loop-b
+decreases-loop-b l = 1560 - l.b

@@ -1,0 +1,51 @@
+-- `siblings::link_slots` meets its contract: the slots from slot `i` on are linked.
+use Prim.Native.Nat.{ℕ, ◌-◌, ◌≤◌, ◌<◌}
+use mathlib.Core.Path.{◌≡◌, refl, ap, ◌∙◌}
+use native.Mathlib.Omega.{arith}
+use Rattle.directory.specs.Places.{slots}
+use Rattle.directory.specs.Directory.{directory, slots_read}
+use Rattle.directory.proofs.Ends.{read-most}
+use Rattle.directory.proofs.Live.{met_live, met_dead, directory-unread}
+use Rattle.siblings.proofs.Linking.{Linking, linking_none, linking_dead, linking_live, linking_all}
+use borrow.Author.Rules.{rules}
+use Rattle.siblings.proofs.link_slots.Goals as goal
+
+pub loop-i-init : goal.loop-i-init
+loop-i-init c = let s = c.slots_read-i.ensures in (omega (arith, s.0), linking_none _ _ _ refl (λ k h. directory-unread _ k (omega (arith, s.0))))
+
+pub overflow_add-links : goal.overflow_add-links
+overflow_add-links c =
+    let read : c.loop-i.i - 1 < slots_read c.args.dir.now = omega (arith, c.loop-i.invariant.0, c.loop-i-test.true) in
+    let low : c.loop-i.i - 1 < slots = omega (arith, read, read-most c.args.dir.now) in
+    omega (arith, low)
+
+pub bounds-links-i : goal.bounds-links-i
+bounds-links-i c =
+    let read : c.loop-i.i - 1 < slots_read c.args.dir.now = omega (arith, c.loop-i.invariant.0, c.loop-i-test.true) in
+    let low : c.loop-i.i - 1 < slots = omega (arith, read, read-most c.args.dir.now) in
+    omega (arith, low)
+
+pub overflow_cast-links : goal.overflow_cast-links
+overflow_cast-links c =
+    let read : c.loop-i.i - 1 < slots_read c.args.dir.now = omega (arith, c.loop-i.invariant.0, c.loop-i-test.true) in
+    let low : c.loop-i.i - 1 < slots = omega (arith, read, read-most c.args.dir.now) in
+    omega (arith, low)
+
+pub loop-i-preserved-then-is_live : goal.loop-i-preserved-then-is_live
+loop-i-preserved-then-is_live c =
+    let read : c.loop-i.i - 1 < slots_read c.args.dir.now = omega (arith, c.loop-i.invariant.0, c.loop-i-test.true) in
+    let low : c.loop-i.i - 1 < slots = omega (arith, read, read-most c.args.dir.now) in
+    let a = c.loop-i in
+    let e = met_live _ _ c.slot_at-s.ensures c.is_live.ensures read c.if-is_live.true in
+    (omega (arith, a.invariant.0), linking_live _ a.i _ a.invariant.1 c.loop-i-test.true low _ e _ c.parent_of-code.ensures.0 c.parent_of-code.ensures.1)
+
+pub loop-i-preserved : goal.loop-i-preserved
+loop-i-preserved c =
+    let read : c.loop-i.i - 1 < slots_read c.args.dir.now = omega (arith, c.loop-i.invariant.0, c.loop-i-test.true) in
+    let low : c.loop-i.i - 1 < slots = omega (arith, read, read-most c.args.dir.now) in
+    let a = c.loop-i in
+    let e = met_dead _ _ c.slot_at-s.ensures c.is_live.ensures c.if-is_live.false in
+    (omega (arith, a.invariant.0), linking_dead _ a.i _ a.invariant.1 c.loop-i-test.true low e)
+
+pub returns : goal.returns
+returns c = let a = c.loop-i in linking_all _ a.i _ a.invariant.1 c.loop-i-test.false

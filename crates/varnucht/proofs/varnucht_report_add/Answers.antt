@@ -1,0 +1,7 @@
+-- `varnucht::varnucht_report_add` meets its contract: the answer is packed whole.
+use Rattle.varnucht.proofs.Reports.{packed-add}
+use borrow.Author.Rules.{rules}
+use Rattle.varnucht.proofs.varnucht_report_add.Goals as goal
+
+pub returns : goal.returns
+returns c = packed-add _ _ _ c.pack.ensures _ _ c.add-added.ensures

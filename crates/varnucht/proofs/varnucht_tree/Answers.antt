@@ -1,0 +1,7 @@
+-- `varnucht::varnucht_tree` meets its contract: the answer is packed whole.
+use Rattle.varnucht.proofs.Trees.{packed-tree}
+use borrow.Author.Rules.{rules}
+use Rattle.varnucht.proofs.varnucht_tree.Goals as goal
+
+pub returns : goal.returns
+returns c = packed-tree _ _ _ c.pack.ensures _ _ _ c.list_tree-beneath.ensures
