@@ -26,9 +26,10 @@ impl Fixture {
         self.make_room(20);
     }
 
-    /// Two to six names of files that are there, in a drawn order.
+    /// Two to six names of files that are there, in a drawn order; all of them where there are fewer, as there may be beside long
+    /// files.
     fn some_names(&mut self) -> Vec<Vec<u8>> {
-        let many = self.draw.number(2, 7);
+        let many = self.draw.number(2, 7).min(self.bodies.len());
         let mut names = Vec::new();
         while names.len() < many {
             let name = self.any_name();
