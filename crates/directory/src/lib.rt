@@ -11,13 +11,6 @@ ghost use Rattle.directory.specs.Find.{find, found_at};
 // The most slots that there can be: those of 39 tracks.
 pub const SLOTS: usize = 778;
 
-// A live slot, counted from 0, or none.
-#[derive(Clone, Copy)]
-pub enum Found {
-    At(usize),
-    Nothing,
-}
-
 // Where slot `i`, counted from 0, lies; the image's size past the last slot.
 pub fn slot_place(i: usize) -> usize
     ensures { (result ≡ slot_place i) × (result ≤ 819200) }
@@ -98,11 +91,11 @@ pub fn slots_read(dir: &[u8]) -> usize
 }
 
 // The lowest live slot that has that name, filled to ten bytes; no slot has a longer one.
-pub fn find(dir: &[u8], name: &[u8]) -> Found
+pub fn find(dir: &[u8], name: &[u8]) -> Option<usize>
     ensures { found_at result ≡ find (directory dir.now) name.now }
 {
     if 10 < name.len() {
-        return Found::Nothing;
+        return None;
     }
     let filled = names::padded_name(name);
     let end = slots_read(dir);
@@ -111,8 +104,8 @@ pub fn find(dir: &[u8], name: &[u8]) -> Found
         let k = i;
         i += 1;
         if slots::is_named(slot_at(dir, k), &filled) {
-            return Found::At(k);
+            return Some(k);
         }
     }
-    Found::Nothing
+    None
 }

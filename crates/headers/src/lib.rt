@@ -8,7 +8,7 @@ ghost use Rattle.slots.specs.Slot.{first_of, map_of, slot_fields};
 ghost use Rattle.chains.specs.File.{file_of};
 ghost use Rattle.headers.specs.Header.{first_sector, header_differs, header_length, header_start, chain_reply, chain_pass_reply, file_length};
 
-use refusals::{Reason, Verdict};
+use refusals::{Reason, Refused, refuse};
 
 // The first sector of a slot's file, where the slot's own map has it.
 fn own_first<'a>(image: &'a [u8], s: &[u8]) -> &'a [u8]
@@ -67,33 +67,33 @@ pub fn file_length(image: &[u8], s: &[u8]) -> usize
 }
 
 // Rows 10, 11 and 25 at the slot of a file with sectors.
-fn chain_rows(image: &[u8], s: &[u8], slot: usize) -> Verdict
+fn chain_rows(image: &[u8], s: &[u8], slot: usize) -> Result<(), Refused>
     ensures { reply_of result ≡ chain_reply slot (file_of image.now s.now) }
 {
     if chains::chain_broken(image, s) {
-        return refusals::refused_verdict(Reason::ChainBroken, slot);
+        return refuse(Reason::ChainBroken, slot);
     }
     let kind = slots::kind_of(s);
     if slots::is_carried(kind) {
         if header_differs(own_first(image, s), s) {
-            return refusals::refused_verdict(Reason::HeaderDiffers, slot);
+            return refuse(Reason::HeaderDiffers, slot);
         }
-        return Verdict::Accepted;
+        return Ok(());
     }
     if slots::is_spectrum(kind) {
         if 510 * slots::count_of(s) < 9 + header_length(own_first(image, s)) {
-            return refusals::refused_verdict(Reason::BodyTooLong, slot);
+            return refuse(Reason::BodyTooLong, slot);
         }
     }
-    Verdict::Accepted
+    Ok(())
 }
 
 // Rows 10, 11 and 25 at one slot.
-pub fn chain_pass_rows(image: &[u8], s: &[u8], slot: usize) -> Verdict
+pub fn chain_pass_rows(image: &[u8], s: &[u8], slot: usize) -> Result<(), Refused>
     ensures { reply_of result ≡ chain_pass_reply slot (file_of image.now s.now) }
 {
     if slots::is_directory(s) {
-        return Verdict::Accepted;
+        return Ok(());
     }
     chain_rows(image, s, slot)
 }

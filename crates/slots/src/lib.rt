@@ -8,7 +8,7 @@ ghost use Rattle.slots.specs.Slot.{is_live, is_nameless, hidden, protected, kind
 ghost use Rattle.slots.specs.Tracks.{data_count, inner_map, in_directory, clear_at, past_first};
 ghost use Rattle.slots.specs.Rows.{directory_reply, file_reply_by, own_reply_by, wasteful};
 
-use refusals::{Reason, Verdict};
+use refusals::{Reason, Refused, refuse};
 
 pub fn is_live(s: &[u8]) -> bool
     ensures { result ≡ is_live s.now }
@@ -217,7 +217,7 @@ fn past_first(map: &[u8]) -> usize
 pub fn is_inside(map: &[u8], tracks: usize) -> bool
     ensures { result ≡ in_directory tracks map.now }
 {
-    let end = 10 * buffers::lesser(tracks, 156);
+    let end = 10 * tracks.min(156);
     let mut b = past_first(map);
     while b < end {
         let c = b;
@@ -237,7 +237,7 @@ pub fn is_inside(map: &[u8], tracks: usize) -> bool
 pub fn inner_map(tracks: usize) -> [u8; 195]
     ensures { result ≡ inner_map tracks }
 {
-    let end = 10 * buffers::lesser(tracks, 156);
+    let end = 10 * tracks.min(156);
     let mut map = [0u8; 195];
     let mut b: usize = 1;
     while b < end {
@@ -248,54 +248,54 @@ pub fn inner_map(tracks: usize) -> [u8; 195]
 }
 
 // Rows 4 and 5 at a directory's slot.
-fn directory_rows(s: &[u8], slot: usize) -> Verdict
+fn directory_rows(s: &[u8], slot: usize) -> Result<(), Refused>
     ensures { reply_of result ≡ directory_reply slot s.now }
 {
     if count_of(s) != 0 {
-        return refusals::refused_verdict(Reason::CountOutOfRange, slot);
+        return refuse(Reason::CountOutOfRange, slot);
     }
     if maps::bits_of(map_of(s)) == 0 {
-        return Verdict::Accepted;
+        return Ok(());
     }
-    refusals::refused_verdict(Reason::BitsDiffer, slot)
+    refuse(Reason::BitsDiffer, slot)
 }
 
 // Rows 2 and 4 to 7 at the slot of any other file.
-fn file_rows(s: &[u8], slot: usize, most: usize, inside: bool) -> Verdict
+fn file_rows(s: &[u8], slot: usize, most: usize, inside: bool) -> Result<(), Refused>
     ensures { reply_of result ≡ file_reply_by most inside slot s.now }
 {
     let kind = kind_of(s);
     if !is_known(kind) {
-        return refusals::refused_verdict(Reason::KindUnknown, slot);
+        return refuse(Reason::KindUnknown, slot);
     }
     let count = count_of(s);
     if count < 1 {
-        return refusals::refused_verdict(Reason::CountOutOfRange, slot);
+        return refuse(Reason::CountOutOfRange, slot);
     }
     if most < count {
-        return refusals::refused_verdict(Reason::CountOutOfRange, slot);
+        return refuse(Reason::CountOutOfRange, slot);
     }
     let map = map_of(s);
     if maps::bits_of(map) != count {
-        return refusals::refused_verdict(Reason::BitsDiffer, slot);
+        return refuse(Reason::BitsDiffer, slot);
     }
     if !maps::has_bit(map, first_of(s)) {
-        return refusals::refused_verdict(Reason::FirstNotOwn, slot);
+        return refuse(Reason::FirstNotOwn, slot);
     }
     if inside {
-        return refusals::refused_verdict(Reason::FirstNotOwn, slot);
+        return refuse(Reason::FirstNotOwn, slot);
     }
     if is_carried(kind) {
         if 510 * count < 9 + length_of(s) {
-            return refusals::refused_verdict(Reason::LengthTooGreat, slot);
+            return refuse(Reason::LengthTooGreat, slot);
         }
     }
-    Verdict::Accepted
+    Ok(())
 }
 
 // Rows 2 and 4 to 7 at a live slot: `most` is the number of data sectors, and `inside` says whether its map has a bit inside
 // the directory.
-pub fn own_rows(s: &[u8], slot: usize, most: usize, inside: bool) -> Verdict
+pub fn own_rows(s: &[u8], slot: usize, most: usize, inside: bool) -> Result<(), Refused>
     ensures { reply_of result ≡ own_reply_by most inside slot s.now }
 {
     if is_directory(s) {
