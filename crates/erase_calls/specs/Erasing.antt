@@ -1,8 +1,10 @@
 -- What the functions over the map of erased slots are asked, and what they give.
-use Rattle.std.specs.Prelude.{ℕ, ◌*◌, ◌%◌, ◌≤◌, ◌≡◌, List, length}
+use Rattle.std.specs.Prelude.{ℕ, ◌*◌, ◌%◌, ◌≤◌, ◌≡◌, List, Result, Ok, Err, length}
 use Rattle.std.proofs.Math.Option.{none}
 use Rattle.buffers.specs.Bytes.{tab, put}
 use Rattle.maps.specs.Bits.{has}
+use Rattle.refusals.specs.Answers.{refusal_number}
+use Rattle.refusals.specs.declared.Reason.{Reason}
 use Rattle.directory.specs.Places.{slots}
 use Rattle.directory.specs.Directory.{Directory, directory}
 use Rattle.disk.specs.Check.{check_disk}
@@ -16,9 +18,14 @@ pub record NameAsked (d index : List ℕ) (end : ℕ) (name : List ℕ) : Type 0
   pub indexed : Indexed d index end
   pub ten : length name ≡ 10
 
--- one name answered: its answer r, and the map at return
-pub record OneErased (v : Directory) (m n : List ℕ) (r : ℕ) (after : List ℕ) : Type 0 where
-  pub number : r ≡ name_answer (not_erased v m) n
+-- "one byte a name with 0 for done": the number that it is refused with, or 0
+abbrev pub number_or_done : {A : Type 0} → Result A Reason → ℕ
+number_or_done (Ok x) = 0
+number_or_done (Err r) = refusal_number r
+
+-- one name answered: what the erase gives, and the map at return
+pub record OneErased {A : Type 0} (v : Directory) (m n : List ℕ) (r : Result A Reason) (after : List ℕ) : Type 0 where
+  pub number : number_or_done r ≡ name_answer (not_erased v m) n
   pub map : after ≡ erased_with v m n
 
 -- the index, and so many names

@@ -14,10 +14,9 @@ ghost use Rattle.nesting.specs.Steps.{in_other};
 ghost use Rattle.erase_many.specs.EraseMany.{sectors_with, erased, erase_many};
 ghost use Rattle.erase_many.specs.ErasedMap.{not_erased, erased_map};
 ghost use Rattle.erase_calls.specs.Index.{buckets, bucket_of, EmptyIndex, Indexed};
-ghost use Rattle.erase_calls.specs.Erasing.{NameAsked, OneErased, NamesAsked, NoneErasedYet, AllErased, ErasesWritten, ErasesAllowed};
+ghost use Rattle.erase_calls.specs.Erasing.{number_or_done, NameAsked, OneErased, NamesAsked, NoneErasedYet, AllErased, ErasesWritten, ErasesAllowed};
 
-use directory::Found;
-use refusals::{Answer, Reason, Verdict};
+use refusals::{Reason, Refused};
 
 // How many buckets the index has.
 const BUCKETS: usize = 251;
@@ -71,7 +70,13 @@ fn index_names(dir: &[u8], index: &mut [u16]) -> usize
 }
 
 // The lowest live slot that is not erased yet and has a name of ten bytes. Only slots of the name's bucket are looked at.
-fn find_left(dir: &[u8], map: &[u8], index: &[u16], end: usize, name: &[u8]) -> Found
+fn find_left(
+    dir: &[u8],
+    map: &[u8],
+    index: &[u16],
+    end: usize,
+    name: &[u8],
+) -> Option<usize>
     requires { NameAsked dir.now index.now end name.now }
     ensures { found_at result ≡ find (not_erased (directory dir.now) map.now) name.now }
 {
@@ -81,11 +86,11 @@ fn find_left(dir: &[u8], map: &[u8], index: &[u16], end: usize, name: &[u8]) -> 
         c = entry_at(index, BUCKETS + i);
         if !maps::has_bit(map, i) {
             if slots::is_named(directory::slot_at(dir, i), name) {
-                return Found::At(i);
+                return Some(i);
             }
         }
     }
-    Found::Nothing
+    None
 }
 
 // Whether a slot other than slot `i` is live, not erased yet, and in the directory with a code.
@@ -127,26 +132,40 @@ fn is_occupied(dir: &[u8], map: &[u8], end: usize, i: usize, s: &[u8]) -> bool
 }
 
 // One erase by its name: its answer, and its slot marked where it is done.
-fn erase_one(dir: &[u8], map: &mut [u8], index: &[u16], end: usize, name: &[u8]) -> u8
+fn erase_one(
+    dir: &[u8],
+    map: &mut [u8],
+    index: &[u16],
+    end: usize,
+    name: &[u8],
+) -> Result<(), Reason>
     requires { NameAsked dir.now index.now end name.now }
     ensures { OneErased (directory dir.now) map.old name.now result map.new }
 {
     if !names::is_askable(name) {
-        return 12;
+        return Err(Reason::NameNotUsable);
     }
-    match find_left(dir, map, index, end, name) {
-        Found::Nothing => 15,
-        Found::At(i) => {
-            let s = directory::slot_at(dir, i);
-            if slots::is_protected(s) {
-                return 17;
-            }
-            if is_occupied(dir, map, end, i, s) {
-                return 29;
-            }
-            maps::set_bit(map, i);
-            0
-        }
+    let Some(i) = find_left(dir, map, index, end, name) else {
+        return Err(Reason::NameNotFound);
+    };
+    let s = directory::slot_at(dir, i);
+    if slots::is_protected(s) {
+        return Err(Reason::FileProtected);
+    }
+    if is_occupied(dir, map, end, i, s) {
+        return Err(Reason::DirectoryNotEmpty);
+    }
+    maps::set_bit(map, i);
+    Ok(())
+}
+
+// The byte that answers an erase: the number of its refusal, or 0.
+fn answer_byte(erased: Result<(), Reason>) -> u8
+    ensures { result ≡ number_or_done erased }
+{
+    match erased {
+        Ok(()) => 0,
+        Err(reason) => reason.number() as u8,
     }
 }
 
@@ -175,8 +194,8 @@ fn erase_each(
     let mut k: usize = 0;
     while k < many {
         let name = buffers::part_at(names, 10 * k, 10);
-        let answer = erase_one(dir, map, index, end, name);
-        put_answer(answers, k, answer);
+        let erased = erase_one(dir, map, index, end, name);
+        put_answer(answers, k, answer_byte(erased));
         k += 1;
     }
 }
@@ -226,35 +245,40 @@ fn write_all(
 }
 
 // The same of an accepted disk and a whole number of names; 20 is tested before anything is written.
-fn erase_names(image: &mut [u8], names: &[u8], answers: &mut [u8], list: &mut [u16]) -> Answer
+fn erase_names(
+    image: &mut [u8],
+    names: &[u8],
+    answers: &mut [u8],
+    list: &mut [u16],
+) -> Result<usize, Refused>
     requires { ErasesAllowed image.old names.now }
     ensures { erased (outcome_of result) image.new answers.new list.new ≡ erase_many image.old names.now answers.old list.old }
 {
     let many = names.len() / 10;
     if answers.len() < many {
-        return refusals::refused_answer(Reason::BufferTooShort, 0);
+        return refusals::refuse(Reason::BufferTooShort, 0);
     }
     let mut index = [778u16; 1029];
     let end = index_names(image, &mut index);
     if is_short(image, names, many, &index, end, list.len()) {
-        return refusals::refused_answer(Reason::BufferTooShort, 0);
+        return refusals::refuse(Reason::BufferTooShort, 0);
     }
-    let sectors = write_all(image, names, many, answers, list, &index, end);
-    Answer::Done(sectors, 0)
+    Ok(write_all(image, names, many, answers, list, &index, end))
 }
 
 // Erases the files with the names, ten bytes each, laid end to end: an answer to each, one byte, and the numbers of the sectors
 // that changed, rising; how many sectors.
-pub fn erase_many(image: &mut [u8], names: &[u8], answers: &mut [u8], list: &mut [u16]) -> Answer
+pub fn erase_many(
+    image: &mut [u8],
+    names: &[u8],
+    answers: &mut [u8],
+    list: &mut [u16],
+) -> Result<usize, Refused>
     ensures { erased (outcome_of result) image.new answers.new list.new ≡ erase_many image.old names.now answers.old list.old }
 {
-    match disk::check(image) {
-        Verdict::Err(r) => Answer::Err(r),
-        Verdict::Accepted => {
-            if names.len() % 10 != 0 {
-                return refusals::refused_answer(Reason::NamesNotTens, 0);
-            }
-            erase_names(image, names, answers, list)
-        }
+    disk::check(image)?;
+    if names.len() % 10 != 0 {
+        return refusals::refuse(Reason::NamesNotTens, 0);
     }
+    erase_names(image, names, answers, list)
 }

@@ -11,22 +11,14 @@ ghost use Rattle.directory.specs.Directory.{directory};
 ghost use Rattle.trees.specs.Tree.{place_at, occupied};
 ghost use Rattle.nesting.specs.Steps.{in_other, back_by, is_orphan, nesting_rows_by, Tabled, Passed, Tables, Nests};
 
-use refusals::{Reason, Refused, Verdict};
+use refusals::{Reason, Refused};
 
 // The directories by their codes: 0 where none has the code, else one more than the code of the directory that it is in.
-// Their number, and whether each has a code of its own (else the table is not whole).
+// And their number.
 #[derive(Clone, Copy)]
 struct Codes {
-    verdict: Verdict,
     above: [u16; 256],
     number: usize,
-}
-
-// Whether the directories make a tree, and how many there are where they do (else 0).
-#[derive(Clone, Copy)]
-pub struct Nesting {
-    pub verdict: Verdict,
-    pub number: usize,
 }
 
 // An entry of the table; 0 past its end.
@@ -81,19 +73,25 @@ fn is_orphan(above: &[u16], s: &[u8]) -> bool
 }
 
 // 27 and 28 at a live slot.
-fn place_rows(above: &[u16], passed: &[u8], number: usize, s: &[u8], slot: usize) -> Verdict
+fn place_rows(
+    above: &[u16],
+    passed: &[u8],
+    number: usize,
+    s: &[u8],
+    slot: usize,
+) -> Result<(), Refused>
     requires { Passed above.now passed.now number }
     ensures { reply_of result ≡ rows slot (nesting_rows_by above.now number s.now) }
 {
     if is_orphan(above, s) {
-        return refusals::refused_verdict(Reason::NoSuchDirectory, slot);
+        return refusals::refuse(Reason::NoSuchDirectory, slot);
     }
     if slots::is_directory(s) {
         if comes_back(above, passed, number, slots::code_of(s)) {
-            return refusals::refused_verdict(Reason::InsideItself, slot);
+            return refusals::refuse(Reason::InsideItself, slot);
         }
     }
-    Verdict::Accepted
+    Ok(())
 }
 
 // The root's code alone is passed.
@@ -106,7 +104,7 @@ fn root_alone() -> [u8; 256]
 }
 
 // 27 and 28 at all slots.
-fn all_places(dir: &[u8], above: &[u16], number: usize) -> Verdict
+fn all_places(dir: &[u8], above: &[u16], number: usize) -> Result<(), Refused>
     requires { Tabled (directory dir.now) above.now number }
     ensures { reply_of result ≡ scan slots (place_at (directory dir.now)) }
 {
@@ -117,23 +115,17 @@ fn all_places(dir: &[u8], above: &[u16], number: usize) -> Verdict
         let s = directory::slot_at(dir, i);
         i += 1;
         if slots::is_live(s) {
-            match place_rows(above, &passed, number, s, i) {
-                Verdict::Err(r) => {
-                    return Verdict::Err(r);
-                }
-                Verdict::Accepted => {
-                    if slots::is_directory(s) {
-                        passed[slots::code_of(s)] = 1;
-                    }
-                }
+            place_rows(above, &passed, number, s, i)?;
+            if slots::is_directory(s) {
+                passed[slots::code_of(s)] = 1;
             }
         }
     }
-    Verdict::Accepted
+    Ok(())
 }
 
 // 26 at all slots, and the table of the directories.
-fn all_codes(dir: &[u8]) -> Codes
+fn all_codes(dir: &[u8]) -> Result<Codes, Refused>
     ensures { Tables dir.now result }
 {
     let end = directory::slots_read(dir);
@@ -147,60 +139,26 @@ fn all_codes(dir: &[u8]) -> Codes
             if slots::is_directory(s) {
                 let code = slots::code_of(s);
                 if code == 0 {
-                    return Codes {
-                        verdict: Verdict::Err(Refused {
-                            reason: Reason::CodeNotOwn,
-                            slot: i,
-                        }),
-                        above,
-                        number,
-                    };
+                    return refusals::refuse(Reason::CodeNotOwn, i);
                 }
                 if above[code] != 0 {
-                    return Codes {
-                        verdict: Verdict::Err(Refused {
-                            reason: Reason::CodeNotOwn,
-                            slot: i,
-                        }),
-                        above,
-                        number,
-                    };
+                    return refusals::refuse(Reason::CodeNotOwn, i);
                 }
                 above[code] = (slots::parent_of(s) + 1) as u16;
                 number += 1;
             }
         }
     }
-    Codes {
-        verdict: Verdict::Accepted,
-        above,
-        number,
-    }
+    Ok(Codes { above, number })
 }
 
 // 26 to 28: whether the directories make a tree, and how many there are.
-pub fn survey_nesting(dir: &[u8]) -> Nesting
+pub fn survey_nesting(dir: &[u8]) -> Result<usize, Refused>
     ensures { Nests dir.now result }
 {
-    let codes = all_codes(dir);
-    let verdict = codes.verdict;
-    match verdict {
-        Verdict::Err(_) => Nesting { verdict, number: 0 },
-        Verdict::Accepted => {
-            let number = codes.number;
-            let placed = all_places(dir, &codes.above, number);
-            match placed {
-                Verdict::Err(_) => Nesting {
-                    verdict: placed,
-                    number: 0,
-                },
-                Verdict::Accepted => Nesting {
-                    verdict: placed,
-                    number,
-                },
-            }
-        }
-    }
+    let codes = all_codes(dir)?;
+    all_places(dir, &codes.above, codes.number)?;
+    Ok(codes.number)
 }
 
 // Whether a slot other than slot `i` is live and in the directory with a code.

@@ -10,40 +10,37 @@ ghost use Rattle.trees.specs.Tree.{beneath, tree};
 ghost use Rattle.tree_lists.specs.Call.{name_reply, asked_code, fill_with, tree_listing};
 ghost use Rattle.tree_lists.specs.Steps.{FillRoom, NestingAccepted, ListPut};
 
-use directory::Found;
-use refusals::{Answer, Reason, Verdict};
+use refusals::{Reason, Refused};
 
 // 12, 13 and 15 of a directory's name; an empty one is the root's.
-fn name_rows(dir: &[u8], name: &[u8]) -> Verdict
+fn name_rows(dir: &[u8], name: &[u8]) -> Result<(), Refused>
     ensures { reply_of result ≡ name_reply (directory dir.now) name.now }
 {
-    if name.len() == 0 {
-        return Verdict::Accepted;
+    if name.is_empty() {
+        return Ok(());
     }
     if !names::is_askable(name) {
-        return refusals::refused_verdict(Reason::NameNotUsable, 0);
+        return refusals::refuse(Reason::NameNotUsable, 0);
     }
-    match directory::find(dir, name) {
-        Found::Nothing => refusals::refused_verdict(Reason::NameNotFound, 0),
-        Found::At(i) => {
-            if slots::is_directory(directory::slot_at(dir, i)) {
-                return Verdict::Accepted;
-            }
-            refusals::refused_verdict(Reason::WrongKind, i + 1)
-        }
+    let Some(i) = directory::find(dir, name) else {
+        return refusals::refuse(Reason::NameNotFound, 0);
+    };
+    if slots::is_directory(directory::slot_at(dir, i)) {
+        return Ok(());
     }
+    refusals::refuse(Reason::WrongKind, i + 1)
 }
 
 // The code of the directory that has the name; 0 for an empty name, and where there is none.
 fn asked_code(dir: &[u8], name: &[u8]) -> usize
     ensures { (result ≡ asked_code (directory dir.now) name.now) × (result < 256) }
 {
-    if name.len() == 0 {
+    if name.is_empty() {
         return 0;
     }
     match directory::find(dir, name) {
-        Found::Nothing => 0,
-        Found::At(i) => slots::code_of(directory::slot_at(dir, i)),
+        None => 0,
+        Some(i) => slots::code_of(directory::slot_at(dir, i)),
     }
 }
 
@@ -107,37 +104,24 @@ fn list_code(
     number: usize,
     code: usize,
     list: &mut [u16],
-) -> Answer
+) -> Result<usize, Refused>
     requires { NestingAccepted dir.now links.now number code }
     ensures { out (outcome_of result) list.new ≡ fill_with (tree (directory dir.now) code) none list.old }
 {
     if !has_room(dir, links, number, code, list.len()) {
-        return refusals::refused_answer(Reason::BufferTooShort, 0);
+        return refusals::refuse(Reason::BufferTooShort, 0);
     }
-    let many = fill(dir, links, number, code, list, 0);
-    Answer::Done(many, 0)
+    Ok(fill(dir, links, number, code, list, 0))
 }
 
 // What lies beneath the directory of that name, the root where it is empty: how many, and their slots to the front of `list`,
 // in slot order at each level, a directory directly followed by all that lies beneath it.
-pub fn list_tree(image: &[u8], name: &[u8], list: &mut [u16]) -> Answer
+pub fn list_tree(image: &[u8], name: &[u8], list: &mut [u16]) -> Result<usize, Refused>
     ensures { out (outcome_of result) list.new ≡ tree_listing image.now name.now list.old }
 {
-    match disk::check(image) {
-        Verdict::Err(r) => Answer::Err(r),
-        Verdict::Accepted => {
-            let nesting = nesting::survey_nesting(image);
-            let verdict = nesting.verdict;
-            match verdict {
-                Verdict::Err(r) => Answer::Err(r),
-                Verdict::Accepted => match name_rows(image, name) {
-                    Verdict::Err(r) => Answer::Err(r),
-                    Verdict::Accepted => {
-                        let links = siblings::link_slots(image);
-                        list_code(image, &links, nesting.number, asked_code(image, name), list)
-                    }
-                },
-            }
-        }
-    }
+    disk::check(image)?;
+    let number = nesting::survey_nesting(image)?;
+    name_rows(image, name)?;
+    let links = siblings::link_slots(image);
+    list_code(image, &links, number, asked_code(image, name), list)
 }
