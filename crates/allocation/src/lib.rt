@@ -10,13 +10,11 @@ ghost use Rattle.files.specs.Calls.{lookup_of};
 ghost use Rattle.plans.specs.Saving.{lowest_slot};
 ghost use Rattle.allocation.specs.Taken.{request_reply, slot_for_save, unavailable_map, lowest_clear_bits, full_byte, next_clear};
 
-use directory::Found;
-use files::Lookup;
-use refusals::{Reason, Verdict};
+use refusals::{Reason, Refused, refuse};
 use surveys::UsedMap;
 
 // The kind of a file, and where it is loaded.
-#[derive(Clone, Copy)]
+#[derive(Clone, Copy, Debug, PartialEq, Eq)]
 pub struct HeaderFields {
     pub kind: usize,
     pub page: usize,
@@ -24,29 +22,29 @@ pub struct HeaderFields {
 }
 
 // Rows 12, 13 and 14, which go by the arguments alone.
-fn asked_rows(start: HeaderFields, name: &[u8]) -> Verdict
+fn asked_rows(start: HeaderFields, name: &[u8]) -> Result<(), Refused>
     ensures { reply_of result ≡ request_reply start name.now }
 {
     if !changes::is_usable(name) {
-        return refusals::refused_verdict(Reason::NameNotUsable, 0);
+        return refuse(Reason::NameNotUsable, 0);
     }
     if !slots::is_carried(start.kind) {
-        return refusals::refused_verdict(Reason::WrongKind, 0);
+        return refuse(Reason::WrongKind, 0);
     }
     if 31 < start.page {
-        return refusals::refused_verdict(Reason::StartOutOfRange, 0);
+        return refuse(Reason::StartOutOfRange, 0);
     }
     if start.offset < 32768 {
-        return refusals::refused_verdict(Reason::StartOutOfRange, 0);
+        return refuse(Reason::StartOutOfRange, 0);
     }
     if 49151 < start.offset {
-        return refusals::refused_verdict(Reason::StartOutOfRange, 0);
+        return refuse(Reason::StartOutOfRange, 0);
     }
-    Verdict::Accepted
+    Ok(())
 }
 
 // The lowest slot that holds no file: one that is read and erased, else the end of the directory.
-fn free_slot(image: &[u8]) -> Found
+fn free_slot(image: &[u8]) -> Option<usize>
     ensures { found_at result ≡ lowest_slot (tracks_of image.now) (directory image.now) }
 {
     let end = directory::slots_read(image);
@@ -56,27 +54,25 @@ fn free_slot(image: &[u8]) -> Found
         let k = i;
         i += 1;
         if !slots::is_live(s) {
-            return Found::At(k);
+            return Some(k);
         }
     }
     if end < directory::slots_in(image) {
-        return Found::At(end);
+        return Some(end);
     }
-    Found::Nothing
+    None
 }
 
 // The slot that a save takes, counted from 0; or what is refused before: 12, 13, 14, 16, 18.
-pub fn slot_for(image: &[u8], start: HeaderFields, name: &[u8]) -> Lookup
+pub fn slot_for(image: &[u8], start: HeaderFields, name: &[u8]) -> Result<usize, Refused>
     ensures { lookup_of result ≡ slot_for_save image.now start name.now }
 {
-    match asked_rows(start, name) {
-        Verdict::Err(r) => Lookup::Err(r),
-        Verdict::Accepted => match directory::find(image, name) {
-            Found::At(i) => files::refused_lookup(Reason::NameTaken, i + 1),
-            Found::Nothing => match free_slot(image) {
-                Found::At(i) => Lookup::At(i),
-                Found::Nothing => files::refused_lookup(Reason::NoFreeSlot, 0),
-            },
+    asked_rows(start, name)?;
+    match directory::find(image, name) {
+        Some(i) => refuse(Reason::NameTaken, i + 1),
+        None => match free_slot(image) {
+            Some(i) => Ok(i),
+            None => refuse(Reason::NoFreeSlot, 0),
         },
     }
 }

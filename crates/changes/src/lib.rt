@@ -1,4 +1,4 @@
-// The changes to one slot: erase, rename, hide, show, protect, release. Each tests all that it can refuse before it writes,
+// The changes to one slot: erase, rename, and the four marks. Each tests all that it can refuse before it writes,
 // and it writes the directory sector of that slot alone.
 #![tactic(auto)]
 
@@ -10,13 +10,11 @@ ghost use Rattle.directory.specs.Find.{found_at};
 ghost use Rattle.disk.specs.View.{view};
 ghost use Rattle.files.specs.Calls.{file_at};
 ghost use Rattle.plans.specs.Plan.{taken_by};
-ghost use Rattle.plans.specs.Change.{erase, rename, mark, hide, show, protect, release, marked_byte, all_between, usable};
+ghost use Rattle.plans.specs.Change.{erase, rename, mark, marked_byte, all_between, usable};
 ghost use Rattle.changes.specs.Marks.{mark_of};
 ghost use Rattle.changes.specs.ChangeCalls.{ReturnsChange, ReturnsPlan, put_plan, put_unless_protected, erase_plan, rename_plan, FileInSlot, ByteInSlot, NewNameInSlot};
 
-use directory::Found;
-use files::Lookup;
-use refusals::{Answer, Reason, Verdict};
+use refusals::{Reason, Refused, refuse};
 
 // Whether every byte of a name is one of 32 to 126.
 fn is_printable(name: &[u8]) -> bool
@@ -65,110 +63,106 @@ fn put_number(list: &mut [u16], n: usize)
 }
 
 // Writes a change that only the list can still refuse.
-fn touch(image: &mut [u8], i: usize, o: usize, y: &[u8], list: &mut [u16]) -> Answer
+fn touch(image: &mut [u8], i: usize, o: usize, y: &[u8], list: &mut [u16]) -> Result<usize, Refused>
     requires { ByteInSlot image.old i o }
     ensures { ReturnsPlan (put_plan image.old i o y.now) image.old list.old result image.new list.new }
 {
     if list.len() < 1 {
-        return refusals::refused_answer(Reason::BufferTooShort, 0);
+        return refuse(Reason::BufferTooShort, 0);
     }
     put_in_slot(image, i, o, y);
     put_number(list, directory::dir_sector(i));
-    Answer::Done(1, 0)
+    Ok(1)
 }
 
 // The same, of a file that must not be protected.
-fn touch_unprotected(image: &mut [u8], i: usize, o: usize, y: &[u8], list: &mut [u16]) -> Answer
+fn touch_unprotected(
+    image: &mut [u8],
+    i: usize,
+    o: usize,
+    y: &[u8],
+    list: &mut [u16],
+) -> Result<usize, Refused>
     requires { ByteInSlot image.old i o }
     ensures { ReturnsPlan (put_unless_protected image.old i o y.now) image.old list.old result image.new list.new }
 {
     if slots::is_protected(directory::slot_at(image, i)) {
-        return refusals::refused_answer(Reason::FileProtected, i + 1);
+        return refuse(Reason::FileProtected, i + 1);
     }
     touch(image, i, o, y, list)
 }
 
 // Erases the file in slot `i`, unless it is protected or a directory that another live slot is in.
-fn erase_at(image: &mut [u8], i: usize, list: &mut [u16]) -> Answer
+fn erase_at(image: &mut [u8], i: usize, list: &mut [u16]) -> Result<usize, Refused>
     requires { FileInSlot image.old i }
     ensures { ReturnsPlan (erase_plan image.old i) image.old list.old result image.new list.new }
 {
     let erased = directory::slot_at(image, i);
     if slots::is_protected(erased) {
-        return refusals::refused_answer(Reason::FileProtected, i + 1);
+        return refuse(Reason::FileProtected, i + 1);
     }
     if nesting::is_occupied(image, i, directory::slot_at(image, i)) {
-        return refusals::refused_answer(Reason::DirectoryNotEmpty, i + 1);
+        return refuse(Reason::DirectoryNotEmpty, i + 1);
     }
     touch(image, i, 0, &[0], list)
 }
 
 // Erases a file: its slot's first byte becomes 0.
-pub fn erase(image: &mut [u8], name: &[u8], list: &mut [u16]) -> Answer
+pub fn erase(image: &mut [u8], name: &[u8], list: &mut [u16]) -> Result<usize, Refused>
     ensures { ReturnsChange (erase name.now) image.old list.old result image.new list.new }
 {
-    match files::look_up(image, name) {
-        Lookup::Err(r) => Answer::Err(r),
-        Lookup::At(i) => erase_at(image, i, list),
-    }
+    let i = files::look_up(image, name)?;
+    erase_at(image, i, list)
 }
 
 // The slot that keeps the file in slot `i` from a new name: another that has it, or its own where the bytes stored are the new ones.
-fn taken_by(image: &[u8], i: usize, new: &[u8]) -> Found
+fn taken_by(image: &[u8], i: usize, new: &[u8]) -> Option<usize>
     requires { NewNameInSlot image.now i new.now }
     ensures { found_at result ≡ taken_by (directory image.now) i (file_at (view image.now) i) new.now }
 {
-    match directory::find(image, new) {
-        Found::Nothing => Found::Nothing,
-        Found::At(j) => {
-            if j != i {
-                return Found::At(j);
-            }
-            if names::same_bytes(
-                slots::name_of(directory::slot_at(image, i)),
-                &names::padded_name(new),
-            ) {
-                return Found::At(j);
-            }
-            Found::Nothing
-        }
+    let j = directory::find(image, new)?;
+    if j != i {
+        return Some(j);
     }
+    if names::same_bytes(
+        slots::name_of(directory::slot_at(image, i)),
+        &names::padded_name(new),
+    ) {
+        return Some(j);
+    }
+    None
 }
 
 // Gives the file in slot `i` a name that is fit for one.
-fn rename_at(image: &mut [u8], i: usize, new: &[u8], list: &mut [u16]) -> Answer
+fn rename_at(image: &mut [u8], i: usize, new: &[u8], list: &mut [u16]) -> Result<usize, Refused>
     requires { NewNameInSlot image.old i new.now }
     ensures { ReturnsPlan (rename_plan image.old i new.now) image.old list.old result image.new list.new }
 {
     match taken_by(image, i, new) {
-        Found::At(j) => refusals::refused_answer(Reason::NameTaken, j + 1),
-        Found::Nothing => touch_unprotected(image, i, 1, &names::padded_name(new), list),
+        Some(j) => refuse(Reason::NameTaken, j + 1),
+        None => touch_unprotected(image, i, 1, &names::padded_name(new), list),
     }
 }
 
 // Renames a file. Both names are tested before either is looked for.
-pub fn rename(image: &mut [u8], name: &[u8], new: &[u8], list: &mut [u16]) -> Answer
+pub fn rename(image: &mut [u8], name: &[u8], new: &[u8], list: &mut [u16]) -> Result<usize, Refused>
     ensures { ReturnsChange (rename name.now new.now) image.old list.old result image.new list.new }
 {
-    match disk::check(image) {
-        Verdict::Err(r) => Answer::Err(r),
-        Verdict::Accepted => {
-            if !names::is_askable(name) {
-                return refusals::refused_answer(Reason::NameNotUsable, 0);
-            }
-            if !is_usable(new) {
-                return refusals::refused_answer(Reason::NameNotUsable, 0);
-            }
-            match directory::find(image, name) {
-                Found::At(i) => rename_at(image, i, new, list),
-                Found::Nothing => refusals::refused_answer(Reason::NameNotFound, 0),
-            }
-        }
+    disk::check(image)?;
+    if !names::is_askable(name) {
+        return refuse(Reason::NameNotUsable, 0);
+    }
+    if !is_usable(new) {
+        return refuse(Reason::NameNotUsable, 0);
+    }
+    match directory::find(image, name) {
+        Some(i) => rename_at(image, i, new, list),
+        None => refuse(Reason::NameNotFound, 0),
     }
 }
 
 // The four marks.
-#[derive(Clone, Copy)]
+#[derive(Clone, Copy, Debug, PartialEq, Eq)]
 pub enum Marking {
     Hide,
     Show,
@@ -189,39 +183,15 @@ fn marked_byte(marking: Marking, x: u8) -> u8
 }
 
 // Marks a file; one that has the mark already is accepted.
-pub fn set_mark(image: &mut [u8], name: &[u8], marking: Marking, list: &mut [u16]) -> Answer
+pub fn set_mark(
+    image: &mut [u8],
+    name: &[u8],
+    marking: Marking,
+    list: &mut [u16],
+) -> Result<usize, Refused>
     ensures { ReturnsChange (mark (mark_of marking) name.now) image.old list.old result image.new list.new }
 {
-    match files::look_up(image, name) {
-        Lookup::Err(r) => Answer::Err(r),
-        Lookup::At(i) => {
-            let first = buffers::byte_at(directory::slot_at(image, i), 0);
-            let byte = [marked_byte(marking, first)];
-            touch(image, i, 0, &byte, list)
-        }
-    }
-}
-
-pub fn hide(image: &mut [u8], name: &[u8], list: &mut [u16]) -> Answer
-    ensures { ReturnsChange (mark hide name.now) image.old list.old result image.new list.new }
-{
-    set_mark(image, name, Marking::Hide, list)
-}
-
-pub fn show(image: &mut [u8], name: &[u8], list: &mut [u16]) -> Answer
-    ensures { ReturnsChange (mark show name.now) image.old list.old result image.new list.new }
-{
-    set_mark(image, name, Marking::Show, list)
-}
-
-pub fn protect(image: &mut [u8], name: &[u8], list: &mut [u16]) -> Answer
-    ensures { ReturnsChange (mark protect name.now) image.old list.old result image.new list.new }
-{
-    set_mark(image, name, Marking::Protect, list)
-}
-
-pub fn release(image: &mut [u8], name: &[u8], list: &mut [u16]) -> Answer
-    ensures { ReturnsChange (mark release name.now) image.old list.old result image.new list.new }
-{
-    set_mark(image, name, Marking::Release, list)
+    let i = files::look_up(image, name)?;
+    let first = buffers::byte_at(directory::slot_at(image, i), 0);
+    touch(image, i, 0, &[marked_byte(marking, first)], list)
 }

@@ -5,8 +5,6 @@ ghost use Rattle.std.specs.Prelude.{◌≡◌};
 ghost use Rattle.directory.specs.Find.{found_at};
 ghost use Rattle.free_runs.specs.Runs.{stretch, lowest_clear};
 
-use directory::Found;
-
 // How many bits of a map from `b` on are surely alike: eight where a byte begins there that is full or empty, else one.
 fn stretch_at(map: &[u8], b: usize) -> usize
     ensures { result ≡ stretch map.now b }
@@ -25,11 +23,11 @@ fn stretch_at(map: &[u8], b: usize) -> usize
 }
 
 // The first of the lowest `count` clear bits of a map that are consecutive, in one pass: `len` is how many before `b` are clear.
-pub fn find_run(map: &[u8], count: usize) -> Found
+pub fn find_run(map: &[u8], count: usize) -> Option<usize>
     ensures { found_at result ≡ lowest_clear map.now count }
 {
     if count == 0 {
-        return Found::At(0);
+        return Some(0);
     }
     let mut len: usize = 0;
     let mut b: usize = 0;
@@ -42,9 +40,9 @@ pub fn find_run(map: &[u8], count: usize) -> Found
         } else {
             len += k;
             if count <= len {
-                return Found::At(b - len);
+                return Some(b - len);
             }
         }
     }
-    Found::Nothing
+    None
 }

@@ -15,34 +15,18 @@ ghost use Rattle.plans.specs.Gathered.{run_sectors};
 ghost use Rattle.plans.specs.Plan.{gather_steps};
 ghost use Rattle.changes.specs.ChangeCalls.{ReturnsChange};
 ghost use Rattle.gathers.specs.Moving.{ChainedSlot, Movable, DisjointRanges, TwoBits, file_in, count_in, moved_steps, link_to_run};
-ghost use Rattle.gathers.specs.Call.{LiveSlotOf, MoveInRange, moved_sectors, gather_changed, gather_at_slot, gather_call, GatherFits, refused_gather};
+ghost use Rattle.gathers.specs.Call.{LiveSlotOf, MoveInRange, moved_sectors, gather_changed, gather_at_slot, gather_call, GatherFits};
 
-use directory::Found;
-use geometry::Address;
-use refusals::{Answer, Reason, Refused, Verdict};
+use refusals::{Reason, Refused, refuse};
+use sector_writes::Link;
 use surveys::UsedMap;
 
-// The last two bytes of a data sector: where the next one is.
-#[derive(Clone, Copy)]
-struct Link {
-    track: u8,
-    sector: u8,
-}
-
 // Where a file went: its slot, counted from 0, how many sectors, and the map bit of the first.
-#[derive(Clone, Copy)]
+#[derive(Clone, Copy, Debug, PartialEq, Eq)]
 pub struct Move {
     pub slot: usize,
     pub count: usize,
     pub bit: usize,
-}
-
-// What a gather comes to: the file stays where it is, it was moved, or the call is refused.
-#[derive(Clone, Copy)]
-pub enum Gathered {
-    InPlace,
-    Relocated(Move),
-    Err(Refused),
 }
 
 // Whether the chain of a slot is not on consecutive rising bits.
@@ -102,16 +86,7 @@ fn link_to(n: usize, b: usize) -> Link
             sector: 0,
         };
     }
-    match geometry::address_of(b) {
-        Address::Sector(track, sector) => Link {
-            track: track as u8,
-            sector: sector as u8,
-        },
-        Address::NoBit => Link {
-            track: 0,
-            sector: 0,
-        },
-    }
+    sector_writes::link_of(b)
 }
 
 // Copies the sectors of the file in slot `i` along its links to the bits from `b` on, chained rising.
@@ -163,60 +138,51 @@ fn write_moved(image: &mut [u8], i: usize, b: usize)
     buffers::copy_into(image, at + 2, &map);
 }
 
-// A gather that refuses.
-fn refused_gather(reason: Reason, slot: usize) -> Gathered
-    ensures { result ≡ refused_gather reason slot }
-{
-    Gathered::Err(Refused { reason, slot })
-}
-
 // Gathers the file in slot `i` of an accepted disk whose used map is `used`, where there is a run and a list of `room` numbers
 // suffices.
-fn gather_at(image: &mut [u8], used: UsedMap, i: usize, room: usize) -> Gathered
+fn gather_at(
+    image: &mut [u8],
+    used: UsedMap,
+    i: usize,
+    room: usize,
+) -> Result<Option<Move>, Refused>
     requires { LiveSlotOf image.old used i }
     ensures { (gather_changed result image.new ≡ gather_at_slot image.old i room) × GatherFits result room }
 {
     let s = directory::slot_at(image, i);
     if slots::is_directory(s) {
-        return refused_gather(Reason::WrongKind, i + 1);
+        return refuse(Reason::WrongKind, i + 1);
     }
     if !is_scattered(image, s) {
-        return Gathered::InPlace;
+        return Ok(None);
     }
     let count = slots::count_of(s);
     let map = allocation::unavailable_bits(used);
     match free_runs::find_run(&map, count) {
-        Found::Nothing => refused_gather(Reason::NoFreeRun, 0),
-        Found::At(bit) => {
+        None => refuse(Reason::NoFreeRun, 0),
+        Some(bit) => {
             if room <= count {
-                return refused_gather(Reason::BufferTooShort, 0);
+                return refuse(Reason::BufferTooShort, 0);
             }
             write_moved(image, i, bit);
             let slot = i;
-            Gathered::Relocated(Move { slot, count, bit })
+            Ok(Some(Move { slot, count, bit }))
         }
     }
 }
 
 // Gathers a file where a list has room for `room` numbers: the image changes, and the answer says where the file went, from
 // which the sectors are told. So a caller puts their numbers to a list of its own, and none is needed beside it.
-pub fn gather_in(image: &mut [u8], name: &[u8], room: usize) -> Gathered
+pub fn gather_in(image: &mut [u8], name: &[u8], room: usize) -> Result<Option<Move>, Refused>
     ensures { (gather_changed result image.new ≡ gather_call name.now image.old room) × GatherFits result room }
 {
-    let found = disk::examine(image);
-    let verdict = found.verdict;
-    match verdict {
-        Verdict::Err(r) => Gathered::Err(r),
-        Verdict::Accepted => {
-            let used = found.used;
-            if !names::is_askable(name) {
-                return refused_gather(Reason::NameNotUsable, 0);
-            }
-            match directory::find(image, name) {
-                Found::Nothing => refused_gather(Reason::NameNotFound, 0),
-                Found::At(i) => gather_at(image, used, i, room),
-            }
-        }
+    let survey = disk::examine(image)?;
+    if !names::is_askable(name) {
+        return refuse(Reason::NameNotUsable, 0);
+    }
+    match directory::find(image, name) {
+        None => refuse(Reason::NameNotFound, 0),
+        Some(i) => gather_at(image, survey.used, i, room),
     }
 }
 
@@ -244,16 +210,15 @@ fn put_moved(list: &mut [u16], to: Move)
 
 // Gathers a file: the image changes, the front of `list` gets the numbers of the sectors in the order of writing, and the answer
 // says how many: 0 where the file lies on consecutive bits already. A refused gather changes nothing.
-pub fn gather(image: &mut [u8], name: &[u8], list: &mut [u16]) -> Answer
+pub fn gather(image: &mut [u8], name: &[u8], list: &mut [u16]) -> Result<usize, Refused>
     ensures { ReturnsChange (gather name.now) image.old list.old result image.new list.new }
 {
     let room = list.len();
-    match gather_in(image, name, room) {
-        Gathered::Err(r) => Answer::Err(r),
-        Gathered::InPlace => Answer::Done(0, 0),
-        Gathered::Relocated(to) => {
+    match gather_in(image, name, room)? {
+        None => Ok(0),
+        Some(to) => {
             put_moved(list, to);
-            Answer::Done(to.count + 1, 0)
+            Ok(to.count + 1)
         }
     }
 }

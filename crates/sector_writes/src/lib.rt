@@ -8,10 +8,9 @@ ghost use Rattle.plans.specs.Saving.{sector_bytes};
 ghost use Rattle.sector_writes.specs.Sector.{header, bytes_from, link_to_bit};
 
 use allocation::HeaderFields;
-use geometry::Address;
 
 // The last two bytes of a data sector: where the next one is.
-#[derive(Clone, Copy)]
+#[derive(Clone, Copy, Debug, PartialEq, Eq)]
 pub struct Link {
     pub track: u8,
     pub sector: u8,
@@ -40,11 +39,11 @@ pub fn link_of(bit: usize) -> Link
     ensures { result ≡ link_to_bit bit }
 {
     match geometry::address_of(bit) {
-        Address::Sector(track, sector) => Link {
-            track: track as u8,
-            sector: sector as u8,
+        Some(a) => Link {
+            track: a.track as u8,
+            sector: a.sector as u8,
         },
-        Address::NoBit => Link {
+        None => Link {
             track: 0,
             sector: 0,
         },
