@@ -19,10 +19,8 @@ ghost use Rattle.recordings.specs.Calls.{close_call};
 ghost use Rattle.record_close.specs.Close.{request_of, end_sectors, end_numbers, RecordingChain, Closable, CloseReady, StillFits, CloseSlotOf};
 
 use allocation::HeaderFields;
-use files::Lookup;
-use recording_links::Continuation;
 use recordings::Record;
-use refusals::{Answer, Reason, Verdict};
+use refusals::{Reason, Refused, refuse};
 use sector_writes::Link;
 use surveys::UsedMap;
 
@@ -51,8 +49,14 @@ fn write_first(image: &mut [u8], kept: &Record, bit: usize, link: Link)
 {
     let long = kept.long;
     let head = sector_writes::header_of(start_of(kept), long);
-    let body = kept.first;
-    sector_writes::write_sector(image, bit, &head, buffers::part_at(&body, 0, long), 0, link);
+    sector_writes::write_sector(
+        image,
+        bit,
+        &head,
+        buffers::part_at(&kept.first, 0, long),
+        0,
+        link,
+    );
 }
 
 // Writes the last sector of a recording, the `n`-th and not the first, at a map bit.
@@ -61,8 +65,7 @@ fn write_last(image: &mut [u8], kept: &Record, n: usize, bit: usize)
     ensures { image.new ≡ put image.old (place_or_end bit) (sector_bytes (stream (request_of kept.now)) (510 * (n - 1)) 0 0) }
 {
     let from = 510 * (n - 1) - 9;
-    let body = kept.last;
-    let there = buffers::part_at(&body, 0, kept.long - from);
+    let there = buffers::part_at(&kept.last, 0, kept.long - from);
     let link = Link {
         track: 0,
         sector: 0,
@@ -96,16 +99,13 @@ fn write_recording(image: &mut [u8], i: usize, old: bool, kept: &Record, bits: &
 {
     let map = slot_writes::map_with(bits);
     let first = sector_writes::link_of(bit_at(bits, 0));
-    let name = kept.name;
-    let exec = kept.exec;
-    let info = kept.info;
     let slot = slot_writes::slot_of(
         image,
         i,
         start_of(kept),
-        &name,
-        &exec,
-        &info,
+        &kept.name,
+        &kept.exec,
+        &kept.info,
         kept.long,
         bits.len(),
         first,
@@ -174,58 +174,58 @@ fn write_close(
 }
 
 // Closes into the free slot `i` of an accepted disk whose used map is `used`, where the sectors and the list suffice.
-fn close_at(image: &mut [u8], used: UsedMap, i: usize, kept: &Record, list: &mut [u16]) -> Answer
+fn close_at(
+    image: &mut [u8],
+    used: UsedMap,
+    i: usize,
+    kept: &Record,
+    list: &mut [u16],
+) -> Result<usize, Refused>
     requires { CloseSlotOf image.old used i kept.now }
     ensures { changed (outcome_of result) image.new list.new ≡ close_call kept.now image.old list.old }
 {
     // No disk holds more, and past the largest number the sectors could not be counted.
     if 795591 < kept.long {
-        return refusals::refused_answer(Reason::TooFewSectors, 0);
+        return refuse(Reason::TooFewSectors, 0);
     }
     let n = (kept.long + 518) / 510;
     if surveys::free_of(used) < n {
-        return refusals::refused_answer(Reason::TooFewSectors, 0);
+        return refuse(Reason::TooFewSectors, 0);
     }
     let old = slot_writes::has_old_name(image, i);
     let named = ends_of(n) + slot_writes::dir_count(i, old);
     if list.len() < named {
-        return refusals::refused_answer(Reason::BufferTooShort, 0);
+        return refuse(Reason::BufferTooShort, 0);
     }
     let map = allocation::unavailable_bits(used);
     write_close(image, &map, n, i, old, kept, list);
-    Answer::Done(named, 0)
+    Ok(named)
 }
 
 // Closes on an accepted disk whose used map is `used` and which the recording still fits.
-fn close_still(image: &mut [u8], used: UsedMap, kept: &Record, list: &mut [u16]) -> Answer
+fn close_still(
+    image: &mut [u8],
+    used: UsedMap,
+    kept: &Record,
+    list: &mut [u16],
+) -> Result<usize, Refused>
     requires { StillFits image.old used kept.now }
     ensures { changed (outcome_of result) image.new list.new ≡ close_call kept.now image.old list.old }
 {
-    let name = kept.name;
-    match allocation::slot_for(image, start_of(kept), &name) {
-        Lookup::Err(r) => Answer::Err(r),
-        Lookup::At(i) => close_at(image, used, i, kept, list),
-    }
+    let i = allocation::slot_for(image, start_of(kept), &kept.name)?;
+    close_at(image, used, i, kept, list)
 }
 
 // Closes a recording: the image changes, the front of `list` gets the numbers of the sectors in the order of writing, and the
 // answer says how many. A refused close changes nothing.
-pub fn close(image: &mut [u8], kept: Record, list: &mut [u16]) -> Answer
-    ensures { changed (outcome_of result) image.new list.new ≡ close_call kept image.old list.old }
+pub fn close(image: &mut [u8], kept: &Record, list: &mut [u16]) -> Result<usize, Refused>
+    ensures { changed (outcome_of result) image.new list.new ≡ close_call kept.now image.old list.old }
 {
-    let found = disk::examine(image);
-    let verdict = found.verdict;
-    match verdict {
-        Verdict::Err(r) => Answer::Err(r),
-        Verdict::Accepted => {
-            let used = found.used;
-            let was = kept.used;
-            // No disk holds more sectors than 1,560, and past the largest number they could not be counted.
-            let n = (buffers::lesser(kept.long, 795592) + 518) / 510;
-            match recording_links::follow(image, used, &was, kept.tracks, n) {
-                Continuation::Stale => refusals::refused_answer(Reason::RecordingMoved, 0),
-                Continuation::NextBit(_) => close_still(image, used, &kept, list),
-            }
-        }
+    let used = disk::examine(image)?.used;
+    // No disk holds more sectors than 1,560, and past the largest number they could not be counted.
+    let n = (kept.long.min(795592) + 518) / 510;
+    if recording_links::follow(image, used, &kept.used, kept.tracks, n).is_none() {
+        return refuse(Reason::RecordingMoved, 0);
     }
+    close_still(image, used, kept, list)
 }

@@ -14,8 +14,7 @@ ghost use Rattle.sector_writes.specs.Sector.{link_to_next};
 ghost use Rattle.saves.specs.Write.{save_request, save_request_for, Bits, Writable, SaveReady, SaveSlot};
 
 use allocation::HeaderFields;
-use files::Lookup;
-use refusals::{Answer, Reason, Verdict};
+use refusals::{Reason, Refused, refuse};
 use sector_writes::Link;
 use surveys::UsedMap;
 
@@ -128,26 +127,26 @@ fn save_at(
     info: &[u8],
     body: &[u8],
     list: &mut [u16],
-) -> Answer
+) -> Result<usize, Refused>
     requires { SaveSlot image.old used i start name.now }
     ensures { ReturnsChange (save (save_request_for start name.now exec.now info.now body.now)) image.old list.old result image.new list.new }
 {
     // No disk holds more, and past the largest number the sectors could not be counted.
     if 795591 < body.len() {
-        return refusals::refused_answer(Reason::TooFewSectors, 0);
+        return refuse(Reason::TooFewSectors, 0);
     }
     let n = (body.len() + 518) / 510;
     if surveys::free_of(used) < n {
-        return refusals::refused_answer(Reason::TooFewSectors, 0);
+        return refuse(Reason::TooFewSectors, 0);
     }
     let old = slot_writes::has_old_name(image, i);
     let named = n + slot_writes::dir_count(i, old);
     if list.len() < named {
-        return refusals::refused_answer(Reason::BufferTooShort, 0);
+        return refuse(Reason::BufferTooShort, 0);
     }
     let map = allocation::unavailable_bits(used);
     write_save(image, &map, n, i, old, start, name, exec, info, body, list);
-    Answer::Done(named, 0)
+    Ok(named)
 }
 
 // Saves a file: the image changes, the front of `list` gets the numbers of the sectors in the order of writing, and the
@@ -162,20 +161,11 @@ pub fn save(
     info: &[u8],
     body: &[u8],
     list: &mut [u16],
-) -> Answer
+) -> Result<usize, Refused>
     ensures { ReturnsChange (save (save_request kind name.now page offset exec.now info.now body.now)) image.old list.old result image.new list.new }
 {
-    let found = disk::examine(image);
-    let verdict = found.verdict;
-    match verdict {
-        Verdict::Err(r) => Answer::Err(r),
-        Verdict::Accepted => {
-            let used = found.used;
-            let start = HeaderFields { kind, page, offset };
-            match allocation::slot_for(image, start, name) {
-                Lookup::Err(r) => Answer::Err(r),
-                Lookup::At(i) => save_at(image, used, i, start, name, exec, info, body, list),
-            }
-        }
-    }
+    let used = disk::examine(image)?.used;
+    let start = HeaderFields { kind, page, offset };
+    let i = allocation::slot_for(image, start, name)?;
+    save_at(image, used, i, start, name, exec, info, body, list)
 }
