@@ -9,11 +9,11 @@ ghost use Rattle.names.specs.Name.{same_name};
 ghost use Rattle.slots.specs.Slot.{name_of};
 ghost use Rattle.slots.specs.Rows.{own_reply};
 ghost use Rattle.directory.specs.Directory.{tracks_of, slots_read, directory};
-ghost use Rattle.surveys.specs.Survey.{earlier, survey_at, survey_by, counted, free_of, refused_with};
+ghost use Rattle.surveys.specs.Survey.{earlier, survey_at, survey_by, counted, free_of};
 ghost use Rattle.surveys.specs.Filter.{key_bit, key_step, may_contain, inserted, Filtered};
 ghost use Rattle.surveys.specs.Steps.{DisjointMaps, Reached, Surveyed};
 
-use refusals::{Reason, Verdict};
+use refusals::{Reason, Refused};
 
 // The used map: 195 map bytes together with their number of set bits, and the number of directory tracks beyond four.
 #[derive(Clone, Copy)]
@@ -23,11 +23,9 @@ pub struct UsedMap {
     pub tracks: usize,
 }
 
-// What the pass over rows 2 to 9 gives: its verdict, and where that is accepted the used map and how many slots are live
-// (else a clear map and 0).
+// What the pass over rows 2 to 9 gives of a directory that it does not refuse: the used map and how many slots are live.
 #[derive(Clone, Copy)]
 pub struct Survey {
-    pub verdict: Verdict,
     pub used: UsedMap,
     pub files: usize,
 }
@@ -107,7 +105,7 @@ fn named_before(dir: &[u8], i: usize, name: &[u8], filter: &[u8]) -> bool
 }
 
 // Rows 2 and 4 to 7 at a live slot.
-fn own_at(s: &[u8], slot: usize, tracks: usize) -> Verdict
+fn own_at(s: &[u8], slot: usize, tracks: usize) -> Result<(), Refused>
     ensures { reply_of result ≡ own_reply tracks slot s.now }
 {
     let inside = slots::is_inside(slots::map_of(s), tracks);
@@ -124,26 +122,22 @@ fn live_rows(
     filter: &[u8],
     release: bool,
     tracks: usize,
-) -> Verdict
+) -> Result<(), Refused>
     requires { Reached dir.now i s.now used.now filter.now }
     ensures { reply_of result ≡ survey_at release tracks (directory dir.now) i }
 {
     let slot = i + 1;
-    match own_at(s, slot, tracks) {
-        Verdict::Err(f) => Verdict::Err(f),
-        Verdict::Accepted => {
-            if release && slots::is_wasteful(s) {
-                return refusals::refused_verdict(Reason::WasteSectors, slot);
-            }
-            if maps::shares(used, slots::map_of(s)) {
-                return refusals::refused_verdict(Reason::SectorShared, slot);
-            }
-            if named_before(dir, i, slots::name_of(s), filter) {
-                return refusals::refused_verdict(Reason::NameTwice, slot);
-            }
-            Verdict::Accepted
-        }
+    own_at(s, slot, tracks)?;
+    if release && slots::is_wasteful(s) {
+        return refusals::refuse(Reason::WasteSectors, slot);
     }
+    if maps::shares(used, slots::map_of(s)) {
+        return refusals::refuse(Reason::SectorShared, slot);
+    }
+    if named_before(dir, i, slots::name_of(s), filter) {
+        return refusals::refuse(Reason::NameTwice, slot);
+    }
+    Ok(())
 }
 
 // The used map of no slot.
@@ -154,18 +148,6 @@ fn unused(tracks: usize) -> UsedMap
         bytes: [0; 195],
         count: 0,
         tracks,
-    }
-}
-
-// What a check hands on that refuses: no used map and no files.
-pub fn refused(verdict: Verdict) -> Survey
-    ensures { result ≡ refused_with verdict }
-{
-    let used = unused(0);
-    Survey {
-        verdict,
-        used,
-        files: 0,
     }
 }
 
@@ -186,7 +168,7 @@ fn joined(used: UsedMap, map: &[u8], own: usize) -> UsedMap
 }
 
 // Rows 2 to 9 at all slots, with 22 where `release` asks for it, the used map, and how many slots are live.
-pub fn survey_slots(dir: &[u8], release: bool) -> Survey
+pub fn survey_slots(dir: &[u8], release: bool) -> Result<Survey, Refused>
     ensures { Surveyed (survey_by release (tracks_of dir.now) (directory dir.now)) dir.now result }
 {
     let tracks = directory::tracks_of(dir);
@@ -200,24 +182,13 @@ pub fn survey_slots(dir: &[u8], release: bool) -> Survey
         let k = i;
         i += 1;
         if slots::is_live(s) {
-            match live_rows(dir, k, s, &used.bytes, &filter, release, tracks) {
-                Verdict::Err(f) => {
-                    return refused(Verdict::Err(f));
-                }
-                Verdict::Accepted => {
-                    insert(&mut filter, names::key_of(slots::name_of(s)));
-                    files += 1;
-                    let next = joined(used, slots::map_of(s), slots::count_of(s));
-                    used = next;
-                }
-            }
+            live_rows(dir, k, s, &used.bytes, &filter, release, tracks)?;
+            insert(&mut filter, names::key_of(slots::name_of(s)));
+            files += 1;
+            used = joined(used, slots::map_of(s), slots::count_of(s));
         }
     }
-    Survey {
-        verdict: Verdict::Accepted,
-        used,
-        files,
-    }
+    Ok(Survey { used, files })
 }
 
 // The sectors that a used map leaves free: 0 where its count is no map's.
