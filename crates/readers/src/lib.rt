@@ -8,7 +8,6 @@ ghost use Rattle.readers.specs.Pieces.{read_place, piece_of, buffer_after, no_pi
 ghost use Rattle.readers.specs.Opening.{open_file_at, open_file, file_opening_of};
 ghost use Rattle.readers.specs.Readers.{reader_at, reader_piece, reader_after, reader_buffer};
 
-use files::Lookup;
 use refusals::{Reason, Refused};
 
 // The sectors of an image; also the number that no sector has, where a chain has ended.
@@ -44,14 +43,6 @@ pub struct Piece {
     pub left: usize,
 }
 
-// What opening answers: where the body begins, with its length, or a refusal. An enum can hold no reference, so the reader
-// itself is made of the place.
-#[derive(Clone, Copy)]
-pub enum OpenAnswer {
-    At(Place),
-    Err(Refused),
-}
-
 // "The reader holds the lent disk and its place in the chain." While it is held the disk is lent to it: "A disk being read can't
 // be changed until the reader is given up."
 #[derive(Clone, Copy)]
@@ -85,7 +76,7 @@ fn copy_runs(image: &[u8], sector: usize, offset: usize, left: usize, out: &mut 
     requires { PlaceInRange image.now (read_place sector offset left) }
     ensures { (result ≡ piece_of image.now (read_place sector offset left) (length out.old)) × (out.new ≡ buffer_after image.now (read_place sector offset left) out.old) }
 {
-    let want = buffers::lesser(left, out.len());
+    let want = left.min(out.len());
     let mut at = sector;
     let mut from = offset;
     let mut done: usize = 0;
@@ -98,7 +89,7 @@ fn copy_runs(image: &[u8], sector: usize, offset: usize, left: usize, out: &mut 
                 left: left - done,
             };
         }
-        let n = buffers::lesser(PAYLOAD - from, want - done);
+        let n = (PAYLOAD - from).min(want - done);
         buffers::copy_into(out, done, buffers::part_at(image, at * 512 + from, n));
         let next = position_at(image, at, from + n);
         done += n;
@@ -146,16 +137,13 @@ pub fn piece_at(image: &[u8], sector: usize, offset: usize, left: usize, out: &m
 }
 
 // Where the body of the file in a slot begins, whose number is `slot`: past the nine bytes of its header.
-fn begin_at(image: &[u8], s: &[u8], slot: usize) -> OpenAnswer
+fn begin_at(image: &[u8], s: &[u8], slot: usize) -> Result<Place, Refused>
     ensures { file_opening_of result ≡ open_file_at slot (file_of image.now s.now) }
 {
     if !slots::is_readable(slots::kind_of(s)) {
-        return OpenAnswer::Err(Refused {
-            reason: Reason::WrongKind,
-            slot,
-        });
+        return refusals::refuse(Reason::WrongKind, slot);
     }
-    OpenAnswer::At(Place {
+    Ok(Place {
         sector: geometry::bit_place(slots::first_of(s)) / 512,
         offset: 9,
         left: headers::file_length(image, s),
@@ -163,13 +151,11 @@ fn begin_at(image: &[u8], s: &[u8], slot: usize) -> OpenAnswer
 }
 
 // Opens a file by name: where its body begins and how long it is. What a read refuses is refused here, but for 20.
-pub fn begin(image: &[u8], name: &[u8]) -> OpenAnswer
+pub fn begin(image: &[u8], name: &[u8]) -> Result<Place, Refused>
     ensures { file_opening_of result ≡ open_file image.now name.now }
 {
-    match files::look_up(image, name) {
-        Lookup::Err(r) => OpenAnswer::Err(r),
-        Lookup::At(i) => begin_at(image, directory::slot_at(image, i), i + 1),
-    }
+    let i = files::look_up(image, name)?;
+    begin_at(image, directory::slot_at(image, i), i + 1)
 }
 
 // A reader at a place, such as `begin` answers.
