@@ -73,8 +73,8 @@ pub fn record_in(bytes: &[u8]) -> Record
 }
 
 // The bytes before the name.
-fn front_of(held: Record) -> [u8; 12]
-    ensures { result ≡ front_of held }
+fn front_of(held: &Record) -> [u8; 12]
+    ensures { result ≡ front_of held.now }
 {
     [
         (held.kind % 256) as u8,
@@ -93,8 +93,8 @@ fn front_of(held: Record) -> [u8; 12]
 }
 
 // The bytes of a record.
-fn bytes_of(held: Record) -> [u8; 2048]
-    ensures { result ≡ bytes_of held }
+fn bytes_of(held: &Record) -> [u8; 2048]
+    ensures { result ≡ bytes_of held.now }
 {
     let mut bytes = [0u8; 2048];
     let front = front_of(held);
@@ -109,8 +109,8 @@ fn bytes_of(held: Record) -> [u8; 2048]
 }
 
 // Puts the bytes of a record to the front of a buffer, whose rest stays.
-pub fn put_opened(bytes: &mut [u8], held: Record)
-    ensures { bytes.new ≡ put bytes.old 0 (bytes_of held) }
+pub fn put_opened(bytes: &mut [u8], held: &Record)
+    ensures { bytes.new ≡ put bytes.old 0 (bytes_of held.now) }
 {
     let all = bytes_of(held);
     buffers::copy_into(bytes, 0, &all);
@@ -129,14 +129,11 @@ fn four_of(x: usize) -> [u8; 4]
 }
 
 // Puts what a piece changes of a record: how many bytes came, and those that wait.
-pub fn put_grown(bytes: &mut [u8], held: Record)
-    ensures { bytes.new ≡ record_bytes_with bytes.old held }
+pub fn put_grown(bytes: &mut [u8], held: &Record)
+    ensures { bytes.new ≡ record_bytes_with bytes.old held.now }
 {
     let long = four_of(held.long);
     buffers::copy_into(bytes, LONG, &long);
-    // Copied first, or the record would stand on the stack once more.
-    let first = held.first;
-    buffers::copy_into(bytes, FIRST, &first);
-    let last = held.last;
-    buffers::copy_into(bytes, LAST, &last);
+    buffers::copy_into(bytes, FIRST, &held.first);
+    buffers::copy_into(bytes, LAST, &held.last);
 }

@@ -12,7 +12,7 @@ ghost use Rattle.reports.specs.Numbers.{files_report, report_of, number_at};
 ghost use Rattle.reports.specs.Calls.{disks_in, raised_at, raised};
 ghost use Rattle.report_bytes.specs.Bytes.{report_numbers_in, four_of, Numbered, add_disk_bytes, join_reports_bytes};
 
-use refusals::{Answer, Reason, Verdict};
+use refusals::{Reason, Refused};
 
 // The bytes of a report: 124 numbers, of which the last 13 are not used.
 pub const REPORT_BYTES: usize = 496;
@@ -107,16 +107,10 @@ fn count_disk(bytes: &mut [u8], image: &[u8])
     requires { 496 ≤ length bytes.old }
     ensures { Numbered bytes.old bytes.new (raised (report_numbers_in bytes.old) (number_at (report_of (view image.now)))) }
 {
-    let found = disk::examine(image);
-    let verdict = found.verdict;
-    match verdict {
-        Verdict::Err(r) => {
-            let reason = r.reason;
-            raise(bytes, refusals::refusal_number(reason), 1);
-        }
-        Verdict::Accepted => {
-            let used = found.used;
-            count_accepted(bytes, used.count, surveys::free_of(used));
+    match disk::examine(image) {
+        Err(r) => raise(bytes, r.reason.number(), 1),
+        Ok(found) => {
+            count_accepted(bytes, found.used.count, surveys::free_of(found.used));
             count_files(bytes, image, found.files);
         }
     }
@@ -137,18 +131,18 @@ fn disks_in(bytes: &[u8]) -> usize
 }
 
 // A disk added to a report: the disks in it after.
-pub fn add(image: &[u8], bytes: &mut [u8]) -> Answer
+pub fn add(image: &[u8], bytes: &mut [u8]) -> Result<usize, Refused>
     ensures { out (outcome_of result) bytes.new ≡ add_disk_bytes bytes.old image.now }
 {
     if bytes.len() < REPORT_BYTES {
-        return refusals::refused_answer(Reason::BufferTooShort, 0);
+        return refusals::refuse(Reason::BufferTooShort, 0);
     }
     let disks = disks_in(bytes) + 1;
     if MOST_DISKS < disks {
-        return refusals::refused_answer(Reason::ReportFull, 0);
+        return refusals::refuse(Reason::ReportFull, 0);
     }
     count_disk(bytes, image);
-    Answer::Done(disks, 0)
+    Ok(disks)
 }
 
 // The numbers of another report, added to those of one.
@@ -164,19 +158,19 @@ fn add_numbers(bytes: &mut [u8], other: &[u8])
 }
 
 // Another report joined to one: the disks in both.
-pub fn join(bytes: &mut [u8], other: &[u8]) -> Answer
+pub fn join(bytes: &mut [u8], other: &[u8]) -> Result<usize, Refused>
     ensures { out (outcome_of result) bytes.new ≡ join_reports_bytes bytes.old other.now }
 {
     if bytes.len() < REPORT_BYTES {
-        return refusals::refused_answer(Reason::BufferTooShort, 0);
+        return refusals::refuse(Reason::BufferTooShort, 0);
     }
     if other.len() < REPORT_BYTES {
-        return refusals::refused_answer(Reason::BufferTooShort, 0);
+        return refusals::refuse(Reason::BufferTooShort, 0);
     }
     let disks = disks_in(bytes) + disks_in(other);
     if MOST_DISKS < disks {
-        return refusals::refused_answer(Reason::ReportFull, 0);
+        return refusals::refuse(Reason::ReportFull, 0);
     }
     add_numbers(bytes, other);
-    Answer::Done(disks, 0)
+    Ok(disks)
 }

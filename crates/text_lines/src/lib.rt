@@ -38,7 +38,7 @@ fn put_digits(page: &mut [u8], at: usize, k: usize, n: usize) -> usize
     ensures { Wrote page.old at (digits k n) page.new result }
 {
     if k == 0 {
-        return buffers::lesser(at, page.len());
+        return at.min(page.len());
     }
     if n < 10 {
         let only = digit(n);
@@ -120,10 +120,10 @@ pub fn put_slot_line(page: &mut [u8], at: usize, number: usize, s: &[u8]) -> usi
     ensures { Wrote page.old at (slot_line number s.now) page.new result }
 {
     if !slots::is_live(s) {
-        return buffers::lesser(at, page.len());
+        return at.min(page.len());
     }
     if slots::is_hidden(s) {
-        return buffers::lesser(at, page.len());
+        return at.min(page.len());
     }
     put_line(page, at, number, s)
 }
@@ -141,9 +141,8 @@ pub fn put_free(page: &mut [u8], at: usize, n: usize) -> usize
 pub fn put_refusal(page: &mut [u8], refused: Refused) -> usize
     ensures { Wrote page.old 0 (refusal_line (refusal_of refused)) page.new result }
 {
-    let reason = refused.reason;
     let a = put_bytes(page, 0, b"refused ");
-    let b = put_decimal(page, a, refusals::refusal_number(reason));
+    let b = put_decimal(page, a, refused.reason.number());
     let c = put_bytes(page, b, b" slot ");
     let d = put_decimal(page, c, refused.slot);
     put_bytes(page, d, b"\n")
