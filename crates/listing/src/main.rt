@@ -3,8 +3,6 @@
 
 ghost use Rattle.std.specs.Prelude.{◌≡◌, length};
 
-use refusals::Answer;
-
 // Room for the directory's four tracks, the front of an image; what comes after them is not read.
 fn tracks() -> [u8; 40960]
     ensures { 40960 ≡ length result }
@@ -23,10 +21,7 @@ fn main() {
     let mut input = tracks();
     let got = io::read_full(0, &mut input);
     let mut page = blank();
-    match catalogue::catalogue(&input[..got], &mut page) {
-        Answer::Done(n, _) => {
-            io::write_all(1, &page[..n]);
-        }
-        Answer::Err(_) => {}
+    if let Ok(n) = catalogue::catalogue(&input[..got], &mut page) {
+        io::write_all(1, &page[..n]);
     }
 }

@@ -77,14 +77,13 @@ pub fn rubbish(image: &mut [u8]) {
 
 // Every data sector linked to that of the next map bit, and the last to none.
 fn link_all(image: &mut [u8]) {
-    let mut bit: usize = 0;
-    while bit < 1560 {
-        let at = geometry::bit_place(bit);
-        bit += 1;
-        match geometry::address_of(bit) {
-            Address::Sector(track, sector) => crate::link(image, at, track, sector),
-            Address::NoBit => crate::link(image, at, 0, 0),
-        }
+    for bit in 0..1560 {
+        let next = geometry::address_of(bit + 1);
+        let to = next.unwrap_or(Address {
+            track: 0,
+            sector: 0,
+        });
+        crate::link(image, geometry::bit_place(bit), to);
     }
 }
 

@@ -5,7 +5,9 @@
 ghost use Rattle.std.specs.Prelude.{◌≡◌, length, get_or, replicate};
 ghost use Rattle.files.specs.Calls.{listing, reading};
 
-use refusals::{Answer, Refused, Verdict};
+use files::Listed;
+use geometry::Address;
+use refusals::Refused;
 
 pub mod disks; // disks of few files, and a full one
 
@@ -31,10 +33,10 @@ pub fn low(n: usize) -> u8 {
 }
 
 // The link of the sector at a place.
-pub fn link(image: &mut [u8], at: usize, track: usize, sector: usize) {
+pub fn link(image: &mut [u8], at: usize, to: Address) {
     if at < 819200 {
-        set(image, at + 510, low(track));
-        set(image, at + 511, low(sector));
+        set(image, at + 510, low(to.track));
+        set(image, at + 511, low(to.sector));
     }
 }
 
@@ -48,8 +50,7 @@ pub fn number(before: &[u8], n: usize) {
 }
 
 pub fn refused(r: Refused) {
-    let reason = r.reason;
-    number(b"refused ", refusals::refusal_number(reason));
+    number(b"refused ", r.reason.number());
     number(b" slot ", r.slot);
     say(b"\n");
 }
@@ -60,31 +61,43 @@ pub fn title(call: &[u8], what: &[u8]) {
     say(b": ");
 }
 
-fn verdict(found: Verdict) {
-    match found {
-        Verdict::Accepted => say(b"accepted\n"),
-        Verdict::Err(r) => refused(r),
+// Whether a call was refused, and nothing of its answer else.
+pub fn accepted<T: Drop>(answer: Result<T, Refused>) {
+    match answer {
+        Ok(_) => say(b"accepted\n"),
+        Err(r) => refused(r),
+    }
+}
+
+// What a call answers, after a word for it.
+pub fn counted(before: &[u8], answer: Result<usize, Refused>) {
+    match answer {
+        Ok(n) => {
+            number(before, n);
+            say(b"\n");
+        }
+        Err(r) => refused(r),
     }
 }
 
 pub fn checked(what: &[u8], image: &[u8]) {
     title(b"check of ", what);
-    verdict(disk::check(image));
+    accepted(disk::check(image));
 }
 
 pub fn released(what: &[u8], image: &[u8]) {
     title(b"release check of ", what);
-    verdict(disk::check_release(image));
+    accepted(disk::check_release(image));
 }
 
-fn files_and_free(answer: Answer) {
+fn files_and_free(answer: Result<Listed, Refused>) {
     match answer {
-        Answer::Done(n, free) => {
-            number(b"files ", n);
-            number(b", free ", free);
+        Ok(found) => {
+            number(b"files ", found.files);
+            number(b", free ", found.free);
             say(b"\n");
         }
-        Answer::Err(r) => refused(r),
+        Err(r) => refused(r),
     }
 }
 
@@ -98,19 +111,13 @@ pub fn listed(what: &[u8], image: &[u8], buf: &mut [u8])
 
 pub fn started(what: &[u8], image: &[u8], name: &[u8]) {
     title(b"start of ", what);
-    match files::start(image, name) {
-        Answer::Done(address, _) => {
-            number(b"", address);
-            say(b"\n");
-        }
-        Answer::Err(r) => refused(r),
-    }
+    counted(b"", files::start(image, name));
 }
 
 // Four bytes of the body's front, and at 501, where the second sector's bytes begin, seven.
-fn length_and_body(answer: Answer, buf: &[u8]) {
+fn length_and_body(answer: Result<usize, Refused>, buf: &[u8]) {
     match answer {
-        Answer::Done(len, _) => {
+        Ok(len) => {
             number(b"length ", len);
             say(b", from 0 ");
             say(buffers::part_at(buf, 0, 4));
@@ -118,7 +125,7 @@ fn length_and_body(answer: Answer, buf: &[u8]) {
             say(buffers::part_at(buf, 501, 7));
             say(b"\n");
         }
-        Answer::Err(r) => refused(r),
+        Err(r) => refused(r),
     }
 }
 
@@ -126,10 +133,7 @@ fn length_and_body(answer: Answer, buf: &[u8]) {
 pub fn listed_at(list: &[u16], k: usize) -> usize
     ensures { result ≡ get_or list.now k 0 }
 {
-    if k < list.len() {
-        return list[k] as usize;
-    }
-    0
+    usize::from(list.get(k).copied().unwrap_or(0))
 }
 
 pub fn three(before: &[u8], one: usize, two: usize, three: usize) {
@@ -140,9 +144,9 @@ pub fn three(before: &[u8], one: usize, two: usize, three: usize) {
 }
 
 // How many sectors a change names, and the front of its list as it then is.
-pub fn print_change(answer: Answer, list: &[u16]) {
+pub fn print_change(answer: Result<usize, Refused>, list: &[u16]) {
     match answer {
-        Answer::Done(n, _) => {
+        Ok(n) => {
             number(b"sectors ", n);
             three(
                 b", list ",
@@ -151,7 +155,7 @@ pub fn print_change(answer: Answer, list: &[u16]) {
                 listed_at(list, 2),
             );
         }
-        Answer::Err(r) => refused(r),
+        Err(r) => refused(r),
     }
 }
 

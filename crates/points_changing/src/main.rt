@@ -1,6 +1,8 @@
 // Points of document 01: erase, rename and the marks, and what a save takes of an erased file.
 #![tactic(auto)]
 
+use changes::Marking;
+
 fn saved(what: &[u8], image: &mut [u8], name: &[u8], body: &[u8], list: &mut [u16]) {
     points::title(b"save of ", what);
     let answer = saves::save(image, 19, name, 29, 32768, b"", b"", body, list);
@@ -22,25 +24,25 @@ fn renamed(image: &mut [u8], name: &[u8], new: &[u8], list: &mut [u16]) {
 
 fn protected(image: &mut [u8], name: &[u8], list: &mut [u16]) {
     points::title(b"protect of ", name);
-    let answer = changes::protect(image, name, list);
+    let answer = changes::set_mark(image, name, Marking::Protect, list);
     points::print_change(answer, list);
 }
 
 fn released(image: &mut [u8], name: &[u8], list: &mut [u16]) {
     points::title(b"release of ", name);
-    let answer = changes::release(image, name, list);
+    let answer = changes::set_mark(image, name, Marking::Release, list);
     points::print_change(answer, list);
 }
 
 fn hidden(image: &mut [u8], name: &[u8], list: &mut [u16]) {
     points::title(b"hide of ", name);
-    let answer = changes::hide(image, name, list);
+    let answer = changes::set_mark(image, name, Marking::Hide, list);
     points::print_change(answer, list);
 }
 
 fn shown(image: &mut [u8], name: &[u8], list: &mut [u16]) {
     points::title(b"show of ", name);
-    let answer = changes::show(image, name, list);
+    let answer = changes::set_mark(image, name, Marking::Show, list);
     points::print_change(answer, list);
 }
 
@@ -98,11 +100,9 @@ fn used_again(image: &mut [u8], body: &[u8], list: &mut [u16]) {
 
 // A file in every slot that is free, the names AA to HJ.
 fn fill(image: &mut [u8], list: &mut [u16]) {
-    let mut i: u8 = 0;
-    while i < 80 {
-        let name = [65 + i / 10, 65 + i % 10];
-        saves::save(image, 16, &name, 0, 32768, b"", b"", b"", list);
-        i += 1;
+    for i in 0..80 {
+        let name = [b'A' + i / 10, b'A' + i % 10];
+        let _ = saves::save(image, 16, &name, 0, 32768, b"", b"", b"", list);
     }
 }
 

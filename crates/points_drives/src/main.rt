@@ -5,11 +5,11 @@ fn raw<'a>(one: &'a [u8], two: &'a [u8], drive: usize, track: usize, sector: usi
     points::number(b"drive ", drive);
     points::number(b" track ", track);
     points::number(b" sector ", sector);
-    points::number(
-        b": number ",
-        drives::raw_refusal(one, two, drive, track, sector),
-    );
-    let part = drives::raw_sector(one, two, drive, track, sector);
+    let (number, part): (usize, &[u8]) = match drives::raw_sector(one, two, drive, track, sector) {
+        Ok(part) => (0, part),
+        Err(reason) => (reason.number(), &[]),
+    };
+    points::number(b": number ", number);
     points::number(b", bytes ", part.len());
     points::number(b", the first ", buffers::num_at(part, 0));
     points::say(b"\n");

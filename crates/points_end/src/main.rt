@@ -4,8 +4,6 @@
 
 ghost use Rattle.std.specs.Prelude.{◌<◌};
 
-use geometry::Address;
-
 fn put(image: &mut [u8], at: usize, b: u8) {
     let one = [b];
     buffers::copy_into(image, at, &one);
@@ -35,35 +33,23 @@ fn file(image: &mut [u8], i: usize)
     let mut map = [0u8; 195];
     maps::set_bit(&mut map, 100 + i);
     buffers::copy_into(image, at + 15, &map);
-    match geometry::address_of(100 + i) {
-        Address::Sector(track, sector) => {
-            put(image, at + 13, (track % 256) as u8);
-            put(image, at + 14, (sector % 256) as u8);
-        }
-        Address::NoBit => {}
+    if let Some(first) = geometry::address_of(100 + i) {
+        put(image, at + 13, points::low(first.track));
+        put(image, at + 14, points::low(first.sector));
     }
 }
 
 // Such files from one slot up to another.
 fn files(image: &mut [u8], from: usize, to: usize) {
-    let mut i = from;
-    while i < 80 {
-        if to <= i {
-            return;
-        }
+    for i in from..to.min(80) {
         file(image, i);
-        i += 1;
     }
 }
 
 // Kind 63, which is not known, and a name in every slot.
 fn rubbish_everywhere(image: &mut [u8]) {
-    let mut i: usize = 0;
-    while i < 80 {
-        let at = directory::slot_place(i);
-        put(image, at, 63);
-        put(image, at + 1, b'-');
-        i += 1;
+    for i in 0..80 {
+        rubbish(image, directory::slot_place(i));
     }
 }
 

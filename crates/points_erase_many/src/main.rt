@@ -4,9 +4,6 @@
 
 ghost use Rattle.std.specs.Prelude.{◌<◌};
 
-use geometry::Address;
-use refusals::Answer;
-
 fn put(image: &mut [u8], at: usize, b: u8) {
     let one = [b];
     buffers::copy_into(image, at, &one);
@@ -36,25 +33,17 @@ fn file(image: &mut [u8], i: usize, bit: usize)
     let mut map = [0u8; 195];
     maps::set_bit(&mut map, bit);
     buffers::copy_into(image, at + 15, &map);
-    match geometry::address_of(bit) {
-        Address::Sector(track, sector) => {
-            put(image, at + 13, (track % 256) as u8);
-            put(image, at + 14, (sector % 256) as u8);
-        }
-        Address::NoBit => {}
+    if let Some(first) = geometry::address_of(bit) {
+        put(image, at + 13, points::low(first.track));
+        put(image, at + 14, points::low(first.sector));
     }
 }
 
 // Such files in all slots before slot `to`, at the map bits from 350 on, and their names end to end.
 fn files(image: &mut [u8], names: &mut [u8], to: usize) {
-    let mut i: usize = 0;
-    while i < 778 {
-        if to <= i {
-            return;
-        }
+    for i in 0..to.min(778) {
         file(image, i, 350 + i);
         buffers::copy_into(names, 10 * i, slots::name_of(directory::slot_at(image, i)));
-        i += 1;
     }
 }
 
@@ -221,13 +210,7 @@ fn most() {
 fn treed(what: &[u8], image: &[u8]) {
     let mut slots = [0u16; 4];
     points::title(b"tree of ", what);
-    match tree_lists::list_tree(image, b"", &mut slots) {
-        Answer::Done(n, _) => {
-            points::number(b"slots ", n);
-            points::say(b"\n");
-        }
-        Answer::Err(r) => points::refused(r),
-    }
+    points::counted(b"slots ", tree_lists::list_tree(image, b"", &mut slots));
 }
 
 // The first of the sectors written, and the second not.

@@ -1,50 +1,42 @@
 // Points of document 02's M-105: names that differ only in a to z against A to Z are the same name.
 #![tactic(auto)]
 
-use readers::OpenAnswer;
-use refusals::Answer;
-
-fn changed(answer: Answer) {
-    match answer {
-        Answer::Done(_, _) => points::say(b"accepted\n"),
-        Answer::Err(r) => points::refused(r),
-    }
-}
+use changes::Marking;
 
 fn saved(image: &mut [u8], name: &[u8], list: &mut [u16]) {
     points::title(b"save of ", name);
-    changed(saves::save(image, 19, name, 29, 32768, b"", b"", b"LA LA", list));
+    points::accepted(saves::save(image, 19, name, 29, 32768, b"", b"", b"LA LA", list));
 }
 
 fn renamed(image: &mut [u8], name: &[u8], new: &[u8], list: &mut [u16]) {
     points::title(b"rename of ", name);
     points::title(b"to ", new);
-    changed(changes::rename(image, name, new, list));
+    points::accepted(changes::rename(image, name, new, list));
 }
 
 fn erased(image: &mut [u8], name: &[u8], list: &mut [u16]) {
     points::title(b"erase of ", name);
-    changed(changes::erase(image, name, list));
+    points::accepted(changes::erase(image, name, list));
 }
 
 fn hidden(image: &mut [u8], name: &[u8], list: &mut [u16]) {
     points::title(b"hide of ", name);
-    changed(changes::hide(image, name, list));
+    points::accepted(changes::set_mark(image, name, Marking::Hide, list));
 }
 
 fn shown(image: &mut [u8], name: &[u8], list: &mut [u16]) {
     points::title(b"show of ", name);
-    changed(changes::show(image, name, list));
+    points::accepted(changes::set_mark(image, name, Marking::Show, list));
 }
 
 fn protected(image: &mut [u8], name: &[u8], list: &mut [u16]) {
     points::title(b"protect of ", name);
-    changed(changes::protect(image, name, list));
+    points::accepted(changes::set_mark(image, name, Marking::Protect, list));
 }
 
 fn released(image: &mut [u8], name: &[u8], list: &mut [u16]) {
     points::title(b"release of ", name);
-    changed(changes::release(image, name, list));
+    points::accepted(changes::set_mark(image, name, Marking::Release, list));
 }
 
 fn read(image: &[u8], name: &[u8]) {
@@ -55,11 +47,11 @@ fn read(image: &[u8], name: &[u8]) {
 fn opened(image: &[u8], name: &[u8]) {
     points::title(b"opening of ", name);
     match readers::begin(image, name) {
-        OpenAnswer::At(p) => {
+        Ok(p) => {
             points::number(b"left ", p.left);
             points::say(b"\n");
         }
-        OpenAnswer::Err(r) => points::refused(r),
+        Err(r) => points::refused(r),
     }
 }
 

@@ -1,18 +1,18 @@
 // Points of document 02's M-100: a file opened by name, its body piece by piece, and readers that no call made.
 #![tactic(auto)]
 
-use readers::{OpenAnswer, Place};
+use readers::Place;
 
 fn opened(what: &[u8], image: &[u8], name: &[u8]) {
     points::title(b"opening of ", what);
     match readers::begin(image, name) {
-        OpenAnswer::At(p) => {
+        Ok(p) => {
             points::number(b"sector ", p.sector);
             points::number(b", offset ", p.offset);
             points::number(b", left ", p.left);
             points::say(b"\n");
         }
-        OpenAnswer::Err(r) => points::refused(r),
+        Err(r) => points::refused(r),
     }
 }
 

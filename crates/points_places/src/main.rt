@@ -1,8 +1,6 @@
 // Points of document 01: the places of sectors and map bits, and the numbers that a slot holds.
 #![tactic(auto)]
 
-use geometry::{Address, MapBit, Spot};
-
 fn sector_line(track: usize, sector: usize) {
     points::number(b"track ", track);
     points::number(b" sector ", sector);
@@ -12,12 +10,12 @@ fn sector_line(track: usize, sector: usize) {
         points::say(b": not data");
     }
     match geometry::bit_of(track, sector) {
-        MapBit::Bit(bit) => points::number(b", bit ", bit),
-        MapBit::NotData => points::say(b", no bit"),
+        Some(bit) => points::number(b", bit ", bit),
+        None => points::say(b", no bit"),
     }
     match geometry::place(track, sector) {
-        Spot::At(place) => points::number(b", place ", place),
-        Spot::NoSector => points::say(b", no place"),
+        Some(place) => points::number(b", place ", place),
+        None => points::say(b", no place"),
     }
     points::say(b"\n");
 }
@@ -25,16 +23,16 @@ fn sector_line(track: usize, sector: usize) {
 fn bit_line(bit: usize) {
     points::number(b"bit ", bit);
     match geometry::address_of(bit) {
-        Address::Sector(track, sector) => {
-            points::number(b": track ", track);
-            points::number(b" sector ", sector);
+        Some(a) => {
+            points::number(b": track ", a.track);
+            points::number(b" sector ", a.sector);
         }
-        Address::NoBit => points::say(b": no sector"),
+        None => points::say(b": no sector"),
     }
     points::number(b", place ", geometry::bit_place(bit));
     match geometry::place_of_bit(bit) {
-        Spot::At(place) => points::number(b", in the table ", place),
-        Spot::NoSector => points::say(b", not in the table"),
+        Some(place) => points::number(b", in the table ", place),
+        None => points::say(b", not in the table"),
     }
     points::say(b"\n");
 }

@@ -2,47 +2,32 @@
 #![tactic(auto)]
 
 use geometry::Address;
-use refusals::Answer;
+use refusals::Refused;
 
-fn answered(what: &[u8], answer: Answer) {
-    points::say(what);
-    match answer {
-        Answer::Done(disks, _) => {
-            points::number(b": disks ", disks);
-            points::say(b"\n");
-        }
-        Answer::Err(r) => {
-            points::say(b": ");
-            points::refused(r);
-        }
-    }
+fn answered(what: &[u8], answer: Result<usize, Refused>) {
+    points::title(b"", what);
+    points::counted(b"disks ", answer);
 }
 
 // A chain of so many sectors, from map bit 0 on.
 fn chain(image: &mut [u8], count: usize) {
-    let mut bit: usize = 0;
-    while bit < 1560 {
-        let at = geometry::bit_place(bit);
-        bit += 1;
-        if bit == count {
-            points::link(image, at, 0, 0);
+    for bit in 0..1560 {
+        let next = if bit + 1 == count {
+            None
         } else {
-            match geometry::address_of(bit) {
-                Address::Sector(track, sector) => points::link(image, at, track, sector),
-                Address::NoBit => points::link(image, at, 0, 0),
-            }
-        }
+            geometry::address_of(bit + 1)
+        };
+        let to = next.unwrap_or(Address {
+            track: 0,
+            sector: 0,
+        });
+        points::link(image, geometry::bit_place(bit), to);
     }
 }
 
 fn mark_first(map: &mut [u8], count: usize) {
-    let mut bit: usize = 0;
-    while bit < 1560 {
-        let b = bit;
-        bit += 1;
-        if b < count {
-            maps::set_bit(map, b);
-        }
+    for bit in 0..count.min(1560) {
+        maps::set_bit(map, bit);
     }
 }
 
@@ -61,7 +46,7 @@ fn one_file(image: &mut [u8], count: usize) {
 }
 
 fn number_in(bytes: &[u8], k: usize) -> usize {
-    let at = buffers::lesser(k, 123) * 4;
+    let at = k.min(123) * 4;
     let low = buffers::num_at(bytes, at) + 256 * buffers::num_at(bytes, at + 1);
     low + 65536 * (buffers::num_at(bytes, at + 2) + 256 * buffers::num_at(bytes, at + 3))
 }
@@ -70,14 +55,12 @@ fn number_in(bytes: &[u8], k: usize) -> usize {
 fn shown(what: &[u8], bytes: &[u8]) {
     points::say(what);
     points::say(b":");
-    let mut k: usize = 0;
-    while k < 124 {
+    for k in 0..124 {
         let n = number_in(bytes, k);
         if n != 0 {
             points::number(b" ", k);
             points::number(b"=", n);
         }
-        k += 1;
     }
     points::say(b"\n");
 }

@@ -1,8 +1,8 @@
 // Points of document 02's M-107: files of kinds 1 to 4, whose header has their length and their start.
 #![tactic(auto)]
 
-use readers::OpenAnswer;
-use refusals::Answer;
+use changes::Marking;
+use refusals::Refused;
 
 mod disks; // the disk that is tried
 
@@ -21,7 +21,7 @@ fn read(what: &[u8], image: &[u8], name: &[u8]) {
 fn played(what: &[u8], image: &[u8], name: &[u8]) {
     points::title(b"opening of ", what);
     match readers::begin(image, name) {
-        OpenAnswer::At(p) => {
+        Ok(p) => {
             points::number(b"left ", p.left);
             let mut buf = [b'.'; 4];
             let piece = readers::resume(image, p, &mut buf);
@@ -30,7 +30,7 @@ fn played(what: &[u8], image: &[u8], name: &[u8]) {
             points::say(&buf);
             points::say(b"\n");
         }
-        OpenAnswer::Err(r) => points::refused(r),
+        Err(r) => points::refused(r),
     }
 }
 
@@ -151,14 +151,8 @@ fn put_back(image: &mut [u8]) {
     points::checked(b"the disk as it was", image);
 }
 
-fn told(answer: Answer) {
-    match answer {
-        Answer::Done(n, _) => {
-            points::number(b"sectors ", n);
-            points::say(b"\n");
-        }
-        Answer::Err(r) => points::refused(r),
-    }
+fn told(answer: Result<usize, Refused>) {
+    points::counted(b"sectors ", answer);
 }
 
 fn saved(what: &[u8], image: &mut [u8], kind: usize) {
@@ -184,9 +178,9 @@ fn renamed(image: &mut [u8]) {
 fn marked(image: &mut [u8]) {
     let mut list = [0u16; 1];
     points::title(b"hide of ", b"JET SET");
-    told(changes::hide(image, b"JET SET", &mut list));
+    told(changes::set_mark(image, b"JET SET", Marking::Hide, &mut list));
     points::title(b"protect of ", b"JET SET");
-    told(changes::protect(image, b"JET SET", &mut list));
+    told(changes::set_mark(image, b"JET SET", Marking::Protect, &mut list));
 }
 
 // A new name and the marks leave the body and the start.

@@ -4,9 +4,6 @@
 
 ghost use Rattle.std.specs.Prelude.{◌<◌};
 
-use geometry::Address;
-use refusals::Answer;
-
 fn put(image: &mut [u8], at: usize, b: u8) {
     let one = [b];
     buffers::copy_into(image, at, &one);
@@ -36,24 +33,16 @@ fn file(image: &mut [u8], i: usize, bit: usize)
     let mut map = [0u8; 195];
     maps::set_bit(&mut map, bit);
     buffers::copy_into(image, at + 15, &map);
-    match geometry::address_of(bit) {
-        Address::Sector(track, sector) => {
-            put(image, at + 13, (track % 256) as u8);
-            put(image, at + 14, (sector % 256) as u8);
-        }
-        Address::NoBit => {}
+    if let Some(first) = geometry::address_of(bit) {
+        put(image, at + 13, points::low(first.track));
+        put(image, at + 14, points::low(first.sector));
     }
 }
 
 // Such files in all slots before slot `to`, at the map bits from 350 on.
 fn files(image: &mut [u8], to: usize) {
-    let mut i: usize = 0;
-    while i < 778 {
-        if to <= i {
-            return;
-        }
+    for i in 0..to.min(778) {
         file(image, i, 350 + i);
-        i += 1;
     }
 }
 
@@ -97,13 +86,13 @@ fn read(what: &[u8], image: &[u8], name: &[u8]) {
     let mut body = [0u8; 4];
     points::title(b"read of ", what);
     match files::read(image, name, &mut body) {
-        Answer::Done(len, _) => {
+        Ok(len) => {
             points::number(b"length ", len);
             points::say(b", bytes ");
             points::say(&body);
             points::say(b"\n");
         }
-        Answer::Err(r) => points::refused(r),
+        Err(r) => points::refused(r),
     }
 }
 

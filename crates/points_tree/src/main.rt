@@ -4,8 +4,6 @@
 
 ghost use Rattle.std.specs.Prelude.{◌<◌};
 
-use refusals::Answer;
-
 fn put(image: &mut [u8], at: usize, b: u8) {
     let one = [b];
     buffers::copy_into(image, at, &one);
@@ -33,7 +31,7 @@ fn file(image: &mut [u8], parent: u8) {
 fn treed_into(what: &[u8], image: &[u8], name: &[u8], list: &mut [u16]) {
     points::title(b"tree of ", what);
     match tree_lists::list_tree(image, name, list) {
-        Answer::Done(n, _) => {
+        Ok(n) => {
             points::number(b"slots ", n);
             points::three(
                 b", list ",
@@ -42,7 +40,7 @@ fn treed_into(what: &[u8], image: &[u8], name: &[u8], list: &mut [u16]) {
                 points::listed_at(list, 2),
             );
         }
-        Answer::Err(r) => points::refused(r),
+        Err(r) => points::refused(r),
     }
 }
 
@@ -162,10 +160,8 @@ fn code_0(image: &mut [u8]) {
 
 // Directories inside directories, each in the slot behind the one that it is in; slot 1's last byte gives nine tracks more.
 fn nested(image: &mut [u8]) {
-    let mut i: usize = 0;
-    while i < 255 {
-        directory_slot(image, i, (i + 1) as u8, i as u8);
-        i += 1;
+    for i in 0..255 {
+        directory_slot(image, usize::from(i), i + 1, i);
     }
     put(image, 255, 9);
 }
