@@ -16,5 +16,5 @@ returns-then-bit-lt-DATA_SECTORS c =
     let b = c.args.bit in
     rw (place_or_end_lem b c.if-bit-lt-DATA_SECTORS.true, number-second b c.if-bit-lt760.false c.if-bit-lt-DATA_SECTORS.true)
 
-pub returns : goal.returns
-returns c = sym (place_end _ c.if-bit-lt-DATA_SECTORS.false)
+pub returns-else-bit-lt-DATA_SECTORS : goal.returns-else-bit-lt-DATA_SECTORS
+returns-else-bit-lt-DATA_SECTORS c = sym (place_end _ c.if-bit-lt-DATA_SECTORS.false)
