@@ -1,6 +1,5 @@
 -- `geometry::bit_of` meets its contract: a number below 1,560 says that it is a data sector.
 -- Assumes nothing.
-use borrow.Author.Rules.{rules}
 use Rattle.geometry.specs.Disk.{map_bit_of}
 use Rattle.geometry.proofs.Laws.{bit_data, bit_not_data}
 use Rattle.geometry.proofs.bit_of.Goals as goal

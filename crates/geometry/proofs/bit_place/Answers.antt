@@ -2,7 +2,6 @@
 -- Assumes nothing.
 use mathlib.Core.Path.{sym}
 use native.Mathlib.Omega.{arith}
-use borrow.Author.Rules.{rules}
 use Rattle.geometry.proofs.Laws.{number-first, number-second, place_or_end_lem, place_end}
 use Rattle.geometry.proofs.bit_place.Goals as goal
 

@@ -3,7 +3,6 @@
 use mathlib.Core.Path.{◌≡◌, ◌∙◌, sym}
 use mathlib.Core.Bool.{true, false}
 use native.Mathlib.Omega.{arith}
-use borrow.Author.Rules.{rules}
 use Rattle.geometry.specs.Disk.{is_data}
 use Rattle.geometry.proofs.Tests.{DataBounds, data_bounds}
 use Rattle.geometry.proofs.Laws.{data_or_end, none_or_end}
