@@ -1,16 +1,15 @@
 -- `slots::is_inside` meets its contract: no bit from 1 on and below `b` is set.
-use Prim.Native.Nat.{ℕ, ◌-◌, ◌*◌, ◌≤◌, min}
-use mathlib.Core.Path.{◌≡◌, sym, ap, ◌∙◌}
+use Prim.Native.Nat.{ℕ, ◌*◌}
+use mathlib.Core.Path.{sym, ap, ◌∙◌}
 use native.Mathlib.Omega.{arith}
-use Rattle.slots.proofs.Tracks.{NoneTo, none_first, none_more, none-word, inside_not, inside_met}
-use borrow.Author.Rules.{rules}
+use Rattle.slots.proofs.Tracks.{none_first, none_more, none-word, inside_not, inside_met}
 use Rattle.slots.proofs.is_inside.Goals as goal
 
 pub overflow_mul-end : goal.overflow_mul-end
-overflow_mul-end c = omega (arith, c.lesser-end.ensures)
+overflow_mul-end c = omega (arith, c.min-end.ensures)
 
 pub loop-b-init : goal.loop-b-init
-loop-b-init c = let p = none_first _ _ c.past_first-b.ensures in (p.0, ap (λ (k : ℕ). 10 * k) c.lesser-end.ensures, p.1)
+loop-b-init c = let p = none_first _ _ c.past_first-b.ensures in (p.0, ap (λ (k : ℕ). 10 * k) c.min-end.ensures, p.1)
 
 pub overflow_add-b : goal.overflow_add-b
 overflow_add-b c = omega (arith, c.loop-b-test.true, c.loop-b.invariant.1)
