@@ -7,6 +7,9 @@ use mathlib.Core.Logic.{◌⊎◌, inl, inr, ⊎_elim}
 use native.Mathlib.Nat.{add-zero, add-suc, eq-or-lt_of_le, le_of_suc-le-suc, not-suc-le-zero}
 use native.Mathlib.Numerals.{add-one}
 use native.Mathlib.Omega.{arith}
+use Rattle.std.proofs.lemmas.Simd.{put_chunk_is, length-put_chunk, get_or-put_chunk_at, get_or-put_chunk_below, get_or-put_chunk_above}
+use lib.Lanes.{put_chunk}
+use borrow.Rule.Slice.PartMut.{put_mid}
 use borrow.Author.Tests.{ltb-true, ltb-false, lt-ltb, le-ltb, le-leb, lt-leb}
 use lib.Dec.{leb, ltb}
 use lib.ListN.{length, get_or, take, drop, set, length-append, length-take, length-drop, length-set, get_or-append, get_or-eq_default, drop_of_length-le}
@@ -118,6 +121,19 @@ unfolding part
 part_cut a n m d h k =
     take_all n (drop a d) (omega (arith, length-drop a d)) ∙ sym (take_all m (drop a d) (omega (arith, length-drop a d)))
 
+-- a part whose place and length are cut to the list
+pub part-clipped : (a n k m : ℕ) (d : List ℕ) → k ≡ min a (length d) → m ≡ min n (length d - k) → part k m d ≡ part a n d
+part-clipped a n k m d p q = ⊎_elim there past (below_or_not a (length d))
+  where
+    there : a < length d → part k m d ≡ part a n d
+    there h =
+        let e : k ≡ a = omega arith in
+        ⊎_elim (λ (l : n < length d - a). let f : m ≡ n = omega arith in rw (e, f)) (λ (l : length d - a ≤ n). rw e (part_cut a m n d (omega arith) (omega arith)))
+        (below_or_not n (length d - a))
+
+    past : length d ≤ a → part k m d ≡ part a n d
+    past h = part_none k m d (omega arith) ∙ sym (part_none a n d h)
+
 -- ---- what is put
 
 abbrev inside : ℕ → ℕ → List ℕ → Bool
@@ -223,6 +239,15 @@ put-cut d a x j h m =
     (λ i k l. put_in d a (take j x) i (omega arith) l ∙ get_or-take j x i 0 (omega arith))
     (λ k l. put-before d a (take j x) k l) (λ k l n. absurd (omega arith))
 
+-- what is copied over a part of a list
+pub put_copied : (d : List ℕ) (a k : ℕ) (x y : List ℕ) → k ≡ min (length x) (length d - a) → a < length d → y ≡ take k x → put_mid a k d y ≡ put d a x
+put_copied d a k x y q h e =
+    let l : length y ≡ k = ap length e ∙ omega (arith, length-take k x) in
+    ap (λ (n : ℕ). put_mid a n d y) (sym l) ∙ sym (put_chunk_is a d y (omega arith))
+    ∙ put_is d a x (put_chunk a d y) (length-put_chunk a d y)
+    (λ i m n. get_or-put_chunk_at a d y i 0 (omega arith) (omega arith) ∙ ap (λ (z : List ℕ). get_or z i 0) e ∙ get_or-take k x i 0 (omega arith))
+    (λ i m. get_or-put_chunk_below a d y i 0 m) (λ i m n. get_or-put_chunk_above a d y i 0 (omega arith))
+
 -- one run put after another
 pub put-append : (d : List ℕ) (a : ℕ) (x y : List ℕ) → put (put d a x) (a + length x) y ≡ put d a (x ++ y)
 put-append d a x y =
@@ -291,6 +316,16 @@ word_in zero a n m j h = refl
 word_in (suc k) a n m j h =
     let e : 0 + j ≡ j = omega arith in
     rw (e, part_at a n m j (omega arith), word_in k a n m (suc j) (omega arith))
+
+-- eight bytes of a part, one after the other, as a number
+pub word_chunk : (m : List ℕ) (i : ℕ) (x : List ℕ) (v : ℕ) → 8 ≤ length (part i 8 m) → x ≡ take 8 (part i 8 m) → v ≡ word 8 x 0 0 → v ≡ word_or m i
+word_chunk m i x v h e p =
+    let l : i + 8 ≤ length m = omega (arith, length_part i 8 m) in
+    let s : x ≡ part i 8 m = e ∙ take_all 8 (part i 8 m) (omega (arith, length_part i 8 m)) in
+    p ∙ ap (λ (z : List ℕ). word 8 z 0 0) s ∙ word_in 8 i 8 m 0 (omega arith) ∙ sym (word-there m i l)
+
+pub word_short : (m : List ℕ) (i : ℕ) → length (part i 8 m) < 8 → 0 ≡ word_or m i
+word_short m i h = sym (word_not m i (omega (arith, length_part i 8 m)))
 
 pub word-part : (m : List ℕ) (a n : ℕ) → n ≡ 8 → a + 8 ≤ length m → word_or (part a n m) 0 ≡ word 8 m a 0
 word-part m a n e h = word-there (part a n m) 0 (omega (arith, part-long a n m (omega arith))) ∙ word_in 8 a n m 0 (omega arith)
