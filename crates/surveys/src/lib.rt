@@ -4,10 +4,11 @@
 
 ghost use Rattle.std.specs.Prelude.{◌≡◌, ◌≤◌, ◌<◌};
 ghost use Rattle.maps.specs.Bits.{clear_map, join};
+ghost use Rattle.refusals.specs.Order.{rows};
 ghost use Rattle.refusals.specs.Answers.{reply_of};
 ghost use Rattle.names.specs.Name.{same_name};
-ghost use Rattle.slots.specs.Slot.{name_of};
-ghost use Rattle.slots.specs.Rows.{own_reply};
+ghost use Rattle.slots.specs.Slot.{name_of, slot_fields};
+ghost use Rattle.slots.specs.Rows.{own_reply, release_rows};
 ghost use Rattle.directory.specs.Directory.{tracks_of, slots_read, directory};
 ghost use Rattle.surveys.specs.Survey.{earlier, survey_at, survey_by, counted, free_of};
 ghost use Rattle.surveys.specs.Filter.{key_bit, key_step, may_contain, inserted, Filtered};
@@ -112,6 +113,16 @@ fn own_at(s: &[u8], slot: usize, tracks: usize) -> Result<(), Refused>
     slots::own_rows(s, slot, slots::data_count(tracks), inside)
 }
 
+// Row 22 at a live slot, where `release` asks for it.
+fn waste_at(s: &[u8], slot: usize, release: bool) -> Result<(), Refused>
+    ensures { reply_of result ≡ rows slot (release_rows release (slot_fields s.now)) }
+{
+    if release && slots::is_wasteful(s) {
+        return refusals::refuse(Reason::WasteSectors, slot);
+    }
+    Ok(())
+}
+
 // Rows 2 to 9 at the live slot `i`, whose bytes are `s`, and 22 after 7 where `release` asks for it; `used` is the used map
 // of the slots before it, and `filter` has the bits of their names.
 fn live_rows(
@@ -128,9 +139,7 @@ fn live_rows(
 {
     let slot = i + 1;
     own_at(s, slot, tracks)?;
-    if release && slots::is_wasteful(s) {
-        return refusals::refuse(Reason::WasteSectors, slot);
-    }
+    waste_at(s, slot, release)?;
     if maps::shares(used, slots::map_of(s)) {
         return refusals::refuse(Reason::SectorShared, slot);
     }
