@@ -31,14 +31,8 @@ returns-in_err-chain_pass_rows c =
     let a = c.loop-seen in
     let e = err_from_is_err_and c.from_residual.result c.from_residual.ensures.1 in rw (e.1, e.2) (sym (a.invariant.1 ∙ scan_stop slots a.i _ _ next (sym (c.in_err-chain_pass_rows.ensures ∙ chain_met _ _ _ live))))
 
-pub loop-seen-smaller-then-is_live : goal.loop-seen-smaller-then-is_live
-loop-seen-smaller-then-is_live c =
-    let more : c.loop-seen.i < slots_read c.args.image.now = let a = c.loop-seen in among_read _ a.i a.invariant.0 (omega (arith, a.invariant.2, c.requires, c.loop-seen-test.true)) in
-    let next : c.loop-seen.i < slots = omega (arith, more, read-most c.args.image.now) in
-    omega (arith, next)
-
-pub loop-seen-preserved-then-is_live : goal.loop-seen-preserved-then-is_live
-loop-seen-preserved-then-is_live c =
+pub loop-seen-preserved-in-Continue-1 : goal.loop-seen-preserved-in-Continue-1
+loop-seen-preserved-in-Continue-1 c =
     let more : c.loop-seen.i < slots_read c.args.image.now = let a = c.loop-seen in among_read _ a.i a.invariant.0 (omega (arith, a.invariant.2, c.requires, c.loop-seen-test.true)) in
     let next : c.loop-seen.i < slots = omega (arith, more, read-most c.args.image.now) in
     let live : directory c.args.image.now c.loop-seen.i ≡ some c.slot_at-s.result.now = met_live _ _ c.slot_at-s.ensures c.is_live.ensures more c.if-is_live.true in
