@@ -1,6 +1,8 @@
 -- What the passes keep: a table of the directories by their codes, and what goes by it alone.
 use Rattle.std.specs.Prelude.{ℕ, zero, suc, ◌-◌, ◌≡◌, Bool, false, not, cond, ◌&&◌, List, [], ◌∷◌, Result, eqb, length, get_or, IfOk}
+use Rattle.std.proofs.Math.Option.{none}
 use Rattle.buffers.specs.Bytes.{any}
+use Rattle.maps.specs.Bits.{has}
 use Rattle.refusals.specs.Order.{Row, ◌when◌, scan}
 use Rattle.refusals.specs.Answers.{reply_of}
 use Rattle.refusals.specs.declared.Refused.{Refused}
@@ -54,6 +56,10 @@ pub record Tables (d : List ℕ) (r : Result Codes Refused) : Type 0 where
 pub record Nests (d : List ℕ) (r : Result ℕ Refused) : Type 0 where
   pub reply : reply_of r ≡ tree_reply (directory d)
   pub number : IfOk r (λ (n : ℕ). n ≡ directories (directory d))
+
+-- the live slots that are not erased yet: a map has a bit for each that is
+unfoldable pub not_erased : Directory → List ℕ → Directory
+not_erased v m i = cond (has m i) none (v i)
 
 -- slot j is live, not slot i, and in the directory with the code
 unfoldable pub in_other : Directory → ℕ → ℕ → ℕ → Bool
