@@ -310,7 +310,7 @@ unfolding word_or
 word_not m i h = rw (lt-leb (i + 8) (length m) h)
 
 -- the bytes of a part, as a number
-word_in : (k a n : ℕ) (m : List ℕ) (j : ℕ) → j + k ≤ n → word k (part a n m) 0 j ≡ word k m a j
+pub word_in : (k a n : ℕ) (m : List ℕ) (j : ℕ) → j + k ≤ n → word k (part a n m) 0 j ≡ word k m a j
 unfolding word
 word_in zero a n m j h = refl
 word_in (suc k) a n m j h =
