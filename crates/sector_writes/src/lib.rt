@@ -1,9 +1,9 @@
 // The data sectors of a file: the header in front of its body, the link to a sector, and a sector with its payload and its link.
 #![tactic(auto)]
 
-ghost use Rattle.std.specs.Prelude.{◌≡◌, ◌++◌, ◌∷◌, [], ◌≤◌};
+ghost use Rattle.std.specs.Prelude.{◌≡◌, ◌++◌, ◌∷◌, [], ◌≤◌, ◌<◌};
 ghost use Rattle.buffers.specs.Bytes.{put};
-ghost use Rattle.geometry.specs.Disk.{place_or_end};
+ghost use Rattle.geometry.specs.Disk.{bit_number, place_or_end};
 ghost use Rattle.plans.specs.Saving.{sector_bytes};
 ghost use Rattle.sector_writes.specs.Sector.{header, bytes_from, link_to_bit};
 
@@ -48,6 +48,14 @@ pub fn link_of(bit: usize) -> Link
             sector: 0,
         },
     }
+}
+
+// The number of the sector of a map bit.
+pub fn sector_number(bit: usize) -> u16
+    requires { bit < 1560 }
+    ensures { result ≡ bit_number bit }
+{
+    (geometry::bit_place(bit) / 512) as u16
 }
 
 // Puts `n` bytes of a list from a place on, and 0 for each past its end.

@@ -6,13 +6,13 @@ use borrow.Author.Rules.{rules}
 use Rattle.sector_writes.proofs.link_of.Goals as goal
 
 pub overflow_cast-result : goal.overflow_cast-result
-overflow_cast-result c = let f = link_small _ _ _ (sym c.address_of.ensures ∙ c.in-Sector.is) in omega arith
+overflow_cast-result c = let f = link_small _ _ (sym c.address_of.ensures ∙ c.in-Some.is) in omega arith
 
-pub overflow_cast-result-in-Sector : goal.overflow_cast-result-in-Sector
-overflow_cast-result-in-Sector c = let f = link_small _ _ _ (sym c.address_of.ensures ∙ c.in-Sector.is) in omega arith
+pub overflow_cast-result-in-Some : goal.overflow_cast-result-in-Some
+overflow_cast-result-in-Some c = let f = link_small _ _ (sym c.address_of.ensures ∙ c.in-Some.is) in omega arith
 
-pub returns-in-Sector : goal.returns-in-Sector
-returns-in-Sector c = link_some _ _ _ (sym c.address_of.ensures ∙ c.in-Sector.is)
+pub returns-in-Some : goal.returns-in-Some
+returns-in-Some c = link_some _ _ (sym c.address_of.ensures ∙ c.in-Some.is)
 
-pub returns-in-NoBit : goal.returns-in-NoBit
-returns-in-NoBit c = link_none _ (sym c.address_of.ensures ∙ c.in-NoBit.is)
+pub returns-in-None : goal.returns-in-None
+returns-in-None c = link_none _ (sym c.address_of.ensures ∙ c.in-None.is)
