@@ -21,7 +21,7 @@ overflow_add-at-in-loop-done-2 c =
 pub loop-done-preserved : goal.loop-done-preserved
 loop-done-preserved c =
     turn _ _ c.requires _ _ _ _ _ _ c.loop-done.invariant c.loop-done-test.true _ _ _ _ _ _ c.num_at-track.ensures.0 c.num_at-number.ensures.0
-    c.lesser-n.ensures c.part_at.ensures c.copy_into.ensures c.data_place-at.ensures
+    c.min-n.ensures c.part_at.ensures c.copy_into.ensures c.data_place-at.ensures
 
 pub shape_of-buf : goal.shape_of-buf
 shape_of-buf c = body_copy_long c.loop-done.invariant

@@ -5,7 +5,7 @@ use Rattle.directory.specs.Places.{slots}
 use Rattle.directory.specs.Directory.{slots_read}
 use Rattle.directory.proofs.Ends.{read-most}
 use Rattle.directory.proofs.Live.{met_live, met_dead}
-use Rattle.files.proofs.Listed.{ListLoop, listed_none, listed_more, listed_same, listed_long, listed_next, listed_end}
+use Rattle.files.proofs.Listing.{ListLoop, listed_none, listed_more, listed_same, listed_long, listed_next, listed_end}
 use borrow.Author.Rules.{rules}
 use Rattle.files.proofs.list_into.Given as goal
 

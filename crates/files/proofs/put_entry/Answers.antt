@@ -1,5 +1,5 @@
 -- `files::put_entry` meets its contract: the two bytes of the number, and then the slot's.
-use Rattle.files.proofs.Listed.{put-number}
+use Rattle.files.proofs.Listing.{put-number}
 use borrow.Author.Rules.{rules}
 use Rattle.files.proofs.put_entry.Goals as goal
 

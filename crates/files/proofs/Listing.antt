@@ -16,13 +16,13 @@ use Rattle.directory.specs.Places.{slots, slot_at}
 use Rattle.directory.specs.Directory.{fold_option, Directory, tracks_of, slots_read, directory, live_among}
 use Rattle.directory.proofs.Live.{directory-some, among_rest, among_read}
 use Rattle.directory.proofs.Places.{slot_within}
-use Rattle.surveys.specs.Survey.{free, free_of, used_map, used_or, files_or}
+use Rattle.surveys.specs.Survey.{free, free_of, used_map}
 use Rattle.surveys.specs.declared.UsedMap.{UsedMap}
 use Rattle.surveys.specs.declared.Survey.{Survey}
 use Rattle.refusals.specs.Order.{Refusal, refuse, Reply, ◌else◌, row}
-use Rattle.refusals.specs.Answers.{Outcome, out, filled, done, refused, refusal_of, reply_of}
+use Rattle.refusals.specs.Answers.{Outcome, out, filled, done, refused, refusal_of}
 use Rattle.refusals.specs.declared.Refused.{Refused}
-use Rattle.refusals.specs.declared.Verdict.TheVariants.{Accepted, Err}
+use Rattle.std.specs.Prelude.{Ok, Err}
 use Rattle.disk.specs.Check.{check_disk, Examined}
 use Rattle.disk.proofs.View.{view-slots, view_extra}
 use Rattle.disk.proofs.Examined.{accepted-size}
@@ -146,15 +146,8 @@ module _ (d buf : List ℕ) (u : UsedMap) (w : CheckedDisk d u) where
       rw (e, g, q) (sym (listing-is d buf ∙ rw (w.accepted, le-ltb (length buf) (length (entries (directory d) slots)) l)))
 
 -- what a refused check says of the listing, and an accepted one
-pub listing_err : (d buf : List ℕ) (s : Survey) (r : Refused) → Examined d s → s.verdict ≡ Err r → out (refused (refusal_of r)) buf ≡ listing d buf
-listing_err d buf s r w e = listing-refused d buf (refusal_of r) (sym w.reply ∙ ap reply_of e)
+pub listing_err : (d buf : List ℕ) (r : Refused) → Examined d (Err r) → out (refused (refusal_of r)) buf ≡ listing d buf
+listing_err d buf r w = listing-refused d buf (refusal_of r) (sym w.reply)
 
-pub accepted-files : (d : List ℕ) (s : Survey) → Examined d s → s.verdict ≡ Accepted → s.files ≡ live_among (directory d) slots
-accepted-files d s w e =
-    let a : check_disk d ≡ none = sym w.reply ∙ ap reply_of e in
-    w.files ∙ ap (λ (q : Reply). files_or q (directory d)) a
-
-pub checked_disk : (d : List ℕ) (s : Survey) → Examined d s → s.verdict ≡ Accepted → CheckedDisk d s.used
-checked_disk d s w e =
-    let a : check_disk d ≡ none = sym w.reply ∙ ap reply_of e in
-    record { accepted = a; used = w.used ∙ ap (λ (q : Reply). used_or q (tracks_of d) (directory d)) a }
+pub checked_disk : (d : List ℕ) (s : Survey) → Examined d (Ok s) → CheckedDisk d s.used
+checked_disk d s w = record { accepted = sym w.reply; used = w.used }
