@@ -1,33 +1,17 @@
--- `names::same_name` meets its contract. What is left to compare is what is left of both names.
-use mathlib.Core.Path.{◌≡◌, sym, ap, ◌∙◌}
-use Prim.Native.Nat.{◌-◌, ◌≤◌}
-use native.Mathlib.Omega.{arith}
-use lib.ListN.{length}
-use Rattle.names.specs.Name.{lower, same_name}
-use Rattle.names.proofs.Names.{same_from, same_start, same_lengths, same_more, same_differ, same_end}
-use borrow.Author.Rules.{rules}
+-- `names::same_name` meets its contract: the names are as long, and alike pair by pair.
+use Rattle.std.proofs.Common.{ℕ, rules, tests, eqb, ◌∙◌}
+use Rattle.std.proofs.lemmas.Iterator.{YieldsList-from_slice, YieldsList-from_zip}
+use Rattle.std.proofs.lemmas.Iterator.Search.{all_from_yields_List}
+use borrow.Author.Tests.{ne_eqb}
+use Rattle.names.specs.Name.{lower}
+use Rattle.names.proofs.Names.{pairs_same, same_lengths}
 use Rattle.names.proofs.same_name.Goals as goal
 
 pub returns-then-a-b : goal.returns-then-a-b
-returns-then-a-b c = same_lengths _ _ c.if-a-b.true
+returns-then-a-b c =
+    let pairs = YieldsList-from_zip (YieldsList-from_slice c.args.a.now cc) (YieldsList-from_slice c.args.b.now cc) in
+    all_from_yields_List (λ (p : ℕ × ℕ). eqb (lower p.0) (lower p.1)) c.all.new.self _ _ c.all.ensures.ran pairs (λ x b q k. search (rules, tests))
+    ∙ pairs_same c.args.a.now c.args.b.now c.if-a-b.true
 
-pub loop-i-init : goal.loop-i-init
-loop-i-init c = (search rules, c.if-a-b.false, same_start _ _)
-
-pub returns-then-lower : goal.returns-then-lower
-returns-then-lower c =
-    let l = c.loop-i in
-    sym (l.invariant.2 ∙ same_differ _ _ l.i (omega arith) (omega arith) (λ e. c.if-lower.true (c.lower.ensures ∙ e ∙ sym c.lower-then-a-k.ensures)))
-
-pub loop-i-preserved-else-lower : goal.loop-i-preserved-else-lower
-loop-i-preserved-else-lower c =
-    let l = c.loop-i in
-    (search rules, l.invariant.1, l.invariant.2 ∙ same_more _ _ l.i (omega arith) (omega arith) (sym c.lower.ensures ∙ c.if-lower.false ∙ c.lower-then-a-k.ensures))
-
-pub loop-i-preserved : goal.loop-i-preserved
-loop-i-preserved c =
-    let l = c.loop-i in
-    (search rules, l.invariant.1, l.invariant.2 ∙ same_more _ _ l.i (omega arith) (omega arith) (ap lower c.if-a-k.false))
-
-pub returns : goal.returns
-returns c = let l = c.loop-i in sym (l.invariant.2 ∙ same_end _ _ l.i (omega arith) (omega arith))
+pub returns-else-a-b : goal.returns-else-a-b
+returns-else-a-b c = ne_eqb _ _ c.if-a-b.false ∙ same_lengths _ _ c.if-a-b.false
