@@ -290,3 +290,12 @@ unfolding map_bit_of
 address_map_bit t s b e =
     let h = address-sector t s b e in
     rw (← h.track, ← h.sector, address_data b h.small) (ap Some (address-bit b h.small))
+
+-- what each function's proof cites
+pub ruleset bits = (data_bounds, bit-first, bit-second, bit-none, bit-small)
+
+pub ruleset bit_tests = (bit_data, bit_not_data)
+
+pub ruleset bit_places = (number-first, number-second, place_or_end_lem, place_end)
+
+pub ruleset data_places = (data_bounds, data_or_end, none_or_end)

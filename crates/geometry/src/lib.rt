@@ -50,6 +50,7 @@ pub fn place(track: usize, sector: usize) -> Option<usize>
 }
 
 // The map bit as a plain number, for loops: 1,560 where it is no data sector.
+#[tactic(auto, using(crate::proofs::Laws::bits))]
 pub fn bit_or_end(track: usize, sector: usize) -> usize
     ensures { (result ≡ bit_of track sector) × (result ≤ 1560) }
 {
@@ -65,6 +66,7 @@ pub fn bit_or_end(track: usize, sector: usize) -> usize
 }
 
 // The map bit of a sector, where it is a data sector.
+#[tactic(auto, using(crate::proofs::Laws::bit_tests), unfolding(crate::specs::Disk::map_bit_of))]
 pub fn bit_of(track: usize, sector: usize) -> Option<usize>
     ensures { result ≡ map_bit_of track sector }
 {
@@ -114,6 +116,7 @@ pub fn place_of_bit(bit: usize) -> Option<usize>
 }
 
 // The same place computed, as a plain number: the image's size where there is no such bit.
+#[tactic(auto, using(crate::proofs::Laws::bit_places))]
 pub fn bit_place(bit: usize) -> usize
     ensures { result ≡ place_or_end bit }
 {
@@ -127,6 +130,7 @@ pub fn bit_place(bit: usize) -> usize
 }
 
 // The place of a data sector, from its address, with no division by 10: the image's size where it is none.
+#[tactic(auto, using(crate::proofs::Laws::data_places))]
 pub fn data_place(track: usize, sector: usize) -> usize
     ensures { result ≡ place_or_end (bit_of track sector) }
 {
