@@ -11,15 +11,16 @@ ghost use Rattle.slot_writes.specs.Filed.{chain_bytes, start_fields, fresh_slot,
 use allocation::HeaderFields;
 use sector_writes::Link;
 
+// The last slot of the largest directory, counted from 0.
+const LAST_SLOT: usize = directory::SLOTS - 1;
+
 // The map with the bits of a chain set.
 pub fn map_with(bits: &[u16]) -> [u8; 195]
     ensures { result ≡ map_with bits.now }
 {
     let mut map = [0u8; 195];
-    let mut j = bits.len();
-    while 0 < j {
-        j -= 1;
-        maps::set_bit(&mut map, bits[j] as usize);
+    for j in (0..bits.len()).rev() {
+        maps::set_bit(&mut map, usize::from(bits[j]));
     }
     map
 }
@@ -119,27 +120,17 @@ pub fn slot_of(
 pub fn has_old_name(image: &[u8], i: usize) -> bool
     ensures { result ≡ old_name image.now i }
 {
-    if 777 <= i {
-        return false;
-    }
-    let next = i + 1;
-    if !slots::is_nameless(directory::slot_at(image, i)) {
-        return false;
-    }
-    if directory::slots_in(image) <= next {
-        return false;
-    }
-    !slots::is_nameless(directory::slot_at(image, next))
+    i < LAST_SLOT
+        && slots::is_nameless(directory::slot_at(image, i))
+        && i + 1 < directory::slots_in(image)
+        && !slots::is_nameless(directory::slot_at(image, i + 1))
 }
 
 // Whether an old name stands behind slot `i`: behind the last there is none.
 fn is_behind(i: usize, old: bool) -> bool
     ensures { result ≡ has_next_name old i }
 {
-    if 777 <= i {
-        return false;
-    }
-    old
+    i < LAST_SLOT && old
 }
 
 // Sets bytes 0 and 1 of the slot after slot `i` to 0, where an old name stands there.
@@ -169,11 +160,7 @@ fn is_apart(i: usize, old: bool) -> bool
     requires { i < slots }
     ensures { result ≡ (old && not (same_sector i)) }
 {
-    if !old {
-        return false;
-    }
-    let next = directory::dir_sector(i + 1);
-    next != directory::dir_sector(i)
+    old && directory::dir_sector(i + 1) != directory::dir_sector(i)
 }
 
 // How many sectors of the directory are written for slot `i`.
