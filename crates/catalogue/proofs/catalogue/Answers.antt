@@ -1,5 +1,6 @@
 -- `catalogue::catalogue` meets its contract: the text stands at the front of the page, and is copied where it fits.
-use borrow.Author.Rules.{rules}
+use mathlib.Core.Path.{ap}
+use Rattle.refusals.specs.Answers.{outcome_of}
 use native.Mathlib.Omega.{arith}
 use lib.ListN.{length-take}
 use Rattle.text_lines.proofs.Laws.{wrote_long}
@@ -8,7 +9,7 @@ use Rattle.catalogue.proofs.catalogue.Goals as goal
 
 pub returns-then-buf-n : goal.returns-then-buf-n
 returns-then-buf-n c =
-    catalogue_short _ _ (omega (arith, c.put_text-n.ensures.next, c.if-buf-n.true, c.blank-page.ensures, text-most c.args.input.now)) _ c.refused_answer.ensures
+    catalogue_short _ _ (omega (arith, c.put_text-n.ensures.next, c.if-buf-n.true, c.blank-page.ensures, text-most c.args.input.now)) _ (ap outcome_of c.refuse.ensures)
 
 pub slice_bounds-page-end : goal.slice_bounds-page-end
 slice_bounds-page-end c = omega (arith, c.put_text-n.ensures.next, text-most c.args.input.now)

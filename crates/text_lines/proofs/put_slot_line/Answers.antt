@@ -7,11 +7,11 @@ use Rattle.text_lines.proofs.Laws.{wrote_none, wrote_as, entry_dead, entry-hidde
 use Rattle.text_lines.proofs.put_slot_line.Goals as goal
 
 pub returns-then-not-is_live : goal.returns-then-not-is_live
-returns-then-not-is_live c = wrote_none _ _ _ (entry_dead _ _ (sym c.is_live.ensures ∙ c.if-not-is_live.true)) _ c.lesser.ensures
+returns-then-not-is_live c = wrote_none _ _ _ (entry_dead _ _ (sym c.is_live.ensures ∙ c.if-not-is_live.true)) _ c.min.ensures
 
 pub returns-then-is_hidden : goal.returns-then-is_hidden
 returns-then-is_hidden c =
-    wrote_none _ _ _ (entry-hidden _ _ (sym c.is_live.ensures ∙ c.if-not-is_live.false) (sym c.is_hidden.ensures ∙ c.if-is_hidden.true)) _ c.lesser-then-is_hidden.ensures
+    wrote_none _ _ _ (entry-hidden _ _ (sym c.is_live.ensures ∙ c.if-not-is_live.false) (sym c.is_hidden.ensures ∙ c.if-is_hidden.true)) _ c.min-then-is_hidden.ensures
 
 pub returns : goal.returns
 returns c =
