@@ -8,7 +8,7 @@ ghost use Rattle.drives.specs.Raw.{raw_refusal, raw_number, raw_sector};
 use refusals::Reason;
 
 // Where a sector begins in the image of its drive.
-#[tactic(auto, unfolding(crate::specs::Raw::raw_refusal, crate::specs::Raw::is_image, crate::specs::Raw::is_drive))]
+#[tactic(auto, unfolding(geometry::specs::Disk::spot_of, crate::specs::Raw::raw_refusal, crate::specs::Raw::is_image, crate::specs::Raw::is_drive))]
 pub fn raw_place(
     one: &[u8],
     two: &[u8],
@@ -19,16 +19,10 @@ pub fn raw_place(
     ensures refusal { raw_number result ≡ raw_refusal one.now two.now drive track sector }
     ensures place { IfOk result (λ p. spot_of track sector ≡ Some p) }
 {
-    if one.len() != geometry::IMAGE_SIZE {
+    if one.len() != geometry::IMAGE_SIZE || two.len() != geometry::IMAGE_SIZE {
         return Err(Reason::NotAnImage);
     }
-    if two.len() != geometry::IMAGE_SIZE {
-        return Err(Reason::NotAnImage);
-    }
-    if drive < 1 {
-        return Err(Reason::NoSuchSector);
-    }
-    if drive > 2 {
+    if drive < 1 || drive > 2 {
         return Err(Reason::NoSuchSector);
     }
     geometry::place(track, sector).ok_or(Reason::NoSuchSector)
