@@ -1,7 +1,7 @@
 // Bytes of a lent buffer: a byte, eight as one number, a part, a run of bytes copied.
 #![tactic(auto)]
 
-ghost use Rattle.std.specs.Prelude.{◌≡◌, ℕ, ◌+◌, ◌-◌, ◌≤◌, ◌<◌, min, length, get_or};
+ghost use Rattle.std.specs.Prelude.{◌≡◌, ℕ, ◌+◌, ◌-◌, ◌≤◌, ◌<◌, min, [], ◌∷◌, length, get_or};
 ghost use Rattle.buffers.specs.Bytes.{part, put, word, word_or};
 
 // The byte at a place, and 0 past the end.
@@ -50,5 +50,15 @@ pub fn copy_into(out: &mut [u8], at: usize, from: &[u8])
     if at < out.len() {
         let n = from.len().min(out.len() - at);
         out[at..at + n].copy_from_slice(&from[..n]);
+    }
+}
+
+// Puts one number at a place of a list, where it has that place.
+#[tactic(auto, using(crate::proofs::Lists::put_one, crate::proofs::Lists::put_past))]
+pub fn put_number(list: &mut [u16], at: usize, n: u16)
+    ensures { list.new ≡ put list.old at (n ∷ []) }
+{
+    if at < list.len() {
+        list[at] = n;
     }
 }
