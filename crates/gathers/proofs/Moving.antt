@@ -7,15 +7,12 @@ use mathlib.Core.Logic.{◌⊎◌, inl, inr, ⊎_elim}
 use native.Mathlib.Numerals.{add-one}
 use native.Mathlib.Nat.{add-zero}
 use native.Mathlib.Omega.{arith}
-use borrow.Author.Tests.{lt-ltb}
 use lib.ListN.{length, get_or, take, set, length-append, length-take, length-set, get_or-append}
 use lib.Seq.{ext_get_or, get_or-append-add}
 use Rattle.buffers.specs.Bytes.{part, put}
 use Rattle.buffers.proofs.Lists.{below_or_not, length-put, part_at, part-long, put-before, put-after, put-none, put-more, put_all_lem, put-append}
-use Rattle.geometry.specs.Disk.{bit_of, bit_place, place_or_end, track_of, sector_of, address_of}
-use Rattle.geometry.specs.declared.Address.TheVariants.{Sector, NoBit}
-use Rattle.geometry.proofs.Laws.{place_or_end_lem, place_inside, places_apart, address-sector, address_data}
-use Rattle.geometry.proofs.Tests.{data_bounds}
+use Rattle.geometry.specs.Disk.{bit_of, bit_place, place_or_end}
+use Rattle.geometry.proofs.Laws.{place_or_end_lem, place_inside, places_apart}
 use Rattle.maps.specs.Bits.{has, clear_map, with_bit}
 use Rattle.slots.specs.Slot.{count_of, first_of, map_of}
 use Rattle.chains.specs.File.{File, file_of, sector_at, sectors_of}
@@ -33,34 +30,22 @@ use Rattle.plans.specs.Plan.{file_if_live, slot_step, data_steps, gather_steps}
 use Rattle.plans.proofs.Frame.{sector_else}
 use Rattle.plans.proofs.NewFile.{length_block, block_byte, block_track, block_sector}
 use Rattle.plans.proofs.Moved.{payload_block}
-use Rattle.gathers.specs.declared.Link.{Link}
+use Rattle.sector_writes.specs.declared.Link.{Link}
+use Rattle.sector_writes.specs.Sector.{link_address, link_to_bit}
+use Rattle.sector_writes.proofs.Links.{link_bit}
 use Rattle.gathers.specs.Moving.{file_in, count_in, link_to_run, moved_steps, Movable, DisjointRanges, TwoBits}
 use Rattle.gathers.proofs.ChainOrder.{link_own, chain-own}
 
 -- ---- the link
 
-pub run_link_small : (t s b : ℕ) → address_of b ≡ Sector t s → (t < 208) × (s ≤ 10)
-run_link_small t s b a =
-    let k = address-sector t s b a in
-    let d = data_bounds (track_of b) (sector_of b) (address_data b k.small) in
-    (omega arith, omega arith)
-
-pub link_no_bit : (b : ℕ) → b < 1560 → address_of b ≡ NoBit → ⊥
-unfolding address_of
-link_no_bit b h e =
-    let f : Sector (track_of b) (sector_of b) ≡ NoBit = sym (rw (lt-ltb b 1560 h)) ∙ e in
-    let z : ◌≡◌ {A = ℕ} 0 1 = cc in omega arith
-
-pub run_link_none : (n b : ℕ) (r : Link) → n ≡ 0 → r.track ≡ 0 → r.sector ≡ 0 → r ≡ link_to_run n b
+pub run_link_none : (n b : ℕ) → n ≡ 0 → link_address 0 0 ≡ link_to_run n b
 unfolding link_to_run up_from
-run_link_none n b r h p q = rw h (ap₂ {C = Link} (λ (t s : ℕ). record { track = t; sector = s }) p q)
+run_link_none n b h = rw h
 
-pub run_link_some : (n b : ℕ) (r : Link) → (n ≡ 0 → ⊥) → (t s : ℕ) → address_of b ≡ Sector t s → r.track ≡ t → r.sector ≡ s → r ≡ link_to_run n b
+pub run_link_some : (n b : ℕ) → (n ≡ 0 → ⊥) → b + n ≤ 1560 → (r : Link) → r ≡ link_to_bit b → r ≡ link_to_run n b
 unfolding link_to_run up_from
-run_link_some zero b r h t s a p q = absurd (h refl)
-run_link_some (suc n) b r h t s a p q =
-    let k = address-sector t s b a in
-    ap₂ {C = Link} (λ (t s : ℕ). record { track = t; sector = s }) (p ∙ sym k.track) (q ∙ sym k.sector)
+run_link_some zero b h s r e = absurd (h refl)
+run_link_some (suc n) b h s r e = e ∙ link_bit b (omega arith)
 
 -- ---- a sector copied
 
