@@ -4,20 +4,20 @@
 ghost use Rattle.std.specs.Prelude.{◌≡◌, ◌+◌, ◌≤◌, ◌<◌, ◌∷◌, [], leb, length};
 ghost use Rattle.std.proofs.Math.Option.{none};
 ghost use Rattle.buffers.specs.Bytes.{put};
-ghost use Rattle.refusals.specs.Answers.{reply_of, outcome_of, out};
+ghost use Rattle.refusals.specs.Answers.{outcome_of, out};
 ghost use Rattle.directory.specs.Directory.{directory};
 ghost use Rattle.trees.specs.Tree.{beneath, tree};
-ghost use Rattle.tree_lists.specs.Call.{name_reply, asked_code, fill_with, tree_listing};
-ghost use Rattle.tree_lists.specs.Steps.{FillRoom, NestingAccepted, ListPut};
+ghost use Rattle.tree_lists.specs.Call.{fill_with, tree_listing};
+ghost use Rattle.tree_lists.specs.Steps.{CodeAsked, FillRoom, NestingAccepted, ListPut};
 
 use refusals::{Reason, Refused};
 
-// 12, 13 and 15 of a directory's name; an empty one is the root's.
-fn name_rows(dir: &[u8], name: &[u8]) -> Result<(), Refused>
-    ensures { reply_of result ≡ name_reply (directory dir.now) name.now }
+// The code of the directory that has the name, 0 for an empty one, the root's; or 12, 13 and 15 of it.
+fn asked_code(dir: &[u8], name: &[u8]) -> Result<usize, Refused>
+    ensures { CodeAsked (directory dir.now) name.now result }
 {
     if name.is_empty() {
-        return Ok(());
+        return Ok(0);
     }
     if !names::is_askable(name) {
         return refusals::refuse(Reason::NameNotUsable, 0);
@@ -25,23 +25,11 @@ fn name_rows(dir: &[u8], name: &[u8]) -> Result<(), Refused>
     let Some(i) = directory::find(dir, name) else {
         return refusals::refuse(Reason::NameNotFound, 0);
     };
-    if slots::is_directory(directory::slot_at(dir, i)) {
-        return Ok(());
+    let s = directory::slot_at(dir, i);
+    if !slots::is_directory(s) {
+        return refusals::refuse(Reason::WrongKind, i + 1);
     }
-    refusals::refuse(Reason::WrongKind, i + 1)
-}
-
-// The code of the directory that has the name; 0 for an empty name, and where there is none.
-fn asked_code(dir: &[u8], name: &[u8]) -> usize
-    ensures { (result ≡ asked_code (directory dir.now) name.now) × (result < 256) }
-{
-    if name.is_empty() {
-        return 0;
-    }
-    match directory::find(dir, name) {
-        None => 0,
-        Some(i) => slots::code_of(directory::slot_at(dir, i)),
-    }
+    Ok(slots::code_of(s))
 }
 
 // Puts one number at a place of a list, where it has that place.
@@ -121,7 +109,7 @@ pub fn list_tree(image: &[u8], name: &[u8], list: &mut [u16]) -> Result<usize, R
 {
     disk::check(image)?;
     let number = nesting::survey_nesting(image)?;
-    name_rows(image, name)?;
+    let code = asked_code(image, name)?;
     let links = siblings::link_slots(image);
-    list_code(image, &links, number, asked_code(image, name), list)
+    list_code(image, &links, number, code, list)
 }
