@@ -7,9 +7,6 @@ use mathlib.Core.Logic.{◌⊎◌, inl, inr, ⊎_elim}
 use native.Mathlib.Nat.{add-zero, add-suc, eq-or-lt_of_le, le_of_suc-le-suc, not-suc-le-zero}
 use native.Mathlib.Numerals.{add-one}
 use native.Mathlib.Omega.{arith}
-use Rattle.std.proofs.lemmas.Simd.{put_chunk_is, length-put_chunk, get_or-put_chunk_at, get_or-put_chunk_below, get_or-put_chunk_above}
-use lib.Lanes.{put_chunk}
-use borrow.Rule.Slice.PartMut.{put_mid}
 use borrow.Author.Tests.{ltb-true, ltb-false, lt-ltb, le-ltb, le-leb, lt-leb}
 use lib.Dec.{leb, ltb}
 use lib.ListN.{length, get_or, take, drop, set, length-append, length-take, length-drop, length-set, get_or-append, get_or-eq_default, drop_of_length-le}
@@ -239,14 +236,10 @@ put-cut d a x j h m =
     (λ i k l. put_in d a (take j x) i (omega arith) l ∙ get_or-take j x i 0 (omega arith))
     (λ k l. put-before d a (take j x) k l) (λ k l n. absurd (omega arith))
 
--- what is copied over a part of a list
-pub put_copied : (d : List ℕ) (a k : ℕ) (x y : List ℕ) → k ≡ min (length x) (length d - a) → a < length d → y ≡ take k x → put_mid a k d y ≡ put d a x
-put_copied d a k x y q h e =
-    let l : length y ≡ k = ap length e ∙ omega (arith, length-take k x) in
-    ap (λ (n : ℕ). put_mid a n d y) (sym l) ∙ sym (put_chunk_is a d y (omega arith))
-    ∙ put_is d a x (put_chunk a d y) (length-put_chunk a d y)
-    (λ i m n. get_or-put_chunk_at a d y i 0 (omega arith) (omega arith) ∙ ap (λ (z : List ℕ). get_or z i 0) e ∙ get_or-take k x i 0 (omega arith))
-    (λ i m. get_or-put_chunk_below a d y i 0 m) (λ i m n. get_or-put_chunk_above a d y i 0 (omega arith))
+-- as much as there is room for
+pub put_cut_to : (d : List ℕ) (a : ℕ) (x : List ℕ) (k : ℕ) → k ≡ min (length x) (length d - a) → a < length d → put d a (take k x) ≡ put d a x
+put_cut_to d a x k e h =
+    ⊎_elim (λ (l : k < length x). put-cut d a x k (omega arith) (omega arith)) (λ (l : length x ≤ k). put_all_lem d a x k l) (below_or_not k (length x))
 
 -- one run put after another
 pub put-append : (d : List ℕ) (a : ℕ) (x y : List ℕ) → put (put d a x) (a + length x) y ≡ put d a (x ++ y)

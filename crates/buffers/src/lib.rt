@@ -1,7 +1,7 @@
 // Bytes of a lent buffer: a byte, eight as one number, a part, a run of bytes copied.
 #![tactic(auto)]
 
-ghost use Rattle.std.specs.Prelude.{◌≡◌, ℕ, ◌+◌, ◌-◌, ◌≤◌, ◌<◌, min, [], ◌∷◌, length, get_or};
+ghost use Rattle.std.specs.Prelude.{◌≡◌, ℕ, ◌+◌, ◌-◌, ◌≤◌, ◌<◌, [], ◌∷◌, length, get_or};
 ghost use Rattle.buffers.specs.Bytes.{part, put, word, word_or};
 
 // The byte at a place, and 0 past the end.
@@ -28,12 +28,6 @@ pub fn word_at(s: &[u8], i: usize) -> u64
     }
 }
 
-pub fn lesser(a: usize, b: usize) -> usize
-    ensures { result ≡ min a b }
-{
-    a.min(b)
-}
-
 // The `n` bytes at a place, uncopied; fewer where the slice ends before.
 pub fn part_at(s: &[u8], at: usize, n: usize) -> &[u8]
     ensures { result.now ≡ part at n s.now }
@@ -43,13 +37,46 @@ pub fn part_at(s: &[u8], at: usize, n: usize) -> &[u8]
     &s[start..end]
 }
 
+// All of `from`, put at a place of `out` where it fits. Not by copy_from_slice: it compares the addresses of the two as numbers
+// of 64 bits, which cross/guard refuses, since the library is built for machines with pointers of 32 bits too.
+fn copy(out: &mut [u8], at: usize, from: &[u8])
+    requires { at + length from.now ≤ length out.old }
+    ensures { out.new ≡ put out.old at from.now }
+{
+    for j in 0..from.len() {
+        out[at + j] = from[j];
+    }
+}
+
+// The same of a run by way of an array, which overlaps neither slice: so the compiler sees two block copies, makes them
+// one, and the array goes.
+fn copy_run(out: &mut [u8], at: usize, from: &[u8])
+    requires { (at + length from.now ≤ length out.old) × (length from.now ≤ 512) }
+    ensures { out.new ≡ put out.old at from.now }
+{
+    let mut held = [0u8; 512];
+    copy(&mut held, 0, from);
+    copy(out, at, &held[..from.len()]);
+}
+
+// The same of any length, run by run.
+fn copy_runs(out: &mut [u8], at: usize, from: &[u8])
+    requires { at + length from.now ≤ length out.old }
+    ensures { out.new ≡ put out.old at from.now }
+{
+    for done in (0..from.len()).step_by(512) {
+        let end = done + 512usize.min(from.len() - done);
+        copy_run(out, at + done, &from[done..end]);
+    }
+}
+
 // Puts `from` at a place of `out`; what would lie past the end of `out` is left out.
 pub fn copy_into(out: &mut [u8], at: usize, from: &[u8])
     ensures { out.new ≡ put out.old at from.now }
 {
     if at < out.len() {
         let n = from.len().min(out.len() - at);
-        out[at..at + n].copy_from_slice(&from[..n]);
+        copy_runs(out, at, &from[..n]);
     }
 }
 
