@@ -11,7 +11,7 @@ ghost use Rattle.slots.specs.Slot.{name_of, slot_fields};
 ghost use Rattle.slots.specs.Rows.{own_reply, release_rows};
 ghost use Rattle.directory.specs.Directory.{tracks_of, slots_read, directory};
 ghost use Rattle.surveys.specs.Survey.{earlier, survey_at, survey_by, counted, free_of};
-ghost use Rattle.surveys.specs.Filter.{key_bit, key_step, may_contain, inserted, Filtered};
+ghost use Rattle.surveys.specs.Filter.{key_bits, may_contain, inserted, Filtered};
 ghost use Rattle.surveys.specs.Steps.{DisjointMaps, Reached, Surveyed};
 
 use refusals::{Reason, Refused};
@@ -38,32 +38,27 @@ const FILTER_BITS: usize = 8192;
 
 const KEY_BITS: usize = 4;
 
-// The first bit of a key, and how far each of the others is from the one before.
-fn first_bit(key: u64) -> usize
-    ensures { (result ≡ key_bit key 0) × (result < 8192) }
+// The bits of a key: the first, and each of the others as far from the one before.
+#[tactic(auto, unfolding(crate::specs::Filter::key_bit, crate::specs::Filter::key_step))]
+fn key_bits(key: u64) -> [usize; KEY_BITS]
+    ensures { result ≡ key_bits key }
 {
-    (key % 8147) as usize
-}
-
-fn bit_step(key: u64) -> usize
-    ensures { (result ≡ key_step key) × (result < 8192) }
-{
-    (key % 7741) as usize
+    let step = (key % 7741) as usize;
+    let first = (key % 8147) as usize;
+    let second = (first + step) % FILTER_BITS;
+    let third = (second + step) % FILTER_BITS;
+    [first, second, third, (third + step) % FILTER_BITS]
 }
 
 // Whether the filter has all bits of a key.
 fn may_contain(filter: &[u8], key: u64) -> bool
     ensures { result ≡ may_contain filter.now key }
 {
-    let step = bit_step(key);
-    let mut b = first_bit(key);
-    let mut n: usize = 0;
-    while n < KEY_BITS {
+    let bits = key_bits(key);
+    for b in bits {
         if !maps::has_bit(filter, b) {
             return false;
         }
-        b = (b + step) % FILTER_BITS;
-        n += 1;
     }
     true
 }
@@ -72,13 +67,9 @@ fn may_contain(filter: &[u8], key: u64) -> bool
 fn insert(filter: &mut [u8], key: u64)
     ensures { filter.new ≡ inserted filter.old key }
 {
-    let step = bit_step(key);
-    let mut b = first_bit(key);
-    let mut n: usize = 0;
-    while n < KEY_BITS {
+    let bits = key_bits(key);
+    for b in bits {
         maps::set_bit(filter, b);
-        b = (b + step) % FILTER_BITS;
-        n += 1;
     }
 }
 
@@ -92,14 +83,10 @@ fn named_before(dir: &[u8], i: usize, name: &[u8], filter: &[u8]) -> bool
     if !may_contain(filter, key) {
         return false;
     }
-    let mut j: usize = 0;
-    while j < i {
+    for j in 0..i {
         let s = directory::slot_at(dir, j);
-        j += 1;
-        if names::key_of(slots::name_of(s)) == key {
-            if slots::is_named(s, name) {
-                return true;
-            }
+        if names::key_of(slots::name_of(s)) == key && slots::is_named(s, name) {
+            return true;
         }
     }
     false
@@ -181,17 +168,13 @@ pub fn survey_slots(dir: &[u8], release: bool) -> Result<Survey, Refused>
     ensures { Surveyed (survey_by release (tracks_of dir.now) (directory dir.now)) dir.now result }
 {
     let tracks = directory::tracks_of(dir);
-    let end = directory::slots_read(dir);
     let mut used = unused(tracks);
     let mut filter = [0u8; FILTER_BYTES];
     let mut files: usize = 0;
-    let mut i: usize = 0;
-    while i < end {
+    for i in 0..directory::slots_read(dir) {
         let s = directory::slot_at(dir, i);
-        let k = i;
-        i += 1;
         if slots::is_live(s) {
-            live_rows(dir, k, s, &used.bytes, &filter, release, tracks)?;
+            live_rows(dir, i, s, &used.bytes, &filter, release, tracks)?;
             insert(&mut filter, names::key_of(slots::name_of(s)));
             files += 1;
             used = joined(used, slots::map_of(s), slots::count_of(s));
