@@ -2,14 +2,16 @@
 // empty disk. No contract can say what is written, so one that only writes states nothing.
 #![tactic(auto)]
 
-ghost use Rattle.std.specs.Prelude.{◌≡◌, length, get_or, replicate};
+ghost use Rattle.std.specs.Prelude.{◌≡◌, ◌<◌, length, get_or, replicate};
 ghost use Rattle.files.specs.Calls.{listing, reading};
 
 use files::Listed;
-use geometry::Address;
 use refusals::Refused;
 
-pub mod disks; // disks of few files, and a full one
+mod calls; // the calls that change a disk, each with its line
+pub mod disks; // disks of few files, and full ones
+
+pub use calls::{BASIC, CODE, Particulars, erased, erased_as, marked, renamed, saved, saved_as};
 
 pub const LARGEST: usize = 18446744073709551615;
 
@@ -32,12 +34,19 @@ pub fn low(n: usize) -> u8 {
     (n % 256) as u8
 }
 
-// The link of the sector at a place.
-pub fn link(image: &mut [u8], at: usize, to: Address) {
-    if at < 819200 {
-        set(image, at + 510, low(to.track));
-        set(image, at + 511, low(to.sector));
-    }
+// Two bytes at a place, and those that were there.
+pub fn exchange(bytes: &mut [u8], at: usize, new: [u8; 2]) -> [u8; 2]
+    requires { at < 819200 }
+{
+    let old = [buffers::byte_at(bytes, at), buffers::byte_at(bytes, at + 1)];
+    buffers::copy_into(bytes, at, &new);
+    old
+}
+
+// A body, whose first four bytes and whose seven where its second sector's begin can be told.
+pub fn mark_body(body: &mut [u8], first: &[u8], second: &[u8]) {
+    buffers::copy_into(body, 0, first);
+    buffers::copy_into(body, 501, second);
 }
 
 pub fn say(text: &[u8]) {
@@ -49,10 +58,14 @@ pub fn number(before: &[u8], n: usize) {
     io::print_decimal(1, n as u64);
 }
 
+pub fn line(before: &[u8], n: usize) {
+    number(before, n);
+    say(b"\n");
+}
+
 pub fn refused(r: Refused) {
     number(b"refused ", r.reason.number());
-    number(b" slot ", r.slot);
-    say(b"\n");
+    line(b" slot ", r.slot);
 }
 
 pub fn title(call: &[u8], what: &[u8]) {
@@ -72,10 +85,7 @@ pub fn accepted<T: Drop>(answer: Result<T, Refused>) {
 // What a call answers, after a word for it.
 pub fn counted(before: &[u8], answer: Result<usize, Refused>) {
     match answer {
-        Ok(n) => {
-            number(before, n);
-            say(b"\n");
-        }
+        Ok(n) => line(before, n),
         Err(r) => refused(r),
     }
 }
@@ -94,8 +104,7 @@ fn files_and_free(answer: Result<Listed, Refused>) {
     match answer {
         Ok(found) => {
             number(b"files ", found.files);
-            number(b", free ", found.free);
-            say(b"\n");
+            line(b", free ", found.free);
         }
         Err(r) => refused(r),
     }
@@ -139,8 +148,7 @@ pub fn listed_at(list: &[u16], k: usize) -> usize
 pub fn three(before: &[u8], one: usize, two: usize, three: usize) {
     number(before, one);
     number(b" ", two);
-    number(b" ", three);
-    say(b"\n");
+    line(b" ", three);
 }
 
 // How many sectors a change names, and the front of its list as it then is.
@@ -165,4 +173,10 @@ pub fn read(what: &[u8], image: &[u8], name: &[u8], buf: &mut [u8])
     title(b"read of ", what);
     let answer = files::read(image, name, buf);
     length_and_body(answer, buf);
+}
+
+// A read into a buffer of dots, with room for more than two sectors.
+pub fn read_dots(what: &[u8], image: &[u8], name: &[u8]) {
+    let mut buf = [b'.'; 1100];
+    read(what, image, name, &mut buf);
 }

@@ -11,8 +11,7 @@ fn raw<'a>(one: &'a [u8], two: &'a [u8], drive: usize, track: usize, sector: usi
     };
     points::number(b": number ", number);
     points::number(b", bytes ", part.len());
-    points::number(b", the first ", buffers::num_at(part, 0));
-    points::say(b"\n");
+    points::line(b", the first ", buffers::num_at(part, 0));
 }
 
 fn raw_calls<'a>(one: &'a [u8], two: &'a [u8]) {

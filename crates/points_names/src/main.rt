@@ -19,38 +19,15 @@ fn erased(image: &mut [u8], name: &[u8], list: &mut [u16]) {
     points::accepted(changes::erase(image, name, list));
 }
 
-fn hidden(image: &mut [u8], name: &[u8], list: &mut [u16]) {
-    points::title(b"hide of ", name);
-    points::accepted(changes::set_mark(image, name, Marking::Hide, list));
-}
-
-fn shown(image: &mut [u8], name: &[u8], list: &mut [u16]) {
-    points::title(b"show of ", name);
-    points::accepted(changes::set_mark(image, name, Marking::Show, list));
-}
-
-fn protected(image: &mut [u8], name: &[u8], list: &mut [u16]) {
-    points::title(b"protect of ", name);
-    points::accepted(changes::set_mark(image, name, Marking::Protect, list));
-}
-
-fn released(image: &mut [u8], name: &[u8], list: &mut [u16]) {
-    points::title(b"release of ", name);
-    points::accepted(changes::set_mark(image, name, Marking::Release, list));
-}
-
-fn read(image: &[u8], name: &[u8]) {
-    let mut buf = [b'.'; 512];
-    points::read(name, image, name, &mut buf);
+fn marked(call: &[u8], image: &mut [u8], name: &[u8], marking: Marking, list: &mut [u16]) {
+    points::title(call, name);
+    points::accepted(changes::set_mark(image, name, marking, list));
 }
 
 fn opened(image: &[u8], name: &[u8]) {
     points::title(b"opening of ", name);
     match readers::begin(image, name) {
-        Ok(p) => {
-            points::number(b"left ", p.left);
-            points::say(b"\n");
-        }
+        Ok(p) => points::line(b"left ", p.left),
         Err(r) => points::refused(r),
     }
 }
@@ -68,22 +45,22 @@ fn listed(image: &[u8]) {
 
 // Every call that takes a name, in small letters.
 fn small_read(image: &[u8]) {
-    read(image, b"tunes");
+    points::read_dots(b"tunes", image, b"tunes");
     points::started(b"tunes", image, b"tunes");
     opened(image, b"tunes");
 }
 
 fn small_changes(image: &mut [u8], list: &mut [u16]) {
     saved(image, b"tunes", list);
-    hidden(image, b"tunes", list);
-    shown(image, b"tunes", list);
+    marked(b"hide of ", image, b"tunes", Marking::Hide, list);
+    marked(b"show of ", image, b"tunes", Marking::Show, list);
 }
 
 fn small_protected(image: &mut [u8], list: &mut [u16]) {
-    protected(image, b"tunes", list);
+    marked(b"protect of ", image, b"tunes", Marking::Protect, list);
     erased(image, b"tunes", list);
     renamed(image, b"tunes", b"Tunes", list);
-    released(image, b"tunes", list);
+    marked(b"release of ", image, b"tunes", Marking::Release, list);
 }
 
 // New names that are refused: the bytes that are stored, and another file's name.
@@ -97,7 +74,7 @@ fn new_name_taken(image: &mut [u8], list: &mut [u16]) {
 fn case_altered(image: &mut [u8], list: &mut [u16]) {
     renamed(image, b"tunes", b"Tunes", list);
     listed(image);
-    read(image, b"TUNES");
+    points::read_dots(b"TUNES", image, b"TUNES");
     renamed(image, b"TUNES", b"Tunes", list);
     renamed(image, b"TUNES", b"TUNES", list);
     listed(image);
@@ -105,10 +82,10 @@ fn case_altered(image: &mut [u8], list: &mut [u16]) {
 
 fn another_name(image: &mut [u8], list: &mut [u16]) {
     renamed(image, b"tunes", b"Hits", list);
-    read(image, b"TUNES");
-    read(image, b"HITS");
+    points::read_dots(b"TUNES", image, b"TUNES");
+    points::read_dots(b"HITS", image, b"HITS");
     erased(image, b"hits", list);
-    read(image, b"Hits");
+    points::read_dots(b"Hits", image, b"Hits");
 }
 
 // A byte at the front of a stored name, and the one asked for.

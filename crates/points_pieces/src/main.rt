@@ -9,8 +9,7 @@ fn opened(what: &[u8], image: &[u8], name: &[u8]) {
         Ok(p) => {
             points::number(b"sector ", p.sector);
             points::number(b", offset ", p.offset);
-            points::number(b", left ", p.left);
-            points::say(b"\n");
+            points::line(b", left ", p.left);
         }
         Err(r) => points::refused(r),
     }

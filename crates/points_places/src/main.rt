@@ -65,8 +65,7 @@ fn count_line(high: u8, low: u8) {
     s[12] = low;
     points::number(b"count bytes ", high as usize);
     points::number(b" ", low as usize);
-    points::number(b": ", slots::count_of(&s));
-    points::say(b"\n");
+    points::line(b": ", slots::count_of(&s));
 }
 
 fn length_line(pages: u8, low: u8, high: u8) {
@@ -79,8 +78,7 @@ fn length_line(pages: u8, low: u8, high: u8) {
     points::number(b" ", high as usize);
     points::number(b": pages ", slots::pages_of(&s));
     points::number(b", remainder ", slots::remainder_of(&s));
-    points::number(b", length ", slots::length_of(&s));
-    points::say(b"\n");
+    points::line(b", length ", slots::length_of(&s));
 }
 
 fn fields() {

@@ -25,12 +25,6 @@ fn closed(what: &[u8], image: &mut [u8], record: &Record, list: &mut [u16]) {
     points::print_change(answer, list);
 }
 
-fn saved(image: &mut [u8], name: &[u8], body: &[u8], list: &mut [u16]) {
-    points::title(b"save of ", name);
-    let answer = saves::save(image, 19, name, 29, 32768, b"", b"", body, list);
-    points::print_change(answer, list);
-}
-
 // ---- held to one save
 
 // How many sectors a piece named; a refusal is told.
@@ -126,8 +120,7 @@ fn short_lists(image: &mut [u8], record: &mut Record, piece: &[u8]) {
         &mut list,
     );
     closed(b"TAKE, with a list of 1", image, record, &mut list);
-    points::number(b"the list: ", points::listed_at(&list, 0));
-    points::say(b"\n");
+    points::line(b"the list: ", points::listed_at(&list, 0));
 }
 
 fn empty_piece(image: &mut [u8], record: &mut Record, buf: &mut [u8], list: &mut [u16]) {
@@ -146,12 +139,6 @@ fn refused(image: &mut [u8], body: &[u8], buf: &mut [u8], list: &mut [u16]) -> R
 }
 
 // ---- what comes between
-
-fn erased(image: &mut [u8], name: &[u8], list: &mut [u16]) {
-    points::title(b"erase of ", name);
-    let answer = changes::erase(image, name, list);
-    points::print_change(answer, list);
-}
 
 fn renamed(image: &mut [u8], name: &[u8], new: &[u8], list: &mut [u16]) {
     points::title(b"rename to ", new);
@@ -175,14 +162,8 @@ fn ended(image: &mut [u8], record: &Record, buf: &mut [u8], list: &mut [u16]) {
 }
 
 fn beside_other(image: &mut [u8], body: &[u8], list: &mut [u16]) -> Result<Record, Refused> {
-    saved(image, b"OTHER", b"", list);
+    points::saved(b"OTHER", image, b"OTHER", b"", list);
     begun(image, body, list)
-}
-
-fn hidden(image: &mut [u8], name: &[u8], list: &mut [u16]) {
-    points::title(b"hide of ", name);
-    let answer = changes::set_mark(image, name, Marking::Hide, list);
-    points::print_change(answer, list);
 }
 
 fn hidden_between(
@@ -192,7 +173,7 @@ fn hidden_between(
     list: &mut [u16],
 ) -> Result<(), Refused> {
     let mut record = beside_other(image, body, list)?;
-    hidden(image, b"OTHER", list);
+    points::marked(b"hide of ", image, b"OTHER", Marking::Hide, list);
     empty_piece(image, &mut record, buf, list);
     Ok(())
 }
@@ -205,7 +186,7 @@ fn saved_between(
     list: &mut [u16],
 ) -> Result<(), Refused> {
     let mut record = begun(image, body, list)?;
-    saved(image, b"LATE", b"", list);
+    points::saved(b"LATE", image, b"LATE", b"", list);
     empty_piece(image, &mut record, buf, list);
     Ok(())
 }
@@ -220,8 +201,14 @@ fn erased_between(
     list: &mut [u16],
 ) -> Result<(), Refused> {
     let record = begun(image, body, list)?;
-    saved(image, b"LATE", buffers::part_at(late, 0, len), list);
-    erased(image, b"LATE", list);
+    points::saved(
+        b"LATE",
+        image,
+        b"LATE",
+        buffers::part_at(late, 0, len),
+        list,
+    );
+    points::erased(image, b"LATE", list);
     ended(image, &record, buf, list);
     Ok(())
 }
@@ -262,8 +249,14 @@ fn cut_piece(
 fn all_cut(body: &[u8], late: &[u8], buf: &mut [u8], list: &mut [u16]) -> Result<(), Refused> {
     let mut image = points::blank();
     cut_piece(&mut image, body, buf, list)?;
-    saved(&mut image, b"LATE", buffers::part_at(late, 0, 1600), list);
-    erased(&mut image, b"LATE", list);
+    points::saved(
+        b"LATE",
+        &mut image,
+        b"LATE",
+        buffers::part_at(late, 0, 1600),
+        list,
+    );
+    points::erased(&mut image, b"LATE", list);
     cut_piece(&mut image, body, buf, list)
 }
 
@@ -358,12 +351,9 @@ fn main() {
     let mut late = points::blank();
     let mut buf = points::blank();
     let mut list = [0u16; 1562];
-    buffers::copy_into(&mut body, 0, b"HEAD");
-    buffers::copy_into(&mut body, 501, b"MIDDLE!");
-    buffers::copy_into(&mut late, 0, b"LATE");
-    buffers::copy_into(&mut late, 501, b"LATER..");
-    buffers::copy_into(&mut buf, 0, b"....");
-    buffers::copy_into(&mut buf, 501, b".......");
+    points::mark_body(&mut body, b"HEAD", b"MIDDLE!");
+    points::mark_body(&mut late, b"LATE", b"LATER..");
+    points::mark_body(&mut buf, b"....", b".......");
     if let Err(r) = tried(&body, &late, &mut buf, &mut list) {
         points::say(b"opening of a recording: ");
         points::refused(r);

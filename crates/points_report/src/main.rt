@@ -1,7 +1,8 @@
 // Points of document 02's M-111: reports as the app lends them, on each side of every edge.
 #![tactic(auto)]
 
-use geometry::Address;
+ghost use Rattle.std.specs.Prelude.{◌<◌};
+
 use refusals::Refused;
 
 fn answered(what: &[u8], answer: Result<usize, Refused>) {
@@ -9,32 +10,12 @@ fn answered(what: &[u8], answer: Result<usize, Refused>) {
     points::counted(b"disks ", answer);
 }
 
-// A chain of so many sectors, from map bit 0 on.
-fn chain(image: &mut [u8], count: usize) {
-    for bit in 0..1560 {
-        let next = if bit + 1 == count {
-            None
-        } else {
-            geometry::address_of(bit + 1)
-        };
-        let to = next.unwrap_or(Address {
-            track: 0,
-            sector: 0,
-        });
-        points::link(image, geometry::bit_place(bit), to);
-    }
-}
-
-fn mark_first(map: &mut [u8], count: usize) {
-    for bit in 0..count.min(1560) {
-        maps::set_bit(map, bit);
-    }
-}
-
 // Slot 1: a file of kind 5, which is not carried, in so many sectors from map bit 0 on.
 fn one_file(image: &mut [u8], count: usize) {
     let mut map = [0u8; 195];
-    mark_first(&mut map, count);
+    for bit in 0..count.min(1560) {
+        maps::set_bit(&mut map, bit);
+    }
     points::set(image, 0, 5);
     buffers::copy_into(image, 1, b"FILE      ");
     points::set(image, 11, points::low(count / 256));
@@ -42,13 +23,20 @@ fn one_file(image: &mut [u8], count: usize) {
     points::set(image, 13, 4);
     points::set(image, 14, 1);
     buffers::copy_into(image, 15, &map);
-    chain(image, count);
+    points::disks::chain(image, count);
 }
 
-fn number_in(bytes: &[u8], k: usize) -> usize {
-    let at = k.min(123) * 4;
-    let low = buffers::num_at(bytes, at) + 256 * buffers::num_at(bytes, at + 1);
-    low + 65536 * (buffers::num_at(bytes, at + 2) + 256 * buffers::num_at(bytes, at + 3))
+// The number at a place of a report: four bytes, low byte first.
+fn number_at(bytes: &[u8], at: usize) -> usize
+    requires { at < 496 }
+{
+    let number = [
+        buffers::byte_at(bytes, at),
+        buffers::byte_at(bytes, at + 1),
+        buffers::byte_at(bytes, at + 2),
+        buffers::byte_at(bytes, at + 3),
+    ];
+    u32::from_le_bytes(number) as usize
 }
 
 // The numbers of a report that are not 0, each after its place.
@@ -56,7 +44,7 @@ fn shown(what: &[u8], bytes: &[u8]) {
     points::say(what);
     points::say(b":");
     for k in 0..124 {
-        let n = number_in(bytes, k);
+        let n = number_at(bytes, 4 * k);
         if n != 0 {
             points::number(b" ", k);
             points::number(b"=", n);
