@@ -128,10 +128,17 @@ def travelling_parameters():
 
 
 def fixed_buffers():
+    """An array with a length beside it: of a struct's fields, or made in a function that hands on a front of it; a table of indices."""
     for path, text in sources():
-        for n, line in enumerate(text.split("\n"), 1):
-            if re.search(r"= \[\w+; ?\w+|^\s*\[\w+; ?\w+\]$", line) and not line.strip().startswith("//"):
-                yield f"{path}:{n}: {line.strip()}"
+        for m in re.finditer(r"^(?:pub )?struct (\w+)[^{;]*\{(.*?)^\}", text, re.M | re.S):
+            if re.search(r": \[\w+; [^\]]+\]", m.group(2)):
+                yield f"{path}: struct {m.group(1)}"
+    for path, line, m, body in functions():
+        for name in re.findall(r"let mut (\w+) = (?:\[[^\]]*; ?[^\]]*\]|(?:no_\w+|blank|tracks)\(\));", body):
+            if re.search(rf"\b{name}\[\.\.", body):
+                yield f"{path}:{line}: {m['name']} ({name})"
+        if re.search(r"\[778u16; ", body):
+            yield f"{path}:{line}: {m['name']} (a table of indices)"
 
 
 def step_switches():
