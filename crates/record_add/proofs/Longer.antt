@@ -59,6 +59,22 @@ pub sectors_rise : (a b : ℕ) → sectors_for a ≤ sectors_for (a + b)
 unfolding sectors_for
 sectors_rise a b = omega arith
 
+-- a record, of a body of so many bytes
+abbrev pub with_long : ℕ → Record → Record
+with_long n k = record {
+  kind = k.kind;
+  name = k.name;
+  page = k.page;
+  offset = k.offset;
+  exec = k.exec;
+  info = k.info;
+  used = k.used;
+  tracks = k.tracks;
+  long = n;
+  first = k.first;
+  last = k.last;
+}
+
 -- ---- the last sector
 
 module _ (k : Record) (x : List ℕ) where

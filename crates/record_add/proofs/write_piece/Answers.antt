@@ -20,4 +20,4 @@ write_sectors-requires-2 c = goes_along _ _ _ _ _ _ c.requires _ (omega arith)
 
 pub returns : goal.returns
 returns c =
-    made_more _ _ _ _ _ _ c.requires _ _ _ c.if-long-le501.false _ c.last_from.ensures _ _ c.held_bytes-held.ensures c.part_at-wait.ensures c.write_sectors-2.ensures
+    made_more _ _ _ _ _ _ c.requires _ _ _ c.if-long-le501.false _ c.last_from.ensures (omega arith) _ c.part_at-wait.ensures c.write_sectors-2.ensures
