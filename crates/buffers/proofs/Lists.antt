@@ -310,15 +310,5 @@ word_in (suc k) a n m j h =
     let e : 0 + j ≡ j = omega arith in
     rw (e, part_at a n m j (omega arith), word_in k a n m (suc j) (omega arith))
 
--- eight bytes of a part, one after the other, as a number
-pub word_chunk : (m : List ℕ) (i : ℕ) (x : List ℕ) (v : ℕ) → 8 ≤ length (part i 8 m) → x ≡ take 8 (part i 8 m) → v ≡ word 8 x 0 0 → v ≡ word_or m i
-word_chunk m i x v h e p =
-    let l : i + 8 ≤ length m = omega (arith, length_part i 8 m) in
-    let s : x ≡ part i 8 m = e ∙ take_all 8 (part i 8 m) (omega (arith, length_part i 8 m)) in
-    p ∙ ap (λ (z : List ℕ). word 8 z 0 0) s ∙ word_in 8 i 8 m 0 (omega arith) ∙ sym (word-there m i l)
-
-pub word_short : (m : List ℕ) (i : ℕ) → length (part i 8 m) < 8 → 0 ≡ word_or m i
-word_short m i h = sym (word_not m i (omega (arith, length_part i 8 m)))
-
 pub word-part : (m : List ℕ) (a n : ℕ) → n ≡ 8 → a + 8 ≤ length m → word_or (part a n m) 0 ≡ word 8 m a 0
 word-part m a n e h = word-there (part a n m) 0 (omega (arith, part-long a n m (omega arith))) ∙ word_in 8 a n m 0 (omega arith)

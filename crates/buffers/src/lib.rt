@@ -4,11 +4,13 @@
 ghost use Rattle.std.specs.Prelude.{◌≡◌, ℕ, ◌+◌, ◌-◌, ◌≤◌, ◌<◌, [], ◌∷◌, length, get_or};
 ghost use Rattle.buffers.specs.Bytes.{part, put, word, word_or};
 
-// The byte at a place, and 0 past the end.
+// The byte at a place, and 0 past the end. Not by `get`: the pair that an Option<&u8> is answered as lies otherwise where pointers
+// have 32 bits, so cross/guard refuses it.
+#[tactic(auto, using(crate::proofs::Lists::past_end))]
 pub fn byte_at(s: &[u8], i: usize) -> u8
     ensures { result ≡ get_or s.now i 0 }
 {
-    s.get(i).copied().unwrap_or(0)
+    if i < s.len() { s[i] } else { 0 }
 }
 
 // The same as a number that can be reckoned with.
@@ -18,14 +20,24 @@ pub fn num_at(s: &[u8], i: usize) -> usize
     usize::from(byte_at(s, i))
 }
 
-// Eight bytes as one number, low byte first; 0 where the eight are not all there.
+// Eight bytes as one number, low byte first, which the compiler makes one load; 0 where the eight are not all there. Not by
+// `first_chunk`, which answers an Option of a reference as `get` does.
 pub fn word_at(s: &[u8], i: usize) -> u64
     ensures { result ≡ word_or s.now i }
 {
-    match part_at(s, i, 8).first_chunk() {
-        Some(bytes) => u64::from_le_bytes(*bytes),
-        None => 0,
+    if s.len() < 8 || s.len() - 8 < i {
+        return 0;
     }
+    u64::from_le_bytes([
+        s[i],
+        s[i + 1],
+        s[i + 2],
+        s[i + 3],
+        s[i + 4],
+        s[i + 5],
+        s[i + 6],
+        s[i + 7],
+    ])
 }
 
 // The `n` bytes at a place, uncopied; fewer where the slice ends before.

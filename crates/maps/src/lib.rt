@@ -25,7 +25,7 @@ pub fn bits_of(m: &[u8]) -> usize
         sum += u64::from_le_bytes(*word).count_ones() as usize;
     }
     for byte in rest {
-        sum += byte.count_ones() as usize;
+        sum += u32::from(*byte).count_ones() as usize;
     }
     sum
 }
