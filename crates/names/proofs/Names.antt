@@ -4,14 +4,14 @@ use mathlib.Core.Path.{◌≡◌, refl, sym, ap, ap₂, ◌∙◌}
 use mathlib.Core.Bool.{Bool, true, false, ◌&&◌, false≢true}
 use mathlib.Core.List.{List, [], ◌∷◌, ◌++◌}
 use mathlib.Core.Logic.{⊎_elim}
+use native.Mathlib.Numerals.{add-one}
 use native.Mathlib.Omega.{arith}
-use borrow.Author.Tests.{eq-eqb, eqb-true}
+use borrow.Author.Tests.{eq-eqb, ne_eqb, eqb-true}
 use lib.Dec.{eqb}
 use lib.Pointwise.{pointwise}
 use Rattle.std.specs.Prelude.{nat_eq}
-use Rattle.std.specs.List.{list_all, zip}
-use lib.ListN.{length, get_or, replicate, length-append, length-replicate, get_or-replicate, get_or-append}
-use lib.Seq.{get_or-append-add, ext_get_or, take_all}
+use lib.ListN.{length, get_or, drop, replicate, length-append, length-replicate, get_or-replicate, drop_of_length-le, get_or-append}
+use lib.Seq.{drop-cons, get_or-append-add, ext_get_or, take_all}
 use Rattle.buffers.specs.Bytes.{part, put}
 use Rattle.buffers.proofs.Lists.{length-put, length_part, part_at, put_in, put-after, below_or_not}
 use Rattle.buffers.proofs.Tests.{and_both}
@@ -50,6 +50,20 @@ pointwise_bytes [] [] = refl
 pointwise_bytes [] (y ∷ ys) = refl
 pointwise_bytes (x ∷ xs) [] = refl
 pointwise_bytes (x ∷ xs) (y ∷ ys) = ap (λ (t : Bool). eqb x y && t) (pointwise_bytes xs ys)
+
+-- as a loop compares them, from i on
+pub bytes-more : (xs ys : List ℕ) (i : ℕ) → i < length xs → i < length ys → get_or xs i 0 ≡ get_or ys i 0
+    → same_bytes (drop i xs) (drop i ys) ≡ same_bytes (drop (i + 1) xs) (drop (i + 1) ys)
+unfolding same_bytes
+bytes-more xs ys i h k e = rw (drop-cons xs i 0 h, drop-cons ys i 0 k, eq-eqb (get_or xs i 0) (get_or ys i 0) e, add-one)
+
+pub bytes_differ : (xs ys : List ℕ) (i : ℕ) → i < length xs → i < length ys → (get_or xs i 0 ≡ get_or ys i 0 → ⊥) → same_bytes (drop i xs) (drop i ys) ≡ false
+unfolding same_bytes
+bytes_differ xs ys i h k e = rw (drop-cons xs i 0 h, drop-cons ys i 0 k, ne_eqb (get_or xs i 0) (get_or ys i 0) e)
+
+pub bytes_end : (xs ys : List ℕ) (i : ℕ) → length xs ≤ i → length ys ≤ i → same_bytes (drop i xs) (drop i ys) ≡ true
+unfolding same_bytes
+bytes_end xs ys i h k = rw (drop_of_length-le xs h, drop_of_length-le ys k)
 
 -- ---- capitals or not: the same exactly where their bytes are equal in small letters
 
@@ -111,17 +125,34 @@ pub same_right : (a b c : List ℕ) → Same a b → same_name c a ≡ same_name
 unfolding same_name
 same_right a b c e = ap (same_bytes (lowered c)) (same-is a b e)
 
--- ---- as two slices are compared, pair by pair
+-- ---- as a loop compares names, from i on
 
 pub same_lengths : (xs ys : List ℕ) → (length xs ≡ length ys → ⊥) → false ≡ same_name xs ys
 same_lengths xs ys h = sym (not_same xs ys (λ e. h (same-long xs ys e)))
 
-pub pairs_same : (xs ys : List ℕ) → length xs ≡ length ys → list_all (λ (p : ℕ × ℕ). eqb (lower p.0) (lower p.1)) (zip xs ys) ≡ same_name xs ys
-unfolding same_name same_bytes lowered
-pairs_same [] [] e = refl
-pairs_same [] (y ∷ ys) e = absurd (omega arith)
-pairs_same (x ∷ xs) [] e = absurd (omega arith)
-pairs_same (x ∷ xs) (y ∷ ys) e = ap (λ (t : Bool). eqb (lower x) (lower y) && t) (pairs_same xs ys (omega arith))
+-- what is left to compare, in small letters
+unfoldable pub same_from : ℕ → List ℕ → List ℕ → Bool
+same_from i xs ys = same_bytes (drop i (lowered xs)) (drop i (lowered ys))
+
+pub same_start : (xs ys : List ℕ) → same_name xs ys ≡ same_from 0 xs ys
+unfolding same_from same_name
+same_start xs ys = refl
+
+module _ (xs ys : List ℕ) (i : ℕ) (h : i < length xs) (k : i < length ys) where
+  pub same_more : lower (get_or xs i 0) ≡ lower (get_or ys i 0) → same_from i xs ys ≡ same_from (i + 1) xs ys
+  unfolding same_from
+  same_more e =
+      bytes-more (lowered xs) (lowered ys) i (omega (arith, length-lowered xs)) (omega (arith, length-lowered ys)) (lowered-at xs i ∙ e ∙ sym (lowered-at ys i))
+
+  pub same_differ : (lower (get_or xs i 0) ≡ lower (get_or ys i 0) → ⊥) → same_from i xs ys ≡ false
+  unfolding same_from
+  same_differ e =
+      bytes_differ (lowered xs) (lowered ys) i (omega (arith, length-lowered xs)) (omega (arith, length-lowered ys))
+      (λ z. e (sym (lowered-at xs i) ∙ z ∙ lowered-at ys i))
+
+pub same_end : (xs ys : List ℕ) (i : ℕ) → length xs ≤ i → length ys ≤ i → same_from i xs ys ≡ true
+unfolding same_from
+same_end xs ys i h k = bytes_end (lowered xs) (lowered ys) i (omega (arith, length-lowered xs)) (omega (arith, length-lowered ys))
 
 -- ---- names filled with spaces
 

@@ -23,14 +23,20 @@ fn lower(b: u8) -> u8
     }
 }
 
-// Whether two names are the same, capitals or not. Case is looked at only where two bytes differ.
+// Whether two names are the same, capitals or not. Case is looked at only where two bytes differ. By an index and not over pairs:
+// an iterator's step answers an Option of references, which cross/guard refuses (see `buffers::byte_at`).
 pub fn same_name(a: &[u8], b: &[u8]) -> bool
     ensures { result ≡ same_name a.now b.now }
 {
-    a.len() == b.len()
-        && a.iter()
-            .zip(b)
-            .all(|(x, y)| x == y || lower(*x) == lower(*y))
+    if a.len() != b.len() {
+        return false;
+    }
+    for i in 0..a.len() {
+        if a[i] != b[i] && lower(a[i]) != lower(b[i]) {
+            return false;
+        }
+    }
+    true
 }
 
 // Bit 5 of each of eight bytes, in which alone the two cases of a letter differ.
