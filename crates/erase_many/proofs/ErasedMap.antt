@@ -34,7 +34,8 @@ use Rattle.plans.specs.Allowed.{NamedSlot}
 use Rattle.plans.proofs.Frame.{disk-accepted, slots-some, holds}
 use Rattle.plans.proofs.Named.{found-file}
 use Rattle.erase_many.specs.EraseMany.{name_at, how_many, single_erase, result_number, disk_or, disk_after_erases, answer_at, answers_to, erased_all, is_erased, sectors_with, sectors_of_all}
-use Rattle.erase_many.specs.ErasedMap.{none_erased, not_erased, erase_answer, name_answer, erased_with, erased_map, erased_map_answer, slots_cleared}
+use Rattle.nesting.specs.Steps.{not_erased}
+use Rattle.erase_many.specs.ErasedMap.{none_erased, erase_answer, name_answer, erased_with, erased_map, erased_map_answer, slots_cleared}
 use Rattle.erase_many.proofs.Cleared.{Lives, without, clear_view, SlotsClearedTo, all_emptied}
 use Rattle.erase_many.proofs.Listed.{sectors_cong}
 use Rattle.erase_many.proofs.Meaning.{after_fewer}

@@ -33,7 +33,8 @@ use Rattle.plans.proofs.Named.{fresh-find, found_here, alone as no_other}
 use Rattle.plans.proofs.Refused.{refused_positive}
 use Rattle.plans.proofs.Stays.{stays}
 use Rattle.erase_many.specs.EraseMany.{name_at, how_many, single_erase, result_number, disk_or, disk_after_erases, answer_at, erased_all, is_erased}
-use Rattle.erase_many.specs.ErasedMap.{erase_answer, name_answer, not_erased, erased_map, erased_map_answer}
+use Rattle.nesting.specs.Steps.{not_erased}
+use Rattle.erase_many.specs.ErasedMap.{erase_answer, name_answer, erased_map, erased_map_answer}
 use Rattle.erase_many.specs.EraseManyCut.{ErasedBy}
 use Rattle.erase_many.proofs.Meaning.{gone-never, Empties, empties, grown, after_fewer, after-accepted}
 use Rattle.erase_many.proofs.ErasedMap.{run_15, answer_same}
