@@ -3,6 +3,7 @@ use Prim.Native.Nat.{ℕ, ◌+◌, ◌*◌, ◌/◌, ◌%◌, ◌≤◌, ◌<◌
 use mathlib.Core.Path.{◌≡◌, refl, sym, ap, ◌∙◌}
 use mathlib.Core.List.{List, [], ◌∷◌, ◌++◌}
 use native.Mathlib.Omega.{arith}
+use Rattle.std.specs.Prelude as Prelude
 use lib.ListN.{length, set, length-set}
 use Rattle.buffers.specs.Bytes.{put}
 use Rattle.buffers.proofs.Lists.{length-put, put-none}
@@ -16,9 +17,7 @@ use Rattle.plans.specs.Gathering.{up_from}
 use Rattle.plans.specs.Gathered.{run_sectors}
 use Rattle.plans.specs.Plan.{run_change, changed}
 use Rattle.gathers.specs.declared.Move.{Move}
-use Rattle.gathers.specs.declared.Gathered.{Gathered}
-use Rattle.gathers.specs.declared.Gathered.TheVariants.{InPlace, Relocated, Err}
-use Rattle.gathers.specs.Call.{moved_sectors, gather_changed, gather_call, MoveInRange}
+use Rattle.gathers.specs.Call.{moved_sectors, GatherAnswer, gather_changed, gather_call, MoveInRange}
 use Rattle.gathers.proofs.Listed.{length-run_sectors, run_snoc, number-place}
 use Rattle.gathers.proofs.Call.{reported_refused, reported_stays, reported_went}
 use Rattle.byte_lists.specs.Lists.{in_bytes, change_bytes_by, change_bytes}
@@ -69,15 +68,15 @@ module _ (l₀ l : List ℕ) (m : Move) (w : MoveInRange m (length l₀ / 2)) (e
 
 -- ---- the call
 
-module _ (n d b d' : List ℕ) (g : Gathered) (w : gather_changed g d' ≡ gather_call n d (length b / 2)) where
-  pub bytes-refused : (r : Refused) → g ≡ Err r → changed (refused (refusal_of r)) d' b ≡ change_bytes (gather n) d b
+module _ (n d b d' : List ℕ) (g : GatherAnswer) (w : gather_changed g d' ≡ gather_call n d (length b / 2)) where
+  pub bytes-refused : (r : Refused) → g ≡ Prelude.Err r → changed (refused (refusal_of r)) d' b ≡ change_bytes (gather n) d b
   unfolding change_bytes gather_call in_bytes
   bytes-refused = reported_refused d b d' in_bytes (sym (put-none b 0 [])) (λ x. change_bytes_by x d b) (λ r. refl) (λ new ss. refl) (run_change (gather n) d (length b / 2)) g w
 
-  pub bytes-stays : g ≡ InPlace → changed (done 0 0) d' b ≡ change_bytes (gather n) d b
+  pub bytes-stays : g ≡ Prelude.Ok Prelude.None → changed (done 0 0) d' b ≡ change_bytes (gather n) d b
   unfolding change_bytes gather_call in_bytes
   bytes-stays = reported_stays d b d' in_bytes (sym (put-none b 0 [])) (λ x. change_bytes_by x d b) (λ r. refl) (λ new ss. refl) (run_change (gather n) d (length b / 2)) g w
 
-  pub bytes_went : (m : Move) → g ≡ Relocated m → (b' : List ℕ) → b' ≡ put b 0 (in_bytes (moved_sectors m)) → changed (done (m.count + 1) 0) d' b' ≡ change_bytes (gather n) d b
+  pub bytes_went : (m : Move) → g ≡ Prelude.Ok (Prelude.Some m) → (b' : List ℕ) → b' ≡ put b 0 (in_bytes (moved_sectors m)) → changed (done (m.count + 1) 0) d' b' ≡ change_bytes (gather n) d b
   unfolding change_bytes gather_call in_bytes
   bytes_went = reported_went d b d' in_bytes (sym (put-none b 0 [])) (λ x. change_bytes_by x d b) (λ r. refl) (λ new ss. refl) (run_change (gather n) d (length b / 2)) g w

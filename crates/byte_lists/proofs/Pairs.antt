@@ -1,6 +1,6 @@
 -- Numbers as pairs of bytes: what a list has got after some of them, and the numbers read back.
 use Prim.Native.Nat.{ℕ, ◌+◌, ◌*◌, ◌/◌, ◌%◌, ◌≤◌, ◌<◌}
-use mathlib.Core.Path.{◌≡◌, refl, sym, ap, ◌∙◌, subst}
+use mathlib.Core.Path.{◌≡◌, refl, sym, ap, ◌∙◌}
 use mathlib.Core.List.{List, [], ◌∷◌, ◌++◌}
 use native.Mathlib.Numerals.{add-one}
 use native.Mathlib.Omega.{arith}
@@ -8,12 +8,7 @@ use lib.ListN.{length, get_or, take, set, length-append, length-set}
 use lib.Seq.{length-take-le, take-suc}
 use Rattle.buffers.specs.Bytes.{put}
 use Rattle.buffers.proofs.Lists.{length-put, put-none, put_next}
-use Rattle.refusals.specs.Answers.{done, outcome_of}
-use Rattle.refusals.specs.declared.Refused.{Refused}
-use Rattle.refusals.specs.declared.Answer.{Answer}
-use Rattle.refusals.specs.declared.Answer.TheVariants.{Done, Err}
-use Rattle.packing.specs.Packed.{outcome_value}
-use Rattle.byte_lists.specs.Lists.{in_bytes, CountFits}
+use Rattle.byte_lists.specs.Lists.{in_bytes}
 
 pub length_pairs : (ss : List ℕ) → length (in_bytes ss) ≡ 2 * length ss
 unfolding in_bytes
@@ -65,16 +60,3 @@ module _ (b₀ ss : List ℕ) (n : ℕ) (b : List ℕ) (j : ℕ) (w : PairsLoop 
     enough = w.enough;
     room = w.room;
   }
-
--- ---- an answer and the numbers that it counts
-
-module _ (a : Answer) (ss b : List ℕ) (w : CountFits (outcome_of a) ss b) where
-  pub counted-done : (v f : ℕ) → a ≡ Done v f → CountFits (done v f) ss b
-  counted-done v f e = subst (λ (a : Answer). CountFits (outcome_of a) ss b) e w
-
-  pub reported_done : (v f : ℕ) → a ≡ Done v f → (b' : List ℕ) → b' ≡ put b 0 (in_bytes (take v ss)) → b' ≡ put b 0 (in_bytes (take (outcome_value (outcome_of a)) ss))
-  reported_done v f e b' p = p ∙ ap (λ (a : Answer). put b 0 (in_bytes (take (outcome_value (outcome_of a)) ss))) (sym e)
-
-  pub reported_no : (r : Refused) → a ≡ Err r → b ≡ put b 0 (in_bytes (take (outcome_value (outcome_of a)) ss))
-  unfolding in_bytes
-  reported_no r e = put-none b 0 [] ∙ ap (λ (a : Answer). put b 0 (in_bytes (take (outcome_value (outcome_of a)) ss))) (sym e)
