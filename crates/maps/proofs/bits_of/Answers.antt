@@ -2,6 +2,7 @@
 use Prim.Native.Nat.{ℕ, ◌+◌, ◌*◌, ◌/◌, ◌<◌, min}
 use mathlib.Core.Path.{◌≡◌, refl, ap, ◌∙◌}
 use native.Mathlib.Omega.{arith}
+use lib.Count.{ones}
 use lib.ListN.{length, get_or, take, length-take}
 use Rattle.buffers.specs.Bytes.{count, word}
 use Rattle.buffers.proofs.Counts.{count_le}
@@ -29,7 +30,7 @@ loop-byte-preserved c =
     let t : length (take c.min.result m) / 8 ≡ k = omega (arith, length-take c.min.result m) in
     let j = c.loop-byte.byte-index in
     let bytes : (b : ℕ) → get_or m b 0 < 256 = λ b. omega (arith, c.type_inv.m b) in
-    let e = rest_more m bytes c.min.result k j c.loop-byte.sum c.as_chunks.result.1.now (rw t at c.as_chunks.ensures.back) c.loop-byte-test.true c.loop-byte.invariant.1 in
+    let e = ap (λ (x : ℕ). c.loop-byte.sum + ones x) c.from.ensures ∙ rest_more m bytes c.min.result k j c.loop-byte.sum c.as_chunks.result.1.now (rw t at c.as_chunks.ensures.back) c.loop-byte-test.true c.loop-byte.invariant.1 in
     (omega (arith, e, count_le (8 * (8 * k + (j + 1))) (has m)), e)
 
 pub returns : goal.returns
