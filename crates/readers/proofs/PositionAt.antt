@@ -49,24 +49,6 @@ pub standing_not : (d : List ℕ) (p : Place) → is_reader_place d p ≡ false 
 unfolding position_at
 standing_not d p e = rw e
 
-pub not_long : (d : List ℕ) (p : Place) → (length d ≡ image_size → ⊥) → is_reader_place d p ≡ false
-unfolding is_reader_place
-not_long d p h = rw (ne_eqb (length d) image_size h)
-
-module _ (d : List ℕ) (p : Place) (e : length d ≡ image_size) where
-  pub not_sector : 1600 ≤ p.sector → is_reader_place d p ≡ false
-  unfolding is_reader_place
-  not_sector h = rw (eq-eqb (length d) image_size e, le-ltb p.sector 1600 h)
-
-  module _ (s : p.sector < 1600) where
-    pub not_payload : 510 ≤ p.offset → is_reader_place d p ≡ false
-    unfolding is_reader_place
-    not_payload h = rw (eq-eqb (length d) image_size e, lt-ltb p.sector 1600 s, le-ltb p.offset 510 h)
-
-    pub not_left : p.offset < 510 → longest < p.left → is_reader_place d p ≡ false
-    unfolding is_reader_place
-    not_left o h = rw (eq-eqb (length d) image_size e, lt-ltb p.sector 1600 s, lt-ltb p.offset 510 o, lt-leb p.left longest h)
-
 -- no sector has the number 1,600
 pub at_end : (d : List ℕ) (p : Place) → p.sector ≡ 1600 → position_at d p ≡ no_position
 unfolding position_at is_reader_place
