@@ -2,7 +2,7 @@
 // and it writes the directory sector of that slot alone.
 #![tactic(auto)]
 
-ghost use Rattle.std.specs.Prelude.{◌≡◌, [], ◌∷◌, ◌+◌, ◌≤◌, ◌<◌, length};
+ghost use Rattle.std.specs.Prelude.{◌≡◌, ◌+◌};
 ghost use Rattle.buffers.specs.Bytes.{put};
 ghost use Rattle.directory.specs.Places.{slot_at};
 ghost use Rattle.directory.specs.Directory.{directory};
@@ -20,30 +20,15 @@ use refusals::{Reason, Refused, refuse};
 fn is_printable(name: &[u8]) -> bool
     ensures { result ≡ all_between 32 name.now 126 }
 {
-    let mut i: usize = 0;
-    while i < name.len() {
-        if name[i] < 32 {
-            return false;
-        }
-        if 126 < name[i] {
-            return false;
-        }
-        i += 1;
-    }
-    true
+    name.iter().all(|b| 32 <= *b && *b <= 126)
 }
 
 // Whether a name can be given to a file.
+#[tactic(auto, unfolding(plans::specs::Change::usable))]
 pub fn is_usable(name: &[u8]) -> bool
     ensures { result ≡ usable name.now }
 {
-    if !names::is_askable(name) {
-        return false;
-    }
-    if !is_printable(name) {
-        return false;
-    }
-    buffers::byte_at(name, 0) != 32
+    names::is_askable(name) && is_printable(name) && buffers::byte_at(name, 0) != 32
 }
 
 // Puts bytes at place `o` of slot `i`.
@@ -54,24 +39,16 @@ fn put_in_slot(image: &mut [u8], i: usize, o: usize, y: &[u8])
     buffers::copy_into(image, directory::slot_place(i) + o, y);
 }
 
-// Puts one sector number to the front of a list.
-fn put_number(list: &mut [u16], n: usize)
-    requires { (1 ≤ length list.old) × (n < 65536) }
-    ensures { list.new ≡ put list.old 0 (n ∷ []) }
-{
-    list[0] = n as u16;
-}
-
 // Writes a change that only the list can still refuse.
 fn touch(image: &mut [u8], i: usize, o: usize, y: &[u8], list: &mut [u16]) -> Result<usize, Refused>
     requires { ByteInSlot image.old i o }
     ensures { ReturnsPlan (put_plan image.old i o y.now) image.old list.old result image.new list.new }
 {
-    if list.len() < 1 {
+    if list.is_empty() {
         return refuse(Reason::BufferTooShort, 0);
     }
     put_in_slot(image, i, o, y);
-    put_number(list, directory::dir_sector(i));
+    buffers::put_number(list, 0, directory::dir_sector(i) as u16);
     Ok(1)
 }
 
@@ -121,16 +98,11 @@ fn taken_by(image: &[u8], i: usize, new: &[u8]) -> Option<usize>
     ensures { found_at result ≡ taken_by (directory image.now) i (file_at (view image.now) i) new.now }
 {
     let j = directory::find(image, new)?;
-    if j != i {
-        return Some(j);
+    let own = slots::name_of(directory::slot_at(image, i));
+    if j == i && !names::same_bytes(own, &names::padded_name(new)) {
+        return None;
     }
-    if names::same_bytes(
-        slots::name_of(directory::slot_at(image, i)),
-        &names::padded_name(new),
-    ) {
-        return Some(j);
-    }
-    None
+    Some(j)
 }
 
 // Gives the file in slot `i` a name that is fit for one.

@@ -1,26 +1,15 @@
--- `changes::is_printable` meets its contract: the bytes passed are all of 32 to 126, so the answer is that of the bytes left.
-use Prim.Native.Nat.{◌-◌, ◌≤◌}
-use mathlib.Core.Path.{◌≡◌, refl, sym, ◌∙◌}
-use native.Mathlib.Omega.{arith}
-use lib.ListN.{length, drop}
-use Rattle.plans.specs.Change.{all_between}
-use Rattle.changes.proofs.Usable.{between-low, between-high, between_more, between_end}
-use borrow.Author.Rules.{rules}
+-- `changes::is_printable` meets its contract: the definition recurs over the bytes as `all` goes over them.
+use mathlib.Core.Path.{refl, ◌∙◌}
+use Rattle.std.proofs.Common.{rules, tests, Bool, ◌&&◌}
+use Rattle.std.specs.List.{list_all}
+use Rattle.std.proofs.lemmas.Iterator.{YieldsList-from_slice}
+use Rattle.std.proofs.lemmas.Iterator.Search.{all_from_yields_List}
+use Rattle.std.proofs.lemmas.List.Recursion.{same_from_clauses}
+use Rattle.plans.specs.Change.{between, all_between}
 use Rattle.changes.proofs.is_printable.Goals as goal
 
-pub loop-i-init : goal.loop-i-init
-loop-i-init c = (omega arith, refl)
-
-pub returns-then-name-i-lt32 : goal.returns-then-name-i-lt32
-returns-then-name-i-lt32 c = sym (c.loop-i.invariant.1 ∙ between-low _ _ c.loop-i-test.true c.if-name-i-lt32.true)
-
-pub returns-then-name-i-gt126 : goal.returns-then-name-i-gt126
-returns-then-name-i-gt126 c =
-    sym (c.loop-i.invariant.1 ∙ between-high _ _ c.loop-i-test.true c.if-name-i-lt32.false c.if-name-i-gt126.true)
-
-pub loop-i-preserved : goal.loop-i-preserved
-loop-i-preserved c =
-    (omega arith, c.loop-i.invariant.1 ∙ between_more _ _ c.loop-i-test.true c.if-name-i-lt32.false (omega arith))
-
 pub returns : goal.returns
-returns c = sym (c.loop-i.invariant.1 ∙ between_end _ _ c.loop-i-test.false)
+returns c =
+    let n = c.args.name.now in
+    all_from_yields_List (λ x. between 32 x 126) _ _ _ c.all.ensures.ran (YieldsList-from_slice n cc) (λ x b q k. search (rules, tests))
+    ∙ same_from_clauses (list_all (λ x. between 32 x 126)) (λ xs. all_between 32 xs 126) (λ x (r : Bool). between 32 x 126 && r) refl (λ _ _. refl) (λ _ _. refl) n

@@ -6,7 +6,6 @@ use Rattle.refusals.specs.Answers.{outcome_of}
 use Rattle.directory.specs.Find.{found_at}
 use Rattle.changes.proofs.Usable.{usable-padded}
 use Rattle.changes.proofs.Laws.{settled_no, settled_as, barring, taken_below, plan_taken, plan_new}
-use borrow.Author.Rules.{rules}
 use Rattle.changes.proofs.rename_at.Goals as goal
 
 pub overflow_add-j : goal.overflow_add-j

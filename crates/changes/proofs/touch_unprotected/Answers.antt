@@ -1,13 +1,8 @@
 -- `changes::touch_unprotected` meets its contract: 17 where the slot says so, and else what is written.
 use mathlib.Core.Path.{sym, ap, ◌∙◌}
-use native.Mathlib.Omega.{arith}
 use Rattle.refusals.specs.Answers.{outcome_of}
 use Rattle.changes.proofs.Laws.{settled_no, settled_as, plan-protected, plan_released}
-use borrow.Author.Rules.{rules}
 use Rattle.changes.proofs.touch_unprotected.Goals as goal
-
-pub overflow_add-i : goal.overflow_add-i
-overflow_add-i c = omega (arith, c.requires.slot.below)
 
 pub returns-then-is_protected : goal.returns-then-is_protected
 returns-then-is_protected c =
