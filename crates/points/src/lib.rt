@@ -11,9 +11,7 @@ use refusals::Refused;
 mod calls; // the calls that change a disk, each with its line
 pub mod disks; // disks of few files, and full ones
 
-pub use calls::{BASIC, CODE, Particulars, erased, erased_as, marked, renamed, saved, saved_as};
-
-pub const LARGEST: usize = 18446744073709551615;
+pub use calls::{BASIC, CODE, erased, erased_as, marked, renamed, saved, saved_as};
 
 // An empty disk.
 pub fn blank() -> [u8; 819200]
@@ -31,7 +29,7 @@ pub fn set(bytes: &mut [u8], at: usize, b: u8) {
 }
 
 pub fn low(n: usize) -> u8 {
-    (n % 256) as u8
+    n.to_le_bytes()[0]
 }
 
 // Two bytes at a place, and those that were there.

@@ -93,8 +93,8 @@ fn asked(image: &mut [u8], stored: u8, asked: u8) {
     let front = [stored];
     buffers::copy_into(image, 1, &front);
     let name = [asked, 85, 78, 69, 83];
-    points::number(b"byte ", stored as usize);
-    points::number(b" stored, ", asked as usize);
+    points::number(b"byte ", usize::from(stored));
+    points::number(b" stored, ", usize::from(asked));
     points::say(b" asked for, ");
     points::started(b"the file", image, &name);
 }

@@ -79,8 +79,8 @@ fn start_line(image: &mut [u8], page: u8, low: u8, high: u8) {
     points::set(image, 236, page);
     points::set(image, 237, low);
     points::set(image, 238, high);
-    points::number(b"page byte ", page as usize);
-    points::number(b", offset ", low as usize + 256 * high as usize);
+    points::number(b"page byte ", usize::from(page));
+    points::number(b", offset ", usize::from(u16::from_le_bytes([low, high])));
     points::say(b": ");
     points::started(b"FILE A", image, b"FILE A");
 }

@@ -49,22 +49,22 @@ fn sectors() {
     sector_line(208, 1);
     sector_line(4, 0);
     sector_line(4, 11);
-    sector_line(points::LARGEST, 1);
-    sector_line(4, points::LARGEST);
+    sector_line(usize::MAX, 1);
+    sector_line(4, usize::MAX);
     bit_line(0);
     bit_line(759);
     bit_line(760);
     bit_line(1559);
     bit_line(1560);
-    bit_line(points::LARGEST);
+    bit_line(usize::MAX);
 }
 
 fn count_line(high: u8, low: u8) {
     let mut s = [0u8; 256];
     s[11] = high;
     s[12] = low;
-    points::number(b"count bytes ", high as usize);
-    points::number(b" ", low as usize);
+    points::number(b"count bytes ", usize::from(high));
+    points::number(b" ", usize::from(low));
     points::line(b": ", slots::count_of(&s));
 }
 
@@ -73,9 +73,9 @@ fn length_line(pages: u8, low: u8, high: u8) {
     s[239] = pages;
     s[240] = low;
     s[241] = high;
-    points::number(b"length bytes ", pages as usize);
-    points::number(b" ", low as usize);
-    points::number(b" ", high as usize);
+    points::number(b"length bytes ", usize::from(pages));
+    points::number(b" ", usize::from(low));
+    points::number(b" ", usize::from(high));
     points::number(b": pages ", slots::pages_of(&s));
     points::number(b", remainder ", slots::remainder_of(&s));
     points::line(b", length ", slots::length_of(&s));

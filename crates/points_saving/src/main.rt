@@ -1,7 +1,7 @@
 // Points of document 01: save, up to the largest body that a disk holds.
 #![tactic(auto)]
 
-use points::Particulars;
+use allocation::HeaderFields;
 
 // The largest body that a disk holds, and the next.
 fn largest(image: &mut [u8], body: &[u8], list: &mut [u16]) {
@@ -74,7 +74,7 @@ fn unfit_start(
     offset: usize,
     list: &mut [u16],
 ) {
-    let file = Particulars { kind, page, offset };
+    let file = HeaderFields { kind, page, offset };
     points::saved_as(what, image, file, b"FILE X", b"", list);
 }
 
