@@ -22,12 +22,19 @@ struct Codes {
 }
 
 impl Codes {
-    // The code of the directory above, by the table; 0 past its end.
+    // An entry of the table; 0 past its end. Not by `get`, an Option of a reference, which cross/guard refuses.
+    #[tactic(auto, using(buffers::proofs::Lists::past_end))]
+    fn entry_at(&self, code: usize) -> u16
+        ensures { result ≡ get_or self.now.above code 0 }
+    {
+        if code < 256 { self.above[code] } else { 0 }
+    }
+
+    // The code of the directory above, by the table; 0 where there is none.
     fn step_up(&self, code: usize) -> usize
         ensures { result ≡ get_or self.now.above code 0 - 1 }
     {
-        let entry = self.above.get(code).copied().unwrap_or(0);
-        usize::from(entry).saturating_sub(1)
+        usize::from(self.entry_at(code)).saturating_sub(1)
     }
 
     // Whether going up from a directory comes back to it, within as many steps as there are directories. `passed` has those
@@ -55,7 +62,7 @@ impl Codes {
         ensures { result ≡ is_orphan self.now.above s.now }
     {
         let parent = slots::parent_of(s);
-        parent != 0 && self.above.get(parent).copied().unwrap_or(0) == 0
+        parent != 0 && self.entry_at(parent) == 0
     }
 
     // 27 and 28 at a live slot.
