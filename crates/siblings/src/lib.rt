@@ -10,7 +10,11 @@ ghost use Rattle.siblings.specs.Links.{links_of, link_entry};
 pub fn link_at(links: &[u16; 1034], k: usize) -> usize
     ensures { result ≡ link_entry links.now k }
 {
-    usize::from(links.get(k).copied().unwrap_or(0))
+    if k < links.len() {
+        usize::from(links[k])
+    } else {
+        0
+    }
 }
 
 // 256 numbers by code, the first slot in the directory with that code; then one for each slot, the next slot in the directory
