@@ -224,8 +224,8 @@ pub fn close(image: &mut [u8], kept: &Record, list: &mut [u16]) -> Result<usize,
     let used = disk::examine(image)?.used;
     // No disk holds more sectors than 1,560, and past the largest number they could not be counted.
     let n = (kept.long.min(795592) + 518) / 510;
-    if recording_links::follow(image, used, &kept.used, kept.tracks, n).is_none() {
-        return refuse(Reason::RecordingMoved, 0);
+    match recording_links::follow(image, used, &kept.used, kept.tracks, n) {
+        None => refuse(Reason::RecordingMoved, 0),
+        Some(_) => close_still(image, used, kept, list),
     }
-    close_still(image, used, kept, list)
 }
