@@ -22,6 +22,7 @@ pub struct HeaderFields {
 }
 
 // Rows 12, 13 and 14, which go by the arguments alone.
+#[tactic(auto, unfolding(crate::specs::Taken::request_reply))]
 fn asked_rows(start: HeaderFields, name: &[u8]) -> Result<(), Refused>
     ensures { reply_of result ≡ request_reply start name.now }
 {
@@ -31,13 +32,7 @@ fn asked_rows(start: HeaderFields, name: &[u8]) -> Result<(), Refused>
     if !slots::is_carried(start.kind) {
         return refuse(Reason::WrongKind, 0);
     }
-    if 31 < start.page {
-        return refuse(Reason::StartOutOfRange, 0);
-    }
-    if start.offset < 32768 {
-        return refuse(Reason::StartOutOfRange, 0);
-    }
-    if 49151 < start.offset {
+    if 31 < start.page || start.offset < 32768 || 49151 < start.offset {
         return refuse(Reason::StartOutOfRange, 0);
     }
     Ok(())
@@ -48,13 +43,9 @@ fn free_slot(image: &[u8]) -> Option<usize>
     ensures { found_at result ≡ lowest_slot (tracks_of image.now) (directory image.now) }
 {
     let end = directory::slots_read(image);
-    let mut i: usize = 0;
-    while i < end {
-        let s = directory::slot_at(image, i);
-        let k = i;
-        i += 1;
-        if !slots::is_live(s) {
-            return Some(k);
+    for i in 0..end {
+        if !slots::is_live(directory::slot_at(image, i)) {
+            return Some(i);
         }
     }
     if end < directory::slots_in(image) {
@@ -68,33 +59,31 @@ pub fn slot_for(image: &[u8], start: HeaderFields, name: &[u8]) -> Result<usize,
     ensures { lookup_of result ≡ slot_for_save image.now start name.now }
 {
     asked_rows(start, name)?;
-    match directory::find(image, name) {
-        Some(i) => refuse(Reason::NameTaken, i + 1),
-        None => match free_slot(image) {
-            Some(i) => Ok(i),
-            None => refuse(Reason::NoFreeSlot, 0),
-        },
+    if let Some(i) = directory::find(image, name) {
+        return refuse(Reason::NameTaken, i + 1);
+    }
+    match free_slot(image) {
+        Some(i) => Ok(i),
+        None => refuse(Reason::NoFreeSlot, 0),
     }
 }
 
 // The bits that a save cannot take: those of the used map, and those inside the directory.
+#[tactic(auto, unfolding(crate::specs::Taken::unavailable_map))]
 pub fn unavailable_bits(used: UsedMap) -> [u8; 195]
     ensures { result ≡ unavailable_map used }
 {
-    let bytes = used.bytes;
     let mut map = slots::inner_map(used.tracks);
-    maps::join_into(&mut map, &bytes);
+    maps::join_into(&mut map, &used.bytes);
     map
 }
 
 // Whether all eight bits of a map from `b` on are set, and `b` is the first of a byte.
+#[tactic(auto, unfolding(crate::specs::Taken::full_byte))]
 fn is_full(map: &[u8], b: usize) -> bool
     ensures { result ≡ full_byte map.now b }
 {
-    if b % 8 != 0 {
-        return false;
-    }
-    buffers::byte_at(map, b / 8) == 255
+    b % 8 == 0 && buffers::byte_at(map, b / 8) == 255
 }
 
 // Puts the `n` lowest clear bits of a map to the front of a list, as many as it has room for. Of a byte that is full no bit
@@ -102,26 +91,19 @@ fn is_full(map: &[u8], b: usize) -> bool
 pub fn pick_bits(map: &[u8], n: usize, list: &mut [u16])
     ensures { list.new ≡ put list.old 0 (lowest_clear_bits map.now n) }
 {
+    let room = n.min(list.len());
     let mut j: usize = 0;
     let mut b: usize = 0;
-    while b < 1560 {
-        if n <= j {
-            return;
-        }
-        if list.len() <= j {
-            return;
-        }
-        let c = b;
-        if !maps::has_bit(map, c) {
-            b += 1;
-            list[j] = c as u16;
+    // Not `for`: a byte that is full is passed in one step.
+    while b < 1560 && j < room {
+        if !maps::has_bit(map, b) {
+            list[j] = b as u16;
             j += 1;
+            b += 1;
+        } else if is_full(map, b) {
+            b += 8;
         } else {
-            if is_full(map, c) {
-                b += 8;
-            } else {
-                b += 1;
-            }
+            b += 1;
         }
     }
 }
@@ -131,15 +113,14 @@ pub fn next_clear(map: &[u8], from: usize) -> usize
     ensures { result ≡ next_clear map.now from }
 {
     let mut b = from;
+    // Not `for`: a byte that is full is passed in one step.
     while b < 1560 {
-        let c = b;
-        if is_full(map, c) {
+        if is_full(map, b) {
             b += 8;
-        } else {
+        } else if maps::has_bit(map, b) {
             b += 1;
-            if !maps::has_bit(map, c) {
-                return c;
-            }
+        } else {
+            return b;
         }
     }
     1560
