@@ -20,7 +20,12 @@ use refusals::{Reason, Refused, refuse};
 fn is_printable(name: &[u8]) -> bool
     ensures { result ≡ all_between 32 name.now 126 }
 {
-    name.iter().all(|b| 32 <= *b && *b <= 126)
+    for b in name {
+        if *b < 32 || 126 < *b {
+            return false;
+        }
+    }
+    true
 }
 
 // Whether a name can be given to a file.
