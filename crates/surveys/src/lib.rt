@@ -147,20 +147,13 @@ fn unused(tracks: usize) -> UsedMap
     }
 }
 
-// The used map with one more map, of which it has no bit yet; `own` is that map's number of set bits, counted before.
-fn joined(used: UsedMap, map: &[u8], own: usize) -> UsedMap
-    requires { DisjointMaps used map.now own }
-    ensures { result ≡ counted used.tracks (join used.bytes map.now) }
+// Joins one more map to the used map, which has no bit of it yet; `own` is that map's number of set bits, counted before.
+fn join(used: &mut UsedMap, map: &[u8], own: usize)
+    requires { DisjointMaps used.old map.now own }
+    ensures { used.new ≡ counted used.old.tracks (join used.old.bytes map.now) }
 {
-    let mut bytes = used.bytes;
-    maps::join_into(&mut bytes, map);
-    let count = used.count + own;
-    let tracks = used.tracks;
-    UsedMap {
-        bytes,
-        count,
-        tracks,
-    }
+    maps::join_into(&mut used.bytes, map);
+    used.count += own;
 }
 
 // Rows 2 to 9 at all slots, with 22 where `release` asks for it, the used map, and how many slots are live.
@@ -177,21 +170,16 @@ pub fn survey_slots(dir: &[u8], release: bool) -> Result<Survey, Refused>
             live_rows(dir, i, s, &used.bytes, &filter, release, tracks)?;
             insert(&mut filter, names::key_of(slots::name_of(s)));
             files += 1;
-            used = joined(used, slots::map_of(s), slots::count_of(s));
+            join(&mut used, slots::map_of(s), slots::count_of(s));
         }
     }
     Ok(Survey { used, files })
 }
 
 // The sectors that a used map leaves free: 0 where its count is no map's.
+#[tactic(auto, unfolding(crate::specs::Survey::free_of))]
 pub fn free_of(used: UsedMap) -> usize
     ensures { result ≡ free_of used }
 {
-    let count = used.count;
-    let tracks = used.tracks;
-    let most = slots::data_count(tracks);
-    if most < count {
-        return 0;
-    }
-    most - count
+    slots::data_count(used.tracks).saturating_sub(used.count)
 }

@@ -35,8 +35,8 @@ returns-in_err-live_rows c =
 pub overflow_add-files : goal.overflow_add-files
 overflow_add-files c = omega (arith, kept-few _ _ _ _ c.loop-i.invariant.2)
 
-pub joined-used-requires : goal.joined-used-requires
-joined-used-requires c =
+pub join-requires : goal.join-requires
+join-requires c =
     let a = c.loop-i in
     let met : a.i < slots_read c.args.dir.now = omega (arith, c.loop-i-test.true, c.slots_read-i-end.ensures.0) in
     apart _ (tracks_of c.args.dir.now) a.i _ a.invariant.0 _ (met_live _ _ c.slot_at-s.ensures c.is_live.ensures met c.if-is_live.true) c.map_of.ensures c.count_of.ensures.0
@@ -52,7 +52,7 @@ loop-i-preserved c =
           let live : directory d a.i ≡ some c.slot_at-s.result.now = met_live _ _ c.slot_at-s.ensures c.is_live.ensures met w.if-is_live.true in
           let passed : survey_at c.args.release (tracks_of d) (directory d) a.i ≡ none = rw (← c.tracks_of-tracks.ensures.0) (sym w.in_ok-live_rows.ensures) in
           rw (w.used-is, w.filter-is, w.files-is) (
-            used-more _ _ a.i _ a.invariant.0 _ live w.map_of.ensures _ w.joined-used.ensures,
+            used-more _ _ a.i _ a.invariant.0 _ live w.map_of.ensures _ w.join.ensures,
             a.invariant.1 ∙ scan_skip slots a.i _ (omega (arith, met, read-most d)) passed,
             kept-live _ _ _ _ a.invariant.2 _ live w.name_of.ensures w.key_of.ensures w.insert.ensures,
           )
