@@ -21,6 +21,7 @@ fn all_chains(image: &[u8], files: usize) -> Result<(), Refused>
 {
     let mut seen: usize = 0;
     let mut i: usize = 0;
+    // No plainer: the loop ends on the files that were seen, so that no slot past the last live one is looked at.
     while seen < files {
         let s = directory::slot_at(image, i);
         i += 1;

@@ -1,5 +1,5 @@
 -- Laws of the listing: entries and live slots, one slot more, and how long the entries are.
-use Prim.Native.Nat.{ℕ, zero, suc, ◌+◌, ◌-◌, ◌*◌, ◌≤◌, ◌<◌}
+use Prim.Native.Nat.{ℕ, zero, suc, ◌+◌, ◌-◌, ◌*◌, ◌/◌, ◌%◌, ◌≤◌, ◌<◌}
 use mathlib.Core.Path.{◌≡◌, refl, sym, ap, ◌∙◌}
 use mathlib.Core.Bool.{true, false, cond}
 use mathlib.Core.List.{List, [], ◌∷◌, ◌++◌, append-nil}
@@ -70,8 +70,10 @@ entries-long d h (suc k) l =
         omega (arith, slot-long d k s q h)
 
 -- the two bytes of a number, and then the slot's
-pub put-number : (d e f : List ℕ) (a x y : ℕ) (s : List ℕ) → e ≡ put d a (x ∷ y ∷ []) → f ≡ put e (a + 2) s → f ≡ put d a (x ∷ y ∷ s)
-put-number d e f a x y s p q = q ∙ ap (λ (l : List ℕ). put l (a + 2) s) p ∙ put-append d a (x ∷ y ∷ []) s
+pub put-number : (d e f : List ℕ) (a n : ℕ) {h : List ℕ} (s : List ℕ) → n < 65536 → h ≡ n % 256 ∷ n / 256 % 256 ∷ [] → e ≡ put d a h → f ≡ put e (a + 2) s → f ≡ put d a (listing_entry n s)
+put-number d e f a n s k z p q =
+    let b : n / 256 % 256 ≡ n / 256 = omega arith in
+    q ∙ ap (λ (l : List ℕ). put l (a + 2) s) (p ∙ ap (put d a) (z ∙ ap (λ (m : ℕ). n % 256 ∷ m ∷ []) b)) ∙ put-append d a (n % 256 ∷ n / 256 ∷ []) s
 
 -- after i slots: the place of the next entry, and the buffer with those before it
 pub record ListLoop (d buf : List ℕ) (i at : ℕ) (now : List ℕ) : Type 0 where

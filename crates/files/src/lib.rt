@@ -32,7 +32,7 @@ fn put_entry(buf: &mut [u8], at: usize, number: usize, s: &[u8])
     requires { (at ≤ 200724) × (number ≤ 778) }
     ensures { buf.new ≡ put buf.old at (listing_entry number s.now) }
 {
-    let head = [(number % 256) as u8, (number / 256) as u8];
+    let head = (number as u16).to_le_bytes();
     buffers::copy_into(buf, at, &head);
     buffers::copy_into(buf, at + 2, s);
 }
@@ -44,6 +44,7 @@ fn list_into(dir: &[u8], end: usize, buf: &mut [u8])
 {
     let mut at: usize = 0;
     let mut i: usize = 0;
+    // No plainer: the loop ends on the entries that are put, so that no slot past the last live one is looked at.
     while at < end {
         let s = directory::slot_at(dir, i);
         i += 1;
@@ -129,6 +130,7 @@ fn copy_body(image: &[u8], s: &[u8], buf: &mut [u8])
     let mut at = geometry::bit_place(slots::first_of(s));
     let mut from: usize = 9;
     let mut done: usize = 0;
+    // No plainer: the loop goes along the chain's links, by runs.
     while done < len {
         let track = buffers::num_at(image, at + 510);
         let number = buffers::num_at(image, at + 511);
