@@ -309,6 +309,3 @@ word_in zero a n m j h = refl
 word_in (suc k) a n m j h =
     let e : 0 + j ≡ j = omega arith in
     rw (e, part_at a n m j (omega arith), word_in k a n m (suc j) (omega arith))
-
-pub word-part : (m : List ℕ) (a n : ℕ) → n ≡ 8 → a + 8 ≤ length m → word_or (part a n m) 0 ≡ word 8 m a 0
-word-part m a n e h = word-there (part a n m) 0 (omega (arith, part-long a n m (omega arith))) ∙ word_in 8 a n m 0 (omega arith)

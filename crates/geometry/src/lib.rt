@@ -103,7 +103,8 @@ fn entry_of(bit: usize) -> usize
     }
 }
 
-// From the table. A call puts the whole table on the stack, so loops use `bit_place`.
+// From the table. What the library's calls reach uses `bit_place`: it may hold no table of numbers, since each machine lays these
+// out in a way of its own (cross/guard).
 #[tactic(auto, using(crate::proofs::Laws::place_or_end_lem), unfolding(crate::specs::Disk::spot_of_bit))]
 pub fn place_of_bit(bit: usize) -> Option<usize>
     ensures { result ≡ spot_of_bit bit }
