@@ -56,8 +56,8 @@ fn list_into(dir: &[u8], end: usize, buf: &mut [u8])
 }
 
 // Lists the files of an accepted disk, of which `found` was found.
-fn list_accepted(image: &[u8], found: Survey, buf: &mut [u8]) -> Result<Listed, Refused>
-    requires { CheckedDisk image.now found.used × (found.files ≡ live_among (directory image.now) slots) }
+fn list_accepted(image: &[u8], found: &Survey, buf: &mut [u8]) -> Result<Listed, Refused>
+    requires { CheckedDisk image.now found.now.used × (found.now.files ≡ live_among (directory image.now) slots) }
     ensures { out (listed_outcome result) buf.new ≡ listing image.now buf.old }
 {
     let files = found.files;
@@ -77,7 +77,7 @@ pub fn list(image: &[u8], buf: &mut [u8]) -> Result<Listed, Refused>
     ensures { out (listed_outcome result) buf.new ≡ listing image.now buf.old }
 {
     let found = disk::examine(image)?;
-    list_accepted(image, found, buf)
+    list_accepted(image, &found, buf)
 }
 
 // A live slot, counted from 0, by its name; or what is refused before it is found: the disk check's numbers, 12, 15.
