@@ -17,16 +17,16 @@ overflow_add-b c =
     let stretched : UniformBits c.args.map.now c.loop-b.b c.stretch_at-k.result = alike _ _ _ c.loop-b-test.true c.stretch_at-k.ensures in
     omega (arith, stretched.inside)
 
-pub loop-b-smaller-then-has_bit : goal.loop-b-smaller-then-has_bit
-loop-b-smaller-then-has_bit c =
+pub loop-b-smaller-then-is_set : goal.loop-b-smaller-then-is_set
+loop-b-smaller-then-is_set c =
     let stretched : UniformBits c.args.map.now c.loop-b.b c.stretch_at-k.result = alike _ _ _ c.loop-b-test.true c.stretch_at-k.ensures in
     let h = c.loop-b-test.true in omega (arith, stretched.some)
 
-pub loop-b-preserved-then-has_bit : goal.loop-b-preserved-then-has_bit
-loop-b-preserved-then-has_bit c =
+pub loop-b-preserved-then-is_set : goal.loop-b-preserved-then-is_set
+loop-b-preserved-then-is_set c =
     let stretched : UniformBits c.args.map.now c.loop-b.b c.stretch_at-k.result = alike _ _ _ c.loop-b-test.true c.stretch_at-k.ensures in
     let l = c.loop-b in
-    trail_set _ _ l.len l.b _ l.invariant stretched (sym c.has_bit.ensures ∙ c.if-has_bit.true)
+    trail_set _ _ l.len l.b _ l.invariant stretched (sym c.has_bit-is_set.ensures ∙ c.if-is_set.true)
 
 pub overflow_add-len : goal.overflow_add-len
 overflow_add-len c =
@@ -40,7 +40,7 @@ pub returns-then-count-len : goal.returns-then-count-len
 returns-then-count-len c =
     let stretched : UniformBits c.args.map.now c.loop-b.b c.stretch_at-k.result = alike _ _ _ c.loop-b-test.true c.stretch_at-k.ensures in
     let l = c.loop-b in
-    trail_found _ _ l.len l.b _ l.invariant stretched (sym c.has_bit.ensures ∙ c.if-has_bit.false) c.if-count-len.true
+    trail_found _ _ l.len l.b _ l.invariant stretched (sym c.has_bit-is_set.ensures ∙ c.if-is_set.false) c.if-count-len.true
 
 pub loop-b-smaller : goal.loop-b-smaller
 loop-b-smaller c =
@@ -51,7 +51,7 @@ pub loop-b-preserved : goal.loop-b-preserved
 loop-b-preserved c =
     let stretched : UniformBits c.args.map.now c.loop-b.b c.stretch_at-k.result = alike _ _ _ c.loop-b-test.true c.stretch_at-k.ensures in
     let l = c.loop-b in
-    trail_clear _ _ l.len l.b _ l.invariant stretched (sym c.has_bit.ensures ∙ c.if-has_bit.false) c.if-count-len.false
+    trail_clear _ _ l.len l.b _ l.invariant stretched (sym c.has_bit-is_set.ensures ∙ c.if-is_set.false) c.if-count-len.false
 
 pub returns : goal.returns
 returns c = let l = c.loop-b in trail_none _ _ l.len l.b l.invariant c.loop-b-test.false
