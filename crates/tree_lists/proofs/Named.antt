@@ -1,22 +1,21 @@
 -- 12, 13 and 15 of a directory's name, and its code, as the code meets them.
-use Prim.Native.Nat.{ℕ, suc, ◌+◌, ◌<◌}
-use mathlib.Core.Path.{◌≡◌, refl, sym, ap, ◌∙◌}
-use mathlib.Core.Bool.{Bool, true, false, not, cond}
+use Prim.Native.Nat.{ℕ, ◌+◌, ◌<◌}
+use mathlib.Core.Path.{◌≡◌, sym, ap, ◌∙◌}
+use mathlib.Core.Bool.{true, false}
 use mathlib.Core.List.{List}
-use mathlib.Core.Option.{Option, none, some}
+use mathlib.Core.Option.{none, some}
 use native.Mathlib.Numerals.{add-one}
 use borrow.Author.Tests.{eq-eqb, ne_eqb}
-use lib.Dec.{eqb}
 use lib.ListN.{length}
-use Rattle.refusals.specs.Order.{Refusal, refuse, row}
+use Rattle.refusals.specs.Order.{refuse}
 use Rattle.slots.specs.Slot.{is_directory, code_of}
 use Rattle.names.specs.Name.{askable}
 use Rattle.directory.specs.Places.{slots}
-use Rattle.directory.specs.Directory.{fold_option, directory, slot_or}
+use Rattle.directory.specs.Directory.{directory, slot_or}
 use Rattle.directory.specs.Find.{find}
 use Rattle.directory.proofs.Ends.{slot_read}
 use Rattle.directory.proofs.Live.{directory-some}
-use Rattle.directory.proofs.Search.{find-some, FoundBy}
+use Rattle.directory.proofs.Search.{find-some}
 use Rattle.tree_lists.specs.Call.{name_reply, asked_code}
 
 -- the slot found, by its bytes

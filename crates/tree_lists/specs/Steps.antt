@@ -14,18 +14,16 @@ pub record CodeAsked (v : Directory) (n : List ℕ) (r : Result ℕ Refused) : T
   pub reply : reply_of r ≡ name_reply v n
   pub code : IfOk r (λ (c : ℕ). (c ≡ asked_code v n) × (c < 256))
 
--- a directory by its code, the links of the slots, and what is to be put at a place keeps within 65,535
-pub record FillRoom (d links : List ℕ) (left code from : ℕ) : Type 0 where
-  pub linked : links ≡ links_of (directory d)
+-- a directory by its code, where what is to be put at a place keeps within 65,535
+pub record FillRoom (d : List ℕ) (left code from : ℕ) : Type 0 where
   pub coded : code < 256
   pub room : from + length (beneath left (directory d) code) ≤ 65535
 
--- a directory by its code, where none of 26 to 28 holds: the links of the slots, and the number of directories
-pub record NestingAccepted (d links : List ℕ) (m code : ℕ) : Type 0 where
+-- where none of 26 to 28 holds: the links of the slots, and the number of directories
+pub record LinkedTree (d links : List ℕ) (m : ℕ) : Type 0 where
   pub none : tree_reply (directory d) ≡ none
   pub linked : links ≡ links_of (directory d)
   pub number : m ≡ directories (directory d)
-  pub coded : code < 256
 
 -- a list put at a place of a buffer, and the place after it
 pub record ListPut (buf : List ℕ) (at : ℕ) (l : List ℕ) (now : List ℕ) (r : ℕ) : Type 0 where

@@ -18,14 +18,6 @@ returns-in_err-code c =
     let e = err_from_is_err_and c.from_residual-in_err-code.result c.from_residual-in_err-code.ensures.1 in
     rw (e.1, e.2) (reported_unnamed _ _ _ (sym c.in_ok-check.ensures) (sym c.in_ok-number.ensures.reply) _ (sym c.in_err-code.ensures.reply))
 
-pub list_code-requires : goal.list_code-requires
-list_code-requires c = record {
-  none = sym c.in_ok-number.ensures.reply;
-  linked = c.link_slots-links.ensures;
-  number = c.in_ok-number.ensures.number;
-  coded = c.in_ok-code.ensures.code.1;
-}
-
 pub returns : goal.returns
 returns c =
     c.list_code.ensures
