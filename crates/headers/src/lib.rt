@@ -25,9 +25,8 @@ pub fn first_sector<'a>(image: &'a [u8], s: &[u8]) -> &'a [u8]
 fn header_differs(sector: &[u8], s: &[u8]) -> bool
     ensures { result ≡ header_differs (slot_fields s.now) sector.now }
 {
-    let remainder = (buffers::num_at(sector, 1) + 256 * buffers::num_at(sector, 2)) % 16384;
     buffers::num_at(sector, 0) != slots::kind_of(s)
-        || remainder != slots::remainder_of(s)
+        || slots::two_at(sector, 1) % 16384 != slots::remainder_of(s)
         || buffers::num_at(sector, 7) != slots::pages_of(s)
 }
 
@@ -35,14 +34,14 @@ fn header_differs(sector: &[u8], s: &[u8]) -> bool
 pub fn header_length(sector: &[u8]) -> usize
     ensures { (result ≡ header_length sector.now) × (result ≤ 65535) }
 {
-    buffers::num_at(sector, 1) + 256 * buffers::num_at(sector, 2)
+    slots::two_at(sector, 1)
 }
 
 // The start that it has.
 pub fn header_start(sector: &[u8]) -> usize
     ensures { (result ≡ header_start sector.now) × (result ≤ 65535) }
 {
-    buffers::num_at(sector, 3) + 256 * buffers::num_at(sector, 4)
+    slots::two_at(sector, 3)
 }
 
 // The length of a file's body: a Spectrum's header has it, and of any other kind the slot.

@@ -2,7 +2,7 @@
 // slice the missing bytes count as 0.
 #![tactic(auto)]
 
-ghost use Rattle.std.specs.Prelude.{◌≡◌, ◌+◌, ◌*◌, ◌≤◌, ◌<◌};
+ghost use Rattle.std.specs.Prelude.{◌≡◌, ◌+◌, ◌*◌, ◌≤◌, ◌<◌, get_or};
 ghost use Rattle.refusals.specs.Answers.{reply_of};
 ghost use Rattle.slots.specs.Slot.{is_live, is_nameless, hidden, protected, kind_of, known, carried, spectrum, readable, is_directory, code_of, parent_of, name_of, is_named, count_of, first_of, map_of, page_of, offset_of, pages_of, remainder_of, slot_fields, length_of};
 ghost use Rattle.slots.specs.Tracks.{data_count, inner_map, in_directory, clear_at, past_first};
@@ -113,6 +113,14 @@ pub fn count_of(s: &[u8]) -> usize
     buffers::num_at(s, 11) * 256 + buffers::num_at(s, 12)
 }
 
+// Two bytes as one number, low byte first.
+pub fn two_at(s: &[u8], i: usize) -> usize
+    requires { i < 256 }
+    ensures { (result ≡ get_or s.now i 0 + 256 * get_or s.now (i + 1) 0) × (result ≤ 65535) }
+{
+    usize::from(u16::from_le_bytes([buffers::byte_at(s, i), buffers::byte_at(s, i + 1)]))
+}
+
 // The first sector as a map bit: 1,560 where the slot names no data sector.
 pub fn first_of(s: &[u8]) -> usize
     ensures { (result ≡ first_of s.now) × (result ≤ 1560) }
@@ -135,7 +143,7 @@ pub fn page_of(s: &[u8]) -> usize
 pub fn offset_of(s: &[u8]) -> usize
     ensures { (result ≡ offset_of s.now) × (result ≤ 65535) }
 {
-    buffers::num_at(s, 237) + 256 * buffers::num_at(s, 238)
+    two_at(s, 237)
 }
 
 pub fn pages_of(s: &[u8]) -> usize
@@ -147,7 +155,7 @@ pub fn pages_of(s: &[u8]) -> usize
 pub fn remainder_of(s: &[u8]) -> usize
     ensures { (result ≡ remainder_of s.now) × (result < 16384) }
 {
-    (buffers::num_at(s, 240) + 256 * buffers::num_at(s, 241)) % 16384
+    two_at(s, 240) % 16384
 }
 
 // The length of a carried kind's body, as the slot has it.
