@@ -1,7 +1,7 @@
 -- A slot by its name, as the loop looks for it along a bucket.
 use Prim.Native.Nat.{ℕ, suc, ◌+◌, ◌-◌, ◌≤◌, ◌<◌}
 use mathlib.Core.Path.{◌≡◌, refl, sym, ap, ◌∙◌}
-use mathlib.Core.Bool.{Bool, true, false, cond, not, ◌&&◌, and-false, and-eq-true_iff, true≢false}
+use mathlib.Core.Bool.{Bool, true, false, and-eq-true_iff, true≢false}
 use mathlib.Core.List.{List, append-nil}
 use mathlib.Core.Logic.{⊎_elim}
 use mathlib.Core.Option.{Option, none, some, some-ne-none}
@@ -9,18 +9,16 @@ use native.Mathlib.Omega.{arith}
 use borrow.Author.Tests.{eqb-true}
 use lib.Dec.{eqb}
 use lib.ListN.{length, get_or}
-use Rattle.buffers.specs.Bytes.{any}
 use Rattle.buffers.proofs.Lists.{below_or_not}
-use Rattle.buffers.proofs.Counts.{any_none, none_any}
 use Rattle.maps.specs.Bits.{has}
-use Rattle.slots.specs.Slot.{is_live, is_named, name_of, parent_of}
-use Rattle.names.specs.Name.{same_name, Same, padded, key_of}
+use Rattle.slots.specs.Slot.{is_live, is_named, name_of}
+use Rattle.names.specs.Name.{same_name, Same, padded}
 use Rattle.names.proofs.Keys.{key_same}
 use Rattle.directory.specs.Places.{slots}
-use Rattle.directory.specs.Directory.{fold_option, Directory, directory, slots_read, slot_or}
+use Rattle.directory.specs.Directory.{fold_option, Directory, directory, slot_or}
 use Rattle.directory.specs.Find.{find}
 use Rattle.directory.proofs.Ends.{slot_read}
-use Rattle.directory.proofs.Live.{directory-some, directory-unread}
+use Rattle.directory.proofs.Live.{directory-some}
 use Rattle.directory.proofs.Search.{some-find, none-find}
 use Rattle.nesting.specs.Steps.{not_erased}
 use Rattle.nesting.proofs.Others.{left-gone, left_here, left_was}

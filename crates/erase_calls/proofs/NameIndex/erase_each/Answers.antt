@@ -1,5 +1,4 @@
 -- `erase_calls::NameIndex::erase_each` meets its contract: the first `k` names are answered.
-use native.Mathlib.Omega.{arith}
 use Rattle.erase_calls.proofs.EraseEach.{name-ten, settling_none, settling_more}
 use Rattle.erase_calls.proofs.NameIndex.erase_each.Goals as goal
 
