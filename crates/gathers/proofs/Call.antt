@@ -1,7 +1,7 @@
 -- What a gather comes to, by the tests that lead there.
-use Prim.Native.Nat.{ℕ, suc, ◌+◌, ◌≤◌, ◌<◌}
+use Prim.Native.Nat.{ℕ, ◌+◌, ◌≤◌, ◌<◌}
 use mathlib.Core.Path.{◌≡◌, refl, sym, ap, ap₂, ◌∙◌, subst}
-use mathlib.Core.Bool.{Bool, true, false, cond, not}
+use mathlib.Core.Bool.{Bool, true, false, cond}
 use mathlib.Core.List.{List, [], ◌∷◌, ◌++◌}
 use mathlib.Core.Option.{Option, none, some}
 use native.Mathlib.Numerals.{add-one}
@@ -12,13 +12,13 @@ use lib.Dec.{ltb}
 use lib.ListN.{length}
 use Rattle.buffers.specs.Bytes.{put}
 use Rattle.buffers.proofs.Lists.{put-none}
-use Rattle.refusals.specs.Order.{Refusal, refuse, row}
-use Rattle.refusals.specs.Answers.{Outcome, done, refused, refusal_of, outcome_of}
+use Rattle.refusals.specs.Order.{Refusal, refuse}
+use Rattle.refusals.specs.Answers.{done, refused, refusal_of}
 use Rattle.refusals.specs.declared.Refused.{Refused}
-use Rattle.slots.specs.Slot.{is_directory, count_of}
+use Rattle.slots.specs.Slot.{is_directory}
 use Rattle.names.specs.Name.{askable}
 use Rattle.chains.specs.File.{File, file_of}
-use Rattle.directory.specs.Places.{slots, dir_sector}
+use Rattle.directory.specs.Places.{dir_sector}
 use Rattle.directory.specs.Directory.{fold_option, directory, slot_or}
 use Rattle.directory.specs.Find.{find}
 use Rattle.surveys.specs.declared.UsedMap.{UsedMap}
@@ -31,7 +31,7 @@ use Rattle.steps.specs.Steps.{Step, apply, numbers}
 use Rattle.plans.specs.Change.{gather}
 use Rattle.plans.specs.Gathering.{scattered, up_from, lowest_run}
 use Rattle.plans.specs.Gathered.{run_sectors}
-use Rattle.plans.specs.Plan.{Plan, refused_plan, planned_steps, move_plan, gather_steps, plan_of, plan, Result, refused_result, new_disk, plan_result, checked_result, run_change, Changed, changed, changed_by, change}
+use Rattle.plans.specs.Plan.{Plan, refused_plan, planned_steps, move_plan, gather_steps, plan_of, plan, Result, refused_result, new_disk, plan_result, run_change, Changed, changed, changed_by, change}
 use Rattle.plans.proofs.Moved.{gather-numbers, gather-long}
 use Rattle.changes.proofs.Laws.{by_name}
 use Rattle.allocation.specs.Taken.{unavailable_map}

@@ -1,6 +1,6 @@
 -- The sectors moved so far, and those that are left; then the slot's bytes.
 use Prim.Native.Nat.{ℕ, zero, suc, ◌+◌, ◌-◌, ◌*◌, ◌≤◌, ◌<◌}
-use mathlib.Core.Path.{◌≡◌, refl, sym, ap, ap₂, ◌∙◌, subst}
+use mathlib.Core.Path.{◌≡◌, refl, sym, ap, ap₂, ◌∙◌}
 use mathlib.Core.Bool.{true}
 use mathlib.Core.List.{List, [], ◌∷◌, ◌++◌}
 use mathlib.Core.Logic.{◌⊎◌, inl, inr, ⊎_elim}
@@ -11,11 +11,11 @@ use lib.ListN.{length, get_or, take, set, length-append, length-take, length-set
 use lib.Seq.{ext_get_or, get_or-append-add}
 use Rattle.buffers.specs.Bytes.{part, put}
 use Rattle.buffers.proofs.Lists.{below_or_not, length-put, part_at, part-long, put-before, put-after, put-none, put-more, put_all_lem, put-append}
-use Rattle.geometry.specs.Disk.{bit_of, bit_place, place_or_end}
+use Rattle.geometry.specs.Disk.{bit_place, place_or_end}
 use Rattle.geometry.proofs.Laws.{place_or_end_lem, place_inside, places_apart}
 use Rattle.maps.specs.Bits.{has, clear_map, with_bit}
-use Rattle.slots.specs.Slot.{count_of, first_of, map_of}
-use Rattle.chains.specs.File.{File, file_of, sector_at, sectors_of}
+use Rattle.slots.specs.Slot.{first_of, map_of}
+use Rattle.chains.specs.File.{file_of, sector_at, sectors_of}
 use Rattle.chains.specs.Chain.{linked_bit, chain_bit}
 use Rattle.chains.proofs.Laws.{sectors-own, map-small}
 use Rattle.directory.specs.Places.{slots, slot_at, slot_place}
@@ -187,14 +187,14 @@ module _ (d : List ℕ) (i b : ℕ) (s : Movable d i b) (e : List ℕ) (bit k : 
         (source-kept ∙ ap (λ (p : ℕ). part p 512 d) (place_or_end_lem bit bit-small) ∙ sym (sectors-own d (slot_or d i) bit own) ∙ ap (sectors_of d (slot_or d i)) w.at)
         ∙ sym (payload_block (file_in d i) k t u h)
 
-    pub moving_more : (p t u x : ℕ) → p ≡ place_or_end bit → t ≡ get_or e (p + 510) 0 → u ≡ get_or e (p + 511) 0 → x ≡ bit_of t u
+    pub moving_more : (x : ℕ) → x ≡ linked_bit (part (place_or_end bit) 512 e)
         → (link : Link) → link ≡ link_to_run (count_in d i - (k + 1)) (b + (k + 1)) → (next : List ℕ)
         → next ≡ put e (place_or_end (b + k)) (sector_bytes (part (place_or_end bit) 512 e) 0 link.track link.sector) → MoveLoop d i b next x (k + 1)
     unfolding apply put_all data_steps link_to_run chain_bit up_from
-    moving_more p t u x a c f g link q next r = record {
+    moving_more x g link q next r = record {
       far = omega arith;
       long = ap length is ∙ length-put e (bit_place (b + k)) new ∙ w.long;
-      at = link_own d e (slot_or d i) bit own source-kept p t u x a c f g
+      at = link_own d e (slot_or d i) bit own source-kept x g
           ∙ ap (λ (y : ℕ). linked_bit (sectors_of d (slot_or d i) y)) w.at ∙ ap (chain_bit (sectors_of d (slot_or d i)) (first_of (slot_or d i))) (sym (add-one k));
       kept = λ y m v.
           ap (λ (z : List ℕ). sector_at z y) is
@@ -233,10 +233,10 @@ module _ (d : List ℕ) (i b : ℕ) (s : Movable d i b) (e : List ℕ) (bit k : 
     pub turn_bits : k < m → TwoBits (length e) bit (b + k)
     turn_bits h = two_bits (omega arith)
 
-    pub moving_turn : k < m → (p t u x : ℕ) → p ≡ place_or_end bit → t ≡ get_or e (p + 510) 0 → u ≡ get_or e (p + 511) 0 → x ≡ bit_of t u
+    pub moving_turn : k < m → (x : ℕ) → x ≡ linked_bit (part (place_or_end bit) 512 e)
         → (link : Link) → link ≡ link_to_run (m - (k + 1)) (b + (k + 1)) → (next : List ℕ)
         → next ≡ put e (place_or_end (b + k)) (sector_bytes (part (place_or_end bit) 512 e) 0 link.track link.sector) → MoveLoop d i b next x (k + 1)
-    moving_turn h p t u x a f g q link l = moving_more (omega arith) p t u x a f g q link (l ∙ ap (λ (m : ℕ). link_to_run (m - (k + 1)) (b + (k + 1))) c)
+    moving_turn h x q link l = moving_more (omega arith) x q link (l ∙ ap (λ (m : ℕ). link_to_run (m - (k + 1)) (b + (k + 1))) c)
 
     pub moving_all : m ≤ k → e ≡ apply d (moved_steps d i b)
     unfolding apply data_steps up_from

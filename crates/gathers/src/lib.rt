@@ -6,6 +6,7 @@ ghost use Rattle.std.specs.Prelude.{◌≡◌, ◌+◌, ◌≤◌, length};
 ghost use Rattle.buffers.specs.Bytes.{part, put};
 ghost use Rattle.geometry.specs.Disk.{place_or_end};
 ghost use Rattle.chains.specs.File.{file_of};
+ghost use Rattle.chains.specs.Chain.{linked_bit};
 ghost use Rattle.disk.specs.View.{view};
 ghost use Rattle.steps.specs.Steps.{apply};
 ghost use Rattle.plans.specs.Change.{gather};
@@ -29,20 +30,25 @@ pub struct Move {
     pub bit: usize,
 }
 
+// The bit that the link of a bit's sector leads to.
+fn bit_after(image: &[u8], bit: usize) -> usize
+    ensures { result ≡ linked_bit (part (place_or_end bit) 512 image.now) }
+{
+    let at = geometry::bit_place(bit);
+    geometry::bit_or_end(
+        buffers::num_at(image, at + 510),
+        buffers::num_at(image, at + 511),
+    )
+}
+
 // Whether the chain of a slot is not on consecutive rising bits.
 fn is_scattered(image: &[u8], s: &[u8]) -> bool
     requires { ChainedSlot image.now s.now }
     ensures { result ≡ scattered (file_of image.now s.now) }
 {
-    let count = slots::count_of(s);
     let mut bit = slots::first_of(s);
-    let mut k: usize = 1;
-    while k < count {
-        let at = geometry::bit_place(bit);
-        let track = buffers::num_at(image, at + 510);
-        let number = buffers::num_at(image, at + 511);
-        let next = geometry::bit_or_end(track, number);
-        k += 1;
+    for k in 1..slots::count_of(s) {
+        let next = bit_after(image, bit);
         if next != bit + 1 {
             return true;
         }
@@ -52,15 +58,13 @@ fn is_scattered(image: &[u8], s: &[u8]) -> bool
 }
 
 // Copies 510 bytes of an image to a place apart from them. Neither is lent beside the other, so they go one by one, and the
-// compiler makes runs of them.
+// compiler makes runs of them. Not by copy_within: cross/guard refuses code that asks where two pieces lie.
 fn copy_payload(image: &mut [u8], from: usize, to: usize)
     requires { DisjointRanges (length image.old) from to }
     ensures { image.new ≡ put image.old to (part from 510 image.old) }
 {
-    let mut j: usize = 0;
-    while j < 510 {
+    for j in 0..510 {
         image[to + j] = image[from + j];
-        j += 1;
     }
 }
 
@@ -71,8 +75,7 @@ fn move_sector(image: &mut [u8], from: usize, to: usize, link: Link)
 {
     let at = geometry::bit_place(to);
     copy_payload(image, geometry::bit_place(from), at);
-    let last = [link.track, link.sector];
-    buffers::copy_into(image, at + 510, &last);
+    buffers::copy_into(image, at + 510, &[link.track, link.sector]);
 }
 
 // The link to the first of the `n` bits from `b` on; 0, 0 where there is none.
@@ -96,16 +99,11 @@ fn move_chain(image: &mut [u8], i: usize, b: usize)
 {
     let count = slots::count_of(directory::slot_at(image, i));
     let mut bit = slots::first_of(directory::slot_at(image, i));
-    let mut k: usize = 0;
-    while k < count {
-        let at = geometry::bit_place(bit);
-        let track = buffers::num_at(image, at + 510);
-        let number = buffers::num_at(image, at + 511);
-        let to = b + k;
-        k += 1;
-        let link = link_to(count - k, b + k);
-        move_sector(image, bit, to, link);
-        bit = geometry::bit_or_end(track, number);
+    for k in 0..count {
+        let next = bit_after(image, bit);
+        let link = link_to(count - (k + 1), b + (k + 1));
+        move_sector(image, bit, b + k, link);
+        bit = next;
     }
 }
 
@@ -115,9 +113,7 @@ fn map_run(n: usize, b: usize) -> [u8; 195]
     ensures { result ≡ map_with (up_from n b) }
 {
     let mut map = [0u8; 195];
-    let mut j = n;
-    while 0 < j {
-        j -= 1;
+    for j in (0..n).rev() {
         maps::set_bit(&mut map, b + j);
     }
     map
@@ -132,10 +128,8 @@ fn write_moved(image: &mut [u8], i: usize, b: usize)
     move_chain(image, i, b);
     let at = directory::slot_place(i) + 13;
     let link = link_to(count, b);
-    let head = [link.track, link.sector];
-    buffers::copy_into(image, at, &head);
-    let map = map_run(count, b);
-    buffers::copy_into(image, at + 2, &map);
+    buffers::copy_into(image, at, &[link.track, link.sector]);
+    buffers::copy_into(image, at + 2, &map_run(count, b));
 }
 
 // Gathers the file in slot `i` of an accepted disk whose used map is `used`, where there is a run and a list of `room` numbers
@@ -165,8 +159,11 @@ fn gather_at(
                 return refuse(Reason::BufferTooShort, 0);
             }
             write_moved(image, i, bit);
-            let slot = i;
-            Ok(Some(Move { slot, count, bit }))
+            Ok(Some(Move {
+                slot: i,
+                count,
+                bit,
+            }))
         }
     }
 }
@@ -191,10 +188,8 @@ fn put_run(list: &mut [u16], n: usize, b: usize)
     requires { (n ≤ length list.old) × (b + n ≤ 1560) }
     ensures { list.new ≡ put list.old 0 (run_sectors n b) }
 {
-    let mut j: usize = 0;
-    while j < n {
-        list[j] = (geometry::bit_place(b + j) / 512) as u16;
-        j += 1;
+    for j in 0..n {
+        list[j] = sector_writes::sector_number(b + j);
     }
 }
 
@@ -205,7 +200,7 @@ fn put_moved(list: &mut [u16], to: Move)
 {
     let count = to.count;
     put_run(list, count, to.bit);
-    list[count] = directory::dir_sector(to.slot) as u16;
+    buffers::put_number(list, count, directory::dir_sector(to.slot) as u16);
 }
 
 // Gathers a file: the image changes, the front of `list` gets the numbers of the sectors in the order of writing, and the answer

@@ -1,7 +1,7 @@
 -- The header of a save, and the links of a chain.
 use Prim.Native.Nat.{ℕ, ◌+◌, ◌*◌, ◌/◌, ◌%◌, ◌≤◌, ◌<◌}
-use mathlib.Core.Path.{◌≡◌, refl, sym, ap, ap₂, ◌∙◌}
-use mathlib.Core.List.{List, [], ◌∷◌, ◌++◌}
+use mathlib.Core.Path.{◌≡◌, sym, ap, ap₂, ◌∙◌}
+use mathlib.Core.List.{List, ◌∷◌, ◌++◌}
 use mathlib.Core.Logic.{⊎_elim}
 use borrow.Author.Tests.{lt-ltb, le-ltb}
 use native.Mathlib.Numerals.{add-one}
@@ -16,7 +16,6 @@ use Rattle.geometry.proofs.Laws.{number_small, place_or_end_lem, place_end, plac
 use Rattle.geometry.proofs.Tests.{data_bounds}
 use Rattle.plans.specs.Change.{SaveRequest}
 use Rattle.plans.specs.Saving.{stream}
-use Rattle.allocation.specs.declared.HeaderFields.{HeaderFields}
 use Rattle.sector_writes.specs.declared.Link.{Link}
 use Rattle.sector_writes.specs.Sector.{header_fields_of, FieldsFit, header, link_address, link_to_bit, link_to_next}
 

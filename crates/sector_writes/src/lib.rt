@@ -17,6 +17,7 @@ pub struct Link {
 }
 
 // The nine bytes in front of a body of `len` bytes.
+#[tactic(auto, unfolding(crate::specs::Sector::header))]
 pub fn header_of(start: HeaderFields, len: usize) -> [u8; 9]
     ensures { result ≡ header start len }
 {
@@ -64,13 +65,12 @@ fn write_run(image: &mut [u8], at: usize, body: &[u8], from: usize, n: usize)
     ensures { image.new ≡ put image.old at (bytes_from body.now from n) }
 {
     let there = buffers::part_at(body, from, n);
-    buffers::copy_into(image, at, there);
     let len = there.len();
-    if n <= len {
-        return;
+    buffers::copy_into(image, at, there);
+    if len < n {
+        let zeros = [0u8; 510];
+        buffers::copy_into(image, at + len, &zeros[..n - len]);
     }
-    let zeros = [0u8; 510];
-    buffers::copy_into(image, at + len, buffers::part_at(&zeros, 0, n - len));
 }
 
 // Puts a payload: 510 bytes, from a place on, of two lists one after the other.
@@ -81,12 +81,12 @@ fn write_payload(image: &mut [u8], at: usize, front: &[u8], back: &[u8], from: u
     let len = front.len();
     if len <= from {
         write_run(image, at, back, from - len, 510);
-        return;
+    } else {
+        let there = buffers::part_at(front, from, 510);
+        let n = there.len();
+        buffers::copy_into(image, at, there);
+        write_run(image, at + n, back, 0, 510 - n);
     }
-    let there = buffers::part_at(front, from, 510);
-    let n = there.len();
-    buffers::copy_into(image, at, there);
-    write_run(image, at + n, back, 0, 510 - n);
 }
 
 // Puts a link at a place. Byte by byte: two bytes laid down one after the other and read back as a pair would make the machine wait.
@@ -94,10 +94,8 @@ fn write_link(image: &mut [u8], at: usize, link: Link)
     requires { at ≤ 819710 }
     ensures { image.new ≡ put image.old at (link.track ∷ link.sector ∷ []) }
 {
-    let track = [link.track];
-    buffers::copy_into(image, at, &track);
-    let sector = [link.sector];
-    buffers::copy_into(image, at + 1, &sector);
+    buffers::copy_into(image, at, &[link.track]);
+    buffers::copy_into(image, at + 1, &[link.sector]);
 }
 
 // Writes the sector of a map bit: as payload the 510 bytes from a place on of two lists one after the other, 0 past their end;

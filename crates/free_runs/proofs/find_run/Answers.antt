@@ -2,8 +2,7 @@
 use Prim.Native.Nat.{◌-◌}
 use mathlib.Core.Path.{sym, ◌∙◌}
 use native.Mathlib.Omega.{arith}
-use Rattle.free_runs.proofs.Pass.{UniformBits, alike, RunLoop, trail_zero, trail_start, trail_set, trail_clear, trail_found, trail_none}
-use borrow.Author.Rules.{rules}
+use Rattle.free_runs.proofs.Pass.{UniformBits, alike, trail_zero, trail_start, trail_set, trail_clear, trail_found, trail_none}
 use Rattle.free_runs.proofs.find_run.Goals as goal
 
 pub returns-then-count-eq0 : goal.returns-then-count-eq0

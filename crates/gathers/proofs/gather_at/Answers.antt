@@ -1,11 +1,8 @@
 -- `gathers::gather_at` meets its contract: each way out has the tests that led there.
 use Prim.Native.Nat.{ℕ}
-use mathlib.Core.Path.{◌≡◌, refl, sym, ap, ◌∙◌, subst}
+use mathlib.Core.Path.{◌≡◌, sym, ap, ◌∙◌, subst}
 use mathlib.Core.Bool.{Bool, true, false}
-use mathlib.Core.List.{List}
 use mathlib.Core.Option.{some}
-use native.Mathlib.Omega.{arith}
-use borrow.Author.Tests.{not-true, not-false}
 use Rattle.slots.specs.Slot.{is_directory, count_of}
 use Rattle.chains.specs.File.{file_of}
 use Rattle.directory.specs.Directory.{slot_or}
@@ -17,7 +14,6 @@ use Rattle.allocation.specs.Taken.{unavailable_map}
 use Rattle.gathers.specs.Moving.{file_in, count_in, ChainedSlot, Movable}
 use Rattle.gathers.proofs.Bridge.{chain-is, movable}
 use Rattle.gathers.proofs.Call.{ends-refused, at-directory, at-order, at_none, at-short, at_moved, at-placed}
-use borrow.Author.Rules.{rules}
 use Rattle.gathers.proofs.gather_at.Goals as goal
 
 pub returns-then-is_directory : goal.returns-then-is_directory

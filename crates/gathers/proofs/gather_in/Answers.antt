@@ -1,6 +1,6 @@
 -- `gathers::gather_in` meets its contract: a refused check is the answer; on an accepted disk what is refused by name, or the
 -- gather at the slot that has it.
-use mathlib.Core.Path.{◌≡◌, sym, ap, ◌∙◌}
+use mathlib.Core.Path.{sym, ap, ◌∙◌}
 use Rattle.std.proofs.lemmas.Result.{err_from_is_err_and}
 use Rattle.directory.specs.Find.{found_at}
 use Rattle.files.specs.Steps.{CheckedDisk}

@@ -2,7 +2,6 @@
 use native.Mathlib.Omega.{arith}
 use Rattle.gathers.proofs.ChainOrder.{end_le}
 use Rattle.gathers.proofs.Moving.{places_are, sector-is}
-use borrow.Author.Rules.{rules}
 use Rattle.gathers.proofs.move_sector.Goals as goal
 
 pub copy_payload-requires : goal.copy_payload-requires

@@ -2,7 +2,6 @@
 use mathlib.Core.Path.{sym, ◌∙◌}
 use native.Mathlib.Omega.{arith}
 use Rattle.sector_writes.proofs.Links.{link_small, link_some, link_none}
-use borrow.Author.Rules.{rules}
 use Rattle.sector_writes.proofs.link_of.Goals as goal
 
 pub overflow_cast-result : goal.overflow_cast-result

@@ -2,7 +2,6 @@
 use native.Mathlib.Omega.{arith}
 use Rattle.sector_writes.proofs.Links.{end_le}
 use Rattle.sector_writes.proofs.Runs.{block_at}
-use borrow.Author.Rules.{rules}
 use Rattle.sector_writes.proofs.write_sector.Goals as goal
 
 pub write_payload-requires : goal.write_payload-requires
