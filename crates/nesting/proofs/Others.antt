@@ -1,5 +1,5 @@
 -- Another live slot in a directory, as the loop looks for it among the slots that are not erased yet; and row 29.
-use Prim.Native.Nat.{ℕ, ◌+◌, ◌*◌, ◌≤◌, ◌<◌}
+use Prim.Native.Nat.{ℕ, ◌+◌, ◌≤◌, ◌<◌}
 use mathlib.Core.Path.{◌≡◌, refl, sym, ap, ◌∙◌}
 use mathlib.Core.Bool.{Bool, true, false, cond, not, ◌&&◌, and-false}
 use mathlib.Core.List.{List, []}
@@ -8,7 +8,6 @@ use mathlib.Core.Option.{Option, none, some, some-ne-none}
 use native.Mathlib.Omega.{arith}
 use borrow.Author.Tests.{eq-eqb, ne_eqb}
 use lib.Dec.{eqb}
-use lib.ListN.{length}
 use Rattle.buffers.specs.Bytes.{any}
 use Rattle.buffers.proofs.Lists.{below_or_not}
 use Rattle.buffers.proofs.Counts.{any-more, any_none, none_any, any_some, any_cong}

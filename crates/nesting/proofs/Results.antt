@@ -1,20 +1,18 @@
 -- The passes as the code meets them: at the end of the slots that are read, and one after the other.
-use Prim.Native.Nat.{ℕ, ◌+◌, ◌-◌, ◌≤◌, ◌<◌}
-use mathlib.Core.Path.{◌≡◌, refl, sym, ap, ◌∙◌}
+use Prim.Native.Nat.{ℕ, ◌-◌, ◌≤◌}
+use mathlib.Core.Path.{◌≡◌, sym, ◌∙◌}
 use mathlib.Core.List.{List}
 use mathlib.Core.Option.{none, some}
 use native.Mathlib.Omega.{arith}
-use Rattle.std.specs.Prelude.{Result, Ok, Err}
+use Rattle.std.specs.Prelude.{Ok}
 use Rattle.refusals.specs.Order.{Refusal, scan, scan_from}
-use Rattle.refusals.specs.Answers.{reply_of, refusal_of}
-use Rattle.refusals.specs.declared.Refused.{Refused}
 use Rattle.refusals.proofs.First.{none-scan_from}
 use Rattle.directory.specs.Places.{slots}
 use Rattle.directory.specs.Directory.{Directory, directory, slots_read}
 use Rattle.directory.proofs.Live.{directory-unread}
-use Rattle.trees.specs.Tree.{code_at, place_at, tree_reply, directories}
+use Rattle.trees.specs.Tree.{code_at, place_at, tree_reply}
 use Rattle.trees.proofs.Numbers.{place_dead}
-use Rattle.nesting.specs.Steps.{Tables, Tabled, Nests}
+use Rattle.nesting.specs.Steps.{Tables}
 use Rattle.nesting.specs.declared.Codes.{Codes}
 use Rattle.nesting.proofs.Table.{TableLoop, tabling_end, tabling_all, tabling_clean}
 

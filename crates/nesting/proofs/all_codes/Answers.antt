@@ -1,6 +1,6 @@
 -- `nesting::all_codes` meets its contract: the table holds the directories of the first `i` slots.
 use Prim.Native.Nat.{ℕ, ◌<◌}
-use mathlib.Core.Path.{◌≡◌, refl, sym, ◌∙◌}
+use mathlib.Core.Path.{refl, sym, ◌∙◌}
 use native.Mathlib.Omega.{arith}
 use lib.ListN.{length-replicate}
 use Rattle.directory.specs.Places.{slots}

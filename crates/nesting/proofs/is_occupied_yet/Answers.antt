@@ -1,7 +1,5 @@
 -- `nesting::is_occupied_yet` meets its contract.
 use mathlib.Core.Path.{sym, ◌∙◌}
-use mathlib.Core.Bool.{not}
-use borrow.Author.Tests.{eq-eqb}
 use Rattle.trees.proofs.Occupied.{vacant-file, vacant-zero}
 use Rattle.nesting.proofs.Others.{occupied_by}
 use Rattle.nesting.proofs.is_occupied_yet.Goals as goal

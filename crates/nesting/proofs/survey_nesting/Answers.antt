@@ -1,5 +1,5 @@
 -- `nesting::survey_nesting` meets its contract: the first pass that refuses, or neither.
-use mathlib.Core.Path.{refl, sym, ◌∙◌}
+use mathlib.Core.Path.{sym, ◌∙◌}
 use Rattle.std.proofs.lemmas.Result.{err_from_is_err_and}
 use Rattle.nesting.proofs.Results.{tree-first, tree-second}
 use Rattle.nesting.proofs.survey_nesting.Goals as goal

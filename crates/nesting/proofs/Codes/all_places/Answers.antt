@@ -1,6 +1,6 @@
 -- `nesting::Codes::all_places` meets its contract: the reply is that of the slots from `i` on.
 use Prim.Native.Nat.{◌<◌}
-use mathlib.Core.Path.{◌≡◌, refl, sym, ◌∙◌}
+use mathlib.Core.Path.{refl, sym, ◌∙◌}
 use native.Mathlib.Omega.{arith}
 use Rattle.std.proofs.lemmas.Result.{err_from_is_err_and}
 use Rattle.refusals.proofs.First.{scan_start, scan_skip, scan_stop}

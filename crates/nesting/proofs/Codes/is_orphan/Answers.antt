@@ -1,5 +1,5 @@
 -- `nesting::Codes::is_orphan` meets its contract.
-use mathlib.Core.Path.{sym, ◌∙◌}
+use mathlib.Core.Path.{sym}
 use Rattle.nesting.proofs.Table.{in_the_root, in_one}
 use Rattle.nesting.proofs.Codes.is_orphan.Goals as goal
 
