@@ -107,6 +107,7 @@ pub fn is_named(s: &[u8], name: &[u8]) -> bool
     is_live(s) && names::same_name(name_of(s), name)
 }
 
+// The one number with its high byte first, so not by `two_at`.
 pub fn count_of(s: &[u8]) -> usize
     ensures { (result ≡ count_of s.now) × (result ≤ 65535) }
 {
@@ -121,7 +122,8 @@ pub fn two_at(s: &[u8], i: usize) -> usize
     usize::from(u16::from_le_bytes([buffers::byte_at(s, i), buffers::byte_at(s, i + 1)]))
 }
 
-// The first sector as a map bit: 1,560 where the slot names no data sector.
+// The first sector as a map bit: 1,560 where the slot names no data sector. A number and no Option, as the definition has it: no map
+// has that bit.
 pub fn first_of(s: &[u8]) -> usize
     ensures { (result ≡ first_of s.now) × (result ≤ 1560) }
 {
@@ -207,16 +209,14 @@ pub fn is_inside(map: &[u8], tracks: usize) -> bool
 {
     let end = 10 * tracks.min(156);
     let mut b = past_first(map);
-    // A `while`: it goes on by 64 bits or by one.
+    // A `while` is plainer here than a `for`: it goes on by 64 bits or by one.
     while b < end {
-        let c = b;
-        if is_clear(map, c) {
+        if is_clear(map, b) {
             b += 64;
+        } else if maps::has_bit(map, b) {
+            return true;
         } else {
             b += 1;
-            if maps::has_bit(map, c) {
-                return true;
-            }
         }
     }
     false

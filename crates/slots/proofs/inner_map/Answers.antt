@@ -6,9 +6,6 @@ use lib.ListN.{length-replicate}
 use Rattle.slots.proofs.Tracks.{inner_first, inner_turn, inner_done}
 use Rattle.slots.proofs.inner_map.Goals as goal
 
-pub overflow_mul-end : goal.overflow_mul-end
-overflow_mul-end c = omega (arith, c.min-end.ensures)
-
 pub loop-b-init : goal.loop-b-init
 loop-b-init c = record { first = omega arith; few = omega arith; ends = ap (λ (k : ℕ). 10 * k) c.min-end.ensures; long = length-replicate {A = ℕ} 195 0; made = inner_first _ }
 
