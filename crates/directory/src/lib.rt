@@ -11,7 +11,8 @@ ghost use Rattle.directory.specs.Find.{find, found_at};
 // The most slots that there can be: those of 39 tracks.
 pub const SLOTS: usize = 778;
 
-// Where slot `i`, counted from 0, lies; the image's size past the last slot.
+// Where slot `i`, counted from 0, lies; the image's size past the last slot. A number and no Option, as the definition has it: nothing
+// of an image lies there.
 #[tactic(auto, unfolding(crate::specs::Places::slot_place, crate::specs::Places::slot_at, crate::specs::Places::past_gap))]
 pub fn slot_place(i: usize) -> usize
     ensures { (result ≡ slot_place i) × (result ≤ 819200) }
@@ -23,7 +24,8 @@ pub fn slot_place(i: usize) -> usize
     k / 20 * 10240 + k % 20 * 256
 }
 
-// The number of the sector that slot `i`, counted from 0, lies in; 1,600 past the last slot.
+// The number of the sector that slot `i`, counted from 0, lies in; 1,600, the number of no sector, past the last slot. A number and no
+// Option, as the definition has it.
 #[tactic(auto, unfolding(crate::specs::Places::slot_place, crate::specs::Places::slot_at, crate::specs::Places::past_gap, crate::specs::Places::dir_sector_or, crate::specs::Places::dir_sector))]
 pub fn dir_sector(i: usize) -> usize
     ensures { result ≡ dir_sector_or i }

@@ -5,7 +5,8 @@ ghost use Rattle.std.specs.Prelude.{◌≡◌};
 ghost use Rattle.directory.specs.Directory.{directory};
 ghost use Rattle.siblings.specs.Links.{links_of, link_entry};
 
-// An entry of the table; 0 past its end.
+// An entry of the table; 0 past its end, as the definition has it. Not by `get`: cross/guard refuses the Option of a reference, which
+// lies otherwise where pointers have 32 bits.
 #[tactic(auto, unfolding(crate::specs::Links::link_entry))]
 pub fn link_at(links: &[u16; 1034], k: usize) -> usize
     ensures { result ≡ link_entry links.now k }
