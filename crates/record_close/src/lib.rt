@@ -2,9 +2,9 @@
 // sectors written.
 #![tactic(auto)]
 
-ghost use Rattle.std.specs.Prelude.{◌≡◌, ◌+◌, ◌-◌, ◌*◌, ◌≤◌, ◌<◌, length, get_or};
+ghost use Rattle.std.specs.Prelude.{◌≡◌, ◌+◌, ◌-◌, ◌*◌, ◌≤◌, ◌<◌, length};
 ghost use Rattle.buffers.specs.Bytes.{put};
-ghost use Rattle.geometry.specs.Disk.{bit_number, place_or_end};
+ghost use Rattle.geometry.specs.Disk.{place_or_end};
 ghost use Rattle.refusals.specs.Answers.{outcome_of};
 ghost use Rattle.steps.specs.Steps.{apply};
 ghost use Rattle.plans.specs.Allowed.{sectors_taken};
@@ -22,6 +22,7 @@ use allocation::HeaderFields;
 use recordings::Record;
 use refusals::{Reason, Refused, refuse};
 use sector_writes::Link;
+use slot_writes::Particulars;
 use surveys::UsedMap;
 
 // The kind of the file that is recorded, and where it is loaded.
@@ -33,13 +34,6 @@ fn start_of(kept: &Record) -> HeaderFields
         page: kept.page,
         offset: kept.offset,
     }
-}
-
-// The map bit at a place of a chain, and 0 past its end.
-fn bit_at(bits: &[u16], j: usize) -> usize
-    ensures { result ≡ get_or bits.now j 0 }
-{
-    if j < bits.len() { bits[j] as usize } else { 0 }
 }
 
 // Writes the first sector of a recording, at a map bit.
@@ -84,12 +78,12 @@ fn write_ends(image: &mut [u8], kept: &Record, bits: &[u16])
             track: 0,
             sector: 0,
         };
-        write_first(image, kept, bit_at(bits, 0), link);
+        write_first(image, kept, usize::from(bits[0]), link);
         return;
     }
-    write_last(image, kept, n, bit_at(bits, n - 1));
-    let next = sector_writes::link_of(bit_at(bits, 1));
-    write_first(image, kept, bit_at(bits, 0), next);
+    write_last(image, kept, n, usize::from(bits[n - 1]));
+    let next = sector_writes::link_of(usize::from(bits[1]));
+    write_first(image, kept, usize::from(bits[0]), next);
 }
 
 // Writes a recording into slot `i`: the ends of its chain, no old name behind the slot, then the slot.
@@ -98,19 +92,14 @@ fn write_recording(image: &mut [u8], i: usize, old: bool, kept: &Record, bits: &
     ensures { image.new ≡ apply image.old (close_steps old image.old i (request_of kept.now) bits.now) }
 {
     let map = slot_writes::map_with(bits);
-    let first = sector_writes::link_of(bit_at(bits, 0));
-    let slot = slot_writes::slot_of(
-        image,
-        i,
-        start_of(kept),
-        &kept.name,
-        &kept.exec,
-        &kept.info,
-        kept.long,
-        bits.len(),
-        first,
-        &map,
-    );
+    let first = sector_writes::link_of(usize::from(bits[0]));
+    let what = Particulars {
+        start: start_of(kept),
+        name: &kept.name,
+        exec: &kept.exec,
+        info: &kept.info,
+    };
+    let slot = slot_writes::slot_of(image, i, &what, kept.long, bits.len(), first, &map);
     write_ends(image, kept, bits);
     slot_writes::put_slot(image, i, old, &slot);
 }
@@ -122,34 +111,19 @@ fn ends_of(n: usize) -> usize
     if 1 < n { 2 } else { 1 }
 }
 
-// The number of the sector of a map bit.
-fn sector_number(bit: usize) -> u16
-    requires { bit < 1560 }
-    ensures { result ≡ bit_number bit }
-{
-    (geometry::bit_place(bit) / 512) as u16
-}
-
 // Puts the numbers of those sectors to the front of a list.
 fn put_ends(list: &mut [u16], bits: &[u16])
     requires { Bits bits.now × (1 ≤ length bits.now) × (end_sectors (length bits.now) ≤ length list.old) }
     ensures { list.new ≡ put list.old 0 (end_numbers bits.now) }
 {
     let n = bits.len();
-    let first = sector_number(bit_at(bits, 0));
+    let first = sector_writes::sector_number(usize::from(bits[0]));
     if n < 2 {
         list[0] = first;
         return;
     }
-    list[0] = sector_number(bit_at(bits, n - 1));
+    list[0] = sector_writes::sector_number(usize::from(bits[n - 1]));
     list[1] = first;
-}
-
-// Room for the map bits of every chain.
-fn no_bits() -> [u16; 1560]
-    ensures { length result ≡ 1560 }
-{
-    [0u16; 1560]
 }
 
 // Closes a recording of `n` sectors into slot `i` of a disk: the lowest clear bits of `map` are its chain, and the list gets the
@@ -166,7 +140,8 @@ fn write_close(
     requires { CloseReady map.now n i old kept.now list.old × (256 ≤ length image.old) }
     ensures { Applied (close_steps old image.old i (request_of kept.now) (lowest_clear_bits map.now n)) image.old list.old image.new list.new (end_sectors n + length (dir_sectors old i)) }
 {
-    let mut bits = no_bits();
+    // room for the map bits of every chain
+    let mut bits = [0u16; 1560];
     allocation::pick_bits(map, n, &mut bits);
     write_recording(image, i, old, kept, &bits[..n]);
     put_ends(list, &bits[..n]);

@@ -11,6 +11,15 @@ ghost use Rattle.slot_writes.specs.Filed.{chain_bytes, start_fields, fresh_slot,
 use allocation::HeaderFields;
 use sector_writes::Link;
 
+// What a save is asked for, but for its body: the kind and the start, the name, the execution bytes and the kind's information.
+#[derive(Clone, Copy)]
+pub struct Particulars<'a> {
+    pub start: HeaderFields,
+    pub name: &'a [u8],
+    pub exec: &'a [u8],
+    pub info: &'a [u8],
+}
+
 // The last slot of the largest directory, counted from 0.
 const LAST_SLOT: usize = directory::SLOTS - 1;
 
@@ -53,29 +62,20 @@ fn span_of(start: HeaderFields, len: usize) -> [u8; 6]
 }
 
 // The slot of a file of `len` bytes in a chain of `count` sectors, of which `first` is the first and `map` the map.
-fn fresh_slot(
-    start: HeaderFields,
-    name: &[u8],
-    exec: &[u8],
-    info: &[u8],
-    len: usize,
-    count: usize,
-    first: Link,
-    map: &[u8],
-) -> [u8; 256]
-    ensures { result ≡ fresh_slot start name.now exec.now info.now len count first map.now }
+fn fresh_slot(what: &Particulars, len: usize, count: usize, first: Link, map: &[u8]) -> [u8; 256]
+    ensures { result ≡ fresh_slot what.now.start what.now.name.now what.now.exec.now what.now.info.now len count first map.now }
 {
     let mut slot = [0u8; 256];
-    slot[0] = (start.kind % 256) as u8;
-    let filled = names::padded_name(name);
+    slot[0] = (what.start.kind % 256) as u8;
+    let filled = names::padded_name(what.name);
     buffers::copy_into(&mut slot, 1, &filled);
     let chain = chain_bytes(count, first);
     buffers::copy_into(&mut slot, 11, &chain);
     buffers::copy_into(&mut slot, 15, buffers::part_at(map, 0, 195));
-    buffers::copy_into(&mut slot, 221, buffers::part_at(info, 0, 11));
-    let span = span_of(start, len);
+    buffers::copy_into(&mut slot, 221, buffers::part_at(what.info, 0, 11));
+    let span = span_of(what.start, len);
     buffers::copy_into(&mut slot, 236, &span);
-    buffers::copy_into(&mut slot, 242, buffers::part_at(exec, 0, 3));
+    buffers::copy_into(&mut slot, 242, buffers::part_at(what.exec, 0, 3));
     // no date
     slot[245] = 255;
     slot
@@ -101,18 +101,15 @@ fn kept_slot(image: &[u8], i: usize, fresh: [u8; 256]) -> [u8; 256]
 pub fn slot_of(
     image: &[u8],
     i: usize,
-    start: HeaderFields,
-    name: &[u8],
-    exec: &[u8],
-    info: &[u8],
+    what: &Particulars,
     len: usize,
     count: usize,
     first: Link,
     map: &[u8],
 ) -> [u8; 256]
-    ensures { result ≡ slot_of image.now i start name.now exec.now info.now len count first map.now }
+    ensures { result ≡ slot_of image.now i what.now.start what.now.name.now what.now.exec.now what.now.info.now len count first map.now }
 {
-    let fresh = fresh_slot(start, name, exec, info, len, count, first, map);
+    let fresh = fresh_slot(what, len, count, first, map);
     kept_slot(image, i, fresh)
 }
 
@@ -176,16 +173,6 @@ pub fn dir_count(i: usize, old: bool) -> usize
     1
 }
 
-// Puts one sector number at a place of a list.
-fn put_number(list: &mut [u16], at: usize, n: usize)
-    requires { n < 65536 }
-    ensures { list.new ≡ put list.old at (n ∷ []) }
-{
-    if at < list.len() {
-        list[at] = n as u16;
-    }
-}
-
 // Puts the numbers of the directory's sectors, in the order of writing, from a place of the list on, as many as it has room for.
 pub fn put_dirs(list: &mut [u16], at: usize, i: usize, old: bool)
     ensures { list.new ≡ put list.old at (directory_sectors old i) }
@@ -197,9 +184,9 @@ pub fn put_dirs(list: &mut [u16], at: usize, i: usize, old: bool)
         return;
     }
     if is_apart(i, is_behind(i, old)) {
-        put_number(list, at, directory::dir_sector(i + 1));
-        put_number(list, at + 1, directory::dir_sector(i));
+        buffers::put_number(list, at, directory::dir_sector(i + 1) as u16);
+        buffers::put_number(list, at + 1, directory::dir_sector(i) as u16);
         return;
     }
-    put_number(list, at, directory::dir_sector(i));
+    buffers::put_number(list, at, directory::dir_sector(i) as u16);
 }

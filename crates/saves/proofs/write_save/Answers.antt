@@ -3,7 +3,6 @@ use mathlib.Core.Path.{sym}
 use native.Mathlib.Omega.{arith}
 use lib.Seq.{length-take-le}
 use Rattle.saves.proofs.Whole.{front_writable, saved-is}
-use borrow.Author.Rules.{rules}
 use Rattle.saves.proofs.write_save.Goals as goal
 
 pub slice_bounds-write_file-end-2 : goal.slice_bounds-write_file-end-2
