@@ -17,6 +17,7 @@ unfoldable pub key_bit : ℕ → ℕ → ℕ
 key_bit key zero = key % 8147
 key_bit key (suc j) = (key_bit key j + key_step key) % 8192
 
+-- the four of a key
 abbrev pub key_bits : ℕ → List ℕ
 key_bits key = key_bit key 0 ∷ key_bit key 1 ∷ key_bit key 2 ∷ key_bit key 3 ∷ []
 
