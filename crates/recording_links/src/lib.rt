@@ -31,8 +31,7 @@ fn continuation_along(image: &[u8], map: &[u8], n: usize) -> Option<usize>
         return Some(1560);
     }
     let mut b = allocation::next_clear(map, first + 1);
-    let mut k: usize = 2;
-    while k < n {
+    for _k in 2..n {
         if 1560 <= b {
             return Some(1560);
         }
@@ -44,7 +43,6 @@ fn continuation_along(image: &[u8], map: &[u8], n: usize) -> Option<usize>
             return None;
         }
         b = c;
-        k += 1;
     }
     Some(b)
 }
@@ -54,8 +52,7 @@ fn continuation_along(image: &[u8], map: &[u8], n: usize) -> Option<usize>
 pub fn follow(image: &[u8], used: UsedMap, was: &[u8], tracks: usize, n: usize) -> Option<usize>
     ensures { result ≡ continuation_in image.now used was.now tracks n }
 {
-    let bytes = used.bytes;
-    if !names::same_bytes(&bytes, was) {
+    if !names::same_bytes(&used.bytes, was) {
         return None;
     }
     if used.tracks != tracks {
