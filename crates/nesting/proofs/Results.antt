@@ -13,16 +13,14 @@ use Rattle.directory.proofs.Live.{directory-unread}
 use Rattle.trees.specs.Tree.{code_at, place_at, tree_reply}
 use Rattle.trees.proofs.Numbers.{place_dead}
 use Rattle.nesting.specs.Steps.{Tables}
-use Rattle.nesting.specs.declared.Codes.{Codes}
 use Rattle.nesting.proofs.Table.{TableLoop, tabling_end, tabling_all, tabling_clean}
 
 -- ---- the end of each pass
 
-pub codes_end : (d above : List ℕ) (number i : ℕ) → TableLoop (directory d) above number i → slots_read d ≤ i → i ≤ slots → (r : Codes)
-    → r.above ≡ above → r.number ≡ number → Tables d (Ok r)
-codes_end d above number i t h l r q n =
+pub codes_end : (d above : List ℕ) (number i : ℕ) → TableLoop (directory d) above number i → slots_read d ≤ i → i ≤ slots → Tables d (Ok number) above
+codes_end d above number i t h l =
     let e = tabling_end (directory d) above number i t l (λ j k. directory-unread d j (omega arith)) in
-    record { reply = sym (tabling_clean (directory d) above number e); table = rw (q, n) (tabling_all (directory d) above number e) }
+    record { reply = sym (tabling_clean (directory d) above number e); table = tabling_all (directory d) above number e }
 
 pub places_end : (d : List ℕ) (i : ℕ) → scan slots (place_at (directory d)) ≡ scan_from (slots - i) i (place_at (directory d)) → slots_read d ≤ i
     → scan slots (place_at (directory d)) ≡ none

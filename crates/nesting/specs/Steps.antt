@@ -11,7 +11,6 @@ use Rattle.directory.specs.Places.{slots}
 use Rattle.directory.specs.Directory.{fold_option, Directory, directory}
 use Rattle.surveys.specs.Survey.{earlier}
 use Rattle.trees.specs.Tree.{coded, directories, parent_code_among, code_at, tree_reply}
-use Rattle.nesting.specs.declared.Codes.{Codes}
 
 -- the table's entry for a code after k slots: 0 where no directory has it, else one more than the code of the directory above
 unfoldable pub entry_among : Directory → ℕ → ℕ → ℕ
@@ -47,10 +46,10 @@ nesting_rows_by above m s =
     ∷ (28 when is_directory s && back_by above m (code_of s))
     ∷ []
 
--- what the pass over 26 gives: its reply, and the table where there is none
-pub record Tables (d : List ℕ) (r : Result Codes Refused) : Type 0 where
+-- what the pass over 26 gives: its reply, and the table and the number where there is none
+pub record Tables (d : List ℕ) (r : Result ℕ Refused) (above : List ℕ) : Type 0 where
   pub reply : reply_of r ≡ scan slots (code_at (directory d))
-  pub table : IfOk r (λ (c : Codes). Tabled (directory d) c.above c.number)
+  pub table : IfOk r (λ (n : ℕ). Tabled (directory d) above n)
 
 -- what both passes give: their reply, and how many directories there are where there is none
 pub record Nests (d : List ℕ) (r : Result ℕ Refused) : Type 0 where

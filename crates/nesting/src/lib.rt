@@ -16,23 +16,30 @@ use refusals::{Reason, Refused};
 // The directories by their codes: 0 where none has the code, else one more than the code of the directory that it is in.
 // And how many there are.
 #[derive(Clone, Copy)]
-struct Codes {
-    above: [u16; 256],
+struct Codes<'a> {
+    dir: &'a [u8],
+    above: &'a [u16],
     number: usize,
+    ghost tabled: { Tabled (directory dir.now) above.now number },
 }
 
-impl Codes {
-    // An entry of the table; 0 past its end. Not by `get`, an Option of a reference, which cross/guard refuses.
+impl Codes<'_> {
+    // An entry of the table; 0 past its end. Not by `get`: a thing that may not change, cross/guard, refuses an Option of a
+    // reference, which lies otherwise where pointers have 32 bits.
     #[tactic(auto, using(buffers::proofs::Lists::past_end))]
     fn entry_at(&self, code: usize) -> u16
-        ensures { result ≡ get_or self.now.above code 0 }
+        ensures { result ≡ get_or self.now.above.now code 0 }
     {
-        if code < 256 { self.above[code] } else { 0 }
+        if code < self.above.len() {
+            self.above[code]
+        } else {
+            0
+        }
     }
 
     // The code of the directory above, by the table; 0 where there is none.
     fn step_up(&self, code: usize) -> usize
-        ensures { result ≡ get_or self.now.above code 0 - 1 }
+        ensures { result ≡ get_or self.now.above.now code 0 - 1 }
     {
         usize::from(self.entry_at(code)).saturating_sub(1)
     }
@@ -41,8 +48,8 @@ impl Codes {
     // codes that it need not go on from: the root's, and of a directory that does not come back to itself, for what leads to
     // such a one does not come back either.
     fn comes_back(&self, passed: &[u8], code: usize) -> bool
-        requires { Passed self.now.above passed.now self.now.number }
-        ensures { result ≡ back_by self.now.above self.now.number code }
+        requires { Passed self.now.above.now passed.now self.now.number }
+        ensures { result ≡ back_by self.now.above.now self.now.number code }
     {
         let mut at = code;
         for _n in 0..self.number {
@@ -59,7 +66,7 @@ impl Codes {
 
     // Whether a slot is in a directory that there is not.
     fn is_orphan(&self, s: &[u8]) -> bool
-        ensures { result ≡ is_orphan self.now.above s.now }
+        ensures { result ≡ is_orphan self.now.above.now s.now }
     {
         let parent = slots::parent_of(s);
         parent != 0 && self.entry_at(parent) == 0
@@ -67,8 +74,8 @@ impl Codes {
 
     // 27 and 28 at a live slot.
     fn place_rows(&self, passed: &[u8], s: &[u8], slot: usize) -> Result<(), Refused>
-        requires { Passed self.now.above passed.now self.now.number }
-        ensures { reply_of result ≡ rows slot (nesting_rows_by self.now.above self.now.number s.now) }
+        requires { Passed self.now.above.now passed.now self.now.number }
+        ensures { reply_of result ≡ rows slot (nesting_rows_by self.now.above.now self.now.number s.now) }
     {
         if self.is_orphan(s) {
             return refusals::refuse(Reason::NoSuchDirectory, slot);
@@ -80,13 +87,12 @@ impl Codes {
     }
 
     // 27 and 28 at all slots.
-    fn all_places(&self, dir: &[u8]) -> Result<(), Refused>
-        requires { Tabled (directory dir.now) self.now.above self.now.number }
-        ensures { reply_of result ≡ scan slots (place_at (directory dir.now)) }
+    fn all_places(&self) -> Result<(), Refused>
+        ensures { reply_of result ≡ scan slots (place_at (directory self.now.dir.now)) }
     {
         let mut passed = root_alone();
-        for i in 0..directory::slots_read(dir) {
-            let s = directory::slot_at(dir, i);
+        for i in 0..directory::slots_read(self.dir) {
+            let s = directory::slot_at(self.dir, i);
             if slots::is_live(s) {
                 self.place_rows(&passed, s, i + 1)?;
                 if slots::is_directory(s) {
@@ -107,11 +113,11 @@ fn root_alone() -> [u8; 256]
     passed
 }
 
-// 26 at all slots, and the table of the directories.
-fn all_codes(dir: &[u8]) -> Result<Codes, Refused>
-    ensures { Tables dir.now result }
+// 26 at all slots; and the table of the directories, in one with nothing yet, and how many there are.
+fn all_codes(dir: &[u8], above: &mut [u16; 256]) -> Result<usize, Refused>
+    requires { above.old ≡ replicate 256 0 }
+    ensures { Tables dir.now result above.new }
 {
-    let mut above = [0u16; 256];
     let mut number: usize = 0;
     for i in 0..directory::slots_read(dir) {
         let s = directory::slot_at(dir, i);
@@ -124,16 +130,22 @@ fn all_codes(dir: &[u8]) -> Result<Codes, Refused>
             number += 1;
         }
     }
-    Ok(Codes { above, number })
+    Ok(number)
 }
 
 // 26 to 28: whether the directories make a tree, and how many there are.
 pub fn survey_nesting(dir: &[u8]) -> Result<usize, Refused>
     ensures { Nests dir.now result }
 {
-    let codes = all_codes(dir)?;
-    codes.all_places(dir)?;
-    Ok(codes.number)
+    let mut above = [0u16; 256];
+    let number = all_codes(dir, &mut above)?;
+    let codes = Codes {
+        dir,
+        above: &above,
+        number,
+    };
+    codes.all_places()?;
+    Ok(number)
 }
 
 // Whether a slot other than slot `i` is live, not in a map of erased slots, and in the directory with a code.

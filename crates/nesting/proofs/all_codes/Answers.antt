@@ -1,6 +1,6 @@
 -- `nesting::all_codes` meets its contract: the table holds the directories of the first `i` slots.
 use Prim.Native.Nat.{ℕ, ◌<◌}
-use mathlib.Core.Path.{refl, sym, ◌∙◌}
+use mathlib.Core.Path.{sym, ◌∙◌}
 use native.Mathlib.Omega.{arith}
 use lib.ListN.{length-replicate}
 use Rattle.directory.specs.Places.{slots}
@@ -13,7 +13,7 @@ use Rattle.nesting.proofs.all_codes.Goals.{then-code-eq0-via-then-code-eq0, then
 use Rattle.nesting.proofs.all_codes.Goals as goal
 
 pub loop-i-init : goal.loop-i-init
-loop-i-init c = tabling_none _ _ (length-replicate {A = ℕ} 256 0) (zeros-at 256)
+loop-i-init c = rw c.requires (tabling_none _ _ (length-replicate {A = ℕ} 256 0) (zeros-at 256))
 
 pub returns-then-code-eq0 : goal.returns-then-code-eq0
 returns-then-code-eq0 c =
@@ -56,4 +56,4 @@ loop-i-preserved c =
 pub returns : goal.returns
 returns c =
     let a = c.loop-i in
-    codes_end _ _ _ a.i a.invariant (omega (arith, c.slots_read-i-end.ensures.0)) (omega (arith, c.slots_read-i-end.ensures.1)) _ refl refl
+    codes_end _ _ _ a.i a.invariant (omega (arith, c.slots_read-i-end.ensures.0)) (omega (arith, c.slots_read-i-end.ensures.1))

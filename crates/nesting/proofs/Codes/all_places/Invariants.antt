@@ -9,4 +9,4 @@ use Rattle.nesting.specs.Steps.{Passed}
 use Rattle.nesting.proofs.Codes.all_places.Given as goal
 
 abbrev pub invariant-loop-i : goal.invariant-loop-i
-invariant-loop-i l = Passed l.self.above l.passed l.self.number × (scan slots (place_at (directory l.dir)) ≡ scan_from (slots - l.i) l.i (place_at (directory l.dir)))
+invariant-loop-i l = Passed l.self.above.now l.passed l.self.number × (scan slots (place_at (directory l.self.dir.now)) ≡ scan_from (slots - l.i) l.i (place_at (directory l.self.dir.now)))

@@ -8,4 +8,4 @@ use Rattle.nesting.specs.Steps.{climb}
 use Rattle.nesting.proofs.Codes.comes_back.Given as goal
 
 abbrev pub invariant-loop-n : goal.invariant-loop-n
-invariant-loop-n l = (l.at ≡ climb l.self.above l._n l.code) × (any l._n (λ k. eqb (climb l.self.above (suc k) l.code) l.code) ≡ false)
+invariant-loop-n l = (l.at ≡ climb l.self.above.now l._n l.code) × (any l._n (λ k. eqb (climb l.self.above.now (suc k) l.code) l.code) ≡ false)
