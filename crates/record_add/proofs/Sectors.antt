@@ -9,7 +9,7 @@ use lib.Seq.{length-take-le, take-suc, drop-drop, get_or-drop}
 use Rattle.buffers.specs.Bytes.{put}
 use Rattle.buffers.proofs.Lists.{length-put, put-none, put_one, put-append}
 use Rattle.geometry.specs.Disk.{bit_number, bit_place, place_or_end}
-use Rattle.geometry.proofs.Laws.{place_or_end_lem, number_small}
+use Rattle.geometry.proofs.Laws.{place_or_end_lem}
 use Rattle.steps.specs.Steps.{put_all, apply, numbers}
 use Rattle.steps.proofs.Steps.{numbers-take}
 use Rattle.plans.specs.Saving.{sector_bytes, next_track, next_sector}
@@ -22,12 +22,6 @@ use Rattle.sector_writes.specs.Sector.{link_to_bit}
 use Rattle.sector_writes.proofs.Links.{link_bit}
 use Rattle.record_add.specs.Adding.{clear_from, steps_along, SectorsAlong}
 use Rattle.record_add.proofs.Clear.{from_next, next-same, from_clear}
-
--- the number of a bit's sector
-pub number_at : (b p : ℕ) → b < 1560 → p ≡ place_or_end b → (p / 512 ≡ bit_number b) × (p / 512 < 1600)
-number_at b p h e =
-    let q : p ≡ bit_number b * 512 = e ∙ place_or_end_lem b h in
-    (omega arith, omega (arith, number_small b h))
 
 pub set_as_put : (l : List ℕ) (j v n : ℕ) → v ≡ n → set l j v ≡ put l j (n ∷ [])
 set_as_put l j v n e = put_one l j v ∙ ap (λ (n : ℕ). put l j (n ∷ [])) e

@@ -1,9 +1,7 @@
 // A piece of a recording: the sectors that it completes are written, each with its link, and the record grows by it.
 #![tactic(auto)]
 
-ghost use Rattle.std.specs.Prelude.{◌≡◌, ◌++◌, ◌∷◌, [], ◌+◌, ◌≤◌, ◌<◌, length};
-ghost use Rattle.buffers.specs.Bytes.{put};
-ghost use Rattle.geometry.specs.Disk.{bit_number};
+ghost use Rattle.std.specs.Prelude.{◌≡◌, ◌++◌, ◌+◌, ◌≤◌, length};
 ghost use Rattle.refusals.specs.Answers.{outcome_of};
 ghost use Rattle.changes.specs.ChangeCalls.{Applied};
 ghost use Rattle.recordings.specs.Recording.{inner_sectors, piece_steps};
@@ -49,14 +47,6 @@ fn last_from(long: usize) -> usize
     510 * (n - 1) - 9
 }
 
-// Puts the number of a bit's sector into a list.
-fn put_number(list: &mut [u16], j: usize, bit: usize)
-    requires { (j < length list.old) × (bit < 1560) }
-    ensures { list.new ≡ put list.old j (bit_number bit ∷ []) }
-{
-    list[j] = (geometry::bit_place(bit) / 512) as u16;
-}
-
 // Writes `count` sectors along the clear bits of a map from `bit` on, each with its link to the next: as payload two lists one
 // after the other, from a place on. The front of `list` gets their numbers.
 fn write_sectors(
@@ -72,15 +62,13 @@ fn write_sectors(
     requires { SectorsAlong map.now bit count from list.old }
     ensures { Applied (steps_along (front.now ++ back.now) from count map.now bit) image.old list.old image.new list.new count }
 {
-    let mut j: usize = 0;
     let mut b = bit;
-    while j < count {
+    for j in 0..count {
         let next = allocation::next_clear(map, b + 1);
         let link = sector_writes::link_of(next);
         sector_writes::write_sector(image, b, front, back, from + 510 * j, link);
-        put_number(list, j, b);
+        list[j] = sector_writes::sector_number(b);
         b = next;
-        j += 1;
     }
 }
 
