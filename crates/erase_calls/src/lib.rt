@@ -29,10 +29,11 @@ struct NameIndex<'a> {
 }
 
 // The bucket of a name.
+#[tactic(auto, unfolding(crate::specs::Index::bucket_of))]
 fn bucket_of(name: &[u8]) -> usize
     ensures { (result ≡ bucket_of name.now) × (result < buckets) }
 {
-    (names::key_of(name) % 251) as usize
+    (names::key_of(name) % BUCKETS as u64) as usize
 }
 
 // Links the live slots by their names, from the last slot to the first; how many slots are read.
@@ -117,6 +118,7 @@ impl NameIndex<'_> {
 
     // Whether a list with room for so many numbers is too short. No list is that has room for every sector of the directory:
     // then the names need not be answered for it.
+    #[tactic(auto, unfolding(erase_many::specs::ErasedMap::none_erased))]
     fn is_short(&self, names: &[u8], many: usize, room: usize) -> bool
         requires { 10 * many ≤ length names.now }
         ensures { result ≡ ltb room (length (sectors_with (has (erased_map (directory self.now.dir.now) names.now many)))) }
@@ -131,6 +133,7 @@ impl NameIndex<'_> {
 }
 
 // The same of an accepted disk and a whole number of names; 20 is tested before anything is written.
+#[tactic(auto, unfolding(erase_many::specs::ErasedMap::none_erased))]
 fn erase_names(
     image: &mut [u8],
     names: &[u8],
@@ -144,7 +147,7 @@ fn erase_names(
     if answers.len() < many {
         return refusals::refuse(Reason::BufferTooShort, 0);
     }
-    let mut links = [778u16; 1029];
+    let mut links = [directory::SLOTS as u16; BUCKETS + directory::SLOTS];
     let end = link_names(image, &mut links);
     let index = NameIndex {
         dir: image,

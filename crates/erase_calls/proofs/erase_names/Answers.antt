@@ -1,7 +1,6 @@
 -- `erase_calls::erase_names` meets its contract.
-use mathlib.Core.Path.{refl, ap}
+use mathlib.Core.Path.{ap}
 use Rattle.refusals.specs.Answers.{outcome_of}
-use Rattle.erase_many.specs.ErasedMap.{none_erased}
 use Rattle.erase_calls.proofs.Whole.{short-answers, short-list, all_written}
 use Rattle.erase_calls.proofs.Index.{index_empty}
 use Rattle.erase_calls.proofs.erase_names.Goals as goal
@@ -15,10 +14,6 @@ link_names-end-requires c = index_empty
 pub returns-then-is_short : goal.returns-then-is_short
 returns-then-is_short c =
     short-list _ _ _ _ c.requires c.if-answers-many.false c.is_short.ensures c.if-is_short.true (ap outcome_of c.refuse-then-is_short.ensures)
-
-pub erase_each-requires-clause-none : goal.erase_each-requires-clause-none
-unfolding none_erased
-erase_each-requires-clause-none c = refl
 
 pub returns : goal.returns
 returns c =
