@@ -4,7 +4,7 @@
 ghost use Rattle.std.specs.Prelude.{◌≡◌, ◌++◌, ◌+◌, ◌≤◌, length};
 ghost use Rattle.refusals.specs.Answers.{outcome_of};
 ghost use Rattle.changes.specs.ChangeCalls.{Applied};
-ghost use Rattle.recordings.specs.Recording.{inner_sectors, piece_steps};
+ghost use Rattle.recordings.specs.Recording.{piece_steps};
 ghost use Rattle.recordings.specs.Record.{last_from, record_with, recording_of};
 ghost use Rattle.record_add.specs.Adding.{sectors_capped, steps_along, SectorsAlong, Completes, PieceReady, AddsPiece};
 
@@ -16,23 +16,7 @@ use surveys::UsedMap;
 fn sectors_of(long: usize, more: usize) -> usize
     ensures { result ≡ sectors_capped (long + more) }
 {
-    if 795591 < long {
-        return 1561;
-    }
-    if 795591 - long < more {
-        return 1561;
-    }
-    (long + more + 518) / 510
-}
-
-// Of `n` sectors all but the first and the last.
-fn inner_of(n: usize) -> usize
-    ensures { result ≡ inner_sectors n }
-{
-    if n < 2 {
-        return 0;
-    }
-    n - 2
+    (long.saturating_add(more).min(795592) + 518) / 510
 }
 
 // Where the last sector's body bytes begin, of a body of `long` bytes.
@@ -40,11 +24,7 @@ fn last_from(long: usize) -> usize
     requires { long ≤ 795591 }
     ensures { result ≡ last_from long }
 {
-    let n = (long + 518) / 510;
-    if n < 2 {
-        return 0;
-    }
-    510 * (n - 1) - 9
+    (510 * ((long + 518) / 510 - 1)).saturating_sub(9)
 }
 
 // Writes `count` sectors along the clear bits of a map from `bit` on, each with its link to the next: as payload two lists one
@@ -133,7 +113,8 @@ fn add_at(
     if surveys::free_of(used) < n {
         return refuse(Reason::TooFewSectors, 0);
     }
-    let count = inner_of(n) - inner_of(sectors_of(kept.long, 0));
+    // Of each number all but the first and the last.
+    let count = n.saturating_sub(2) - sectors_of(kept.long, 0).saturating_sub(2);
     if list.len() < count {
         return refuse(Reason::BufferTooShort, 0);
     }

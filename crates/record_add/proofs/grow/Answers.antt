@@ -2,7 +2,6 @@
 use mathlib.Core.Path.{ap, ◌∙◌}
 use native.Mathlib.Omega.{arith}
 use Rattle.slots.specs.Slot.{sectors_for}
-use Rattle.recordings.specs.declared.Record.{Record}
 use Rattle.record_add.proofs.Longer.{last_le, goes_on, begins_in, begins, with_long, grown_is}
 use Rattle.record_add.proofs.grow.Goals as goal
 use Rattle.record_add.proofs.grow.Goals.{then-total-long, else-total-long}

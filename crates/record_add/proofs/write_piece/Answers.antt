@@ -2,7 +2,6 @@
 use native.Mathlib.Omega.{arith}
 use Rattle.record_add.proofs.Longer.{last_le}
 use Rattle.record_add.proofs.Blocks.{goes_along, made_one, made_more}
-use borrow.Author.Rules.{rules}
 use Rattle.record_add.proofs.write_piece.Goals as goal
 
 pub write_sectors-requires : goal.write_sectors-requires
