@@ -1,14 +1,14 @@
 -- A check's reply by the tests that lead to it, with the used map that goes with it.
 use Prim.Native.Nat.{ℕ}
-use mathlib.Core.Path.{◌≡◌, sym, ap, ap₂, ◌∙◌}
+use mathlib.Core.Path.{◌≡◌, sym, ap₂, ◌∙◌}
 use mathlib.Core.Bool.{Bool, true, false}
 use mathlib.Core.List.{List}
 use mathlib.Core.Option.{none, some}
 use borrow.Author.Tests.{eq-eqb, ne_eqb}
 use lib.ListN.{length}
 use Rattle.geometry.specs.Disk.{image_size}
-use Rattle.refusals.specs.Order.{Refusal, Reply, refuse, ◌else◌, scan}
-use Rattle.refusals.specs.Answers.{reply_of, refusal_of}
+use Rattle.refusals.specs.Order.{refuse, ◌else◌, scan}
+use Rattle.refusals.specs.Answers.{refusal_of}
 use Rattle.refusals.specs.declared.Reason.TheVariants.{NotAnImage, TracksOutOfRange}
 use Rattle.refusals.specs.declared.Refused.{Refused}
 use Rattle.std.specs.Prelude.{Result, Ok, Err}

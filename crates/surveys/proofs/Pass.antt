@@ -2,7 +2,7 @@
 -- of a slot that has none.
 use Prim.Native.Nat.{ℕ, suc, ◌+◌, ◌-◌, ◌≤◌, ◌<◌}
 use mathlib.Core.Path.{◌≡◌, refl, sym, ap, ap₂, subst, ◌∙◌}
-use mathlib.Core.Bool.{Bool, true, false, cond, not, ◌&&◌, true≢false}
+use mathlib.Core.Bool.{Bool, true, false, cond, not, true≢false}
 use mathlib.Core.List.{List, [], ◌∷◌, ◌++◌}
 use mathlib.Core.Option.{Option, none, some}
 use native.Mathlib.Numerals.{add-one}
@@ -19,9 +19,9 @@ use Rattle.refusals.specs.Answers.{refusal_of, reply_of}
 use Rattle.refusals.specs.declared.Refused.{Refused}
 use Rattle.std.specs.Prelude.{Result, Ok, Err}
 use Rattle.refusals.proofs.First.{else_none, rows_clear, scan_start, scan_stop, scan-none, none-scan_from}
-use Rattle.slots.specs.Slot.{SlotFields, kind_of, directory_kind, count_of, first_of, name_of, map_of, slot_fields}
+use Rattle.slots.specs.Slot.{kind_of, directory_kind, count_of, first_of, name_of, map_of, slot_fields}
 use Rattle.names.specs.Name.{same_name}
-use Rattle.slots.specs.Rows.{own, own_reply, wasteful, release_rows, directory_rows, file_rows}
+use Rattle.slots.specs.Rows.{own, own_reply, release_rows, directory_rows, file_rows}
 use Rattle.slots.specs.Tracks.{data_count, data_bit, in_directory}
 use Rattle.slots.proofs.Tracks.{count_data, outside_data, empty_outside}
 use Rattle.directory.specs.Places.{slots}
