@@ -19,7 +19,7 @@ use Rattle.directory.proofs.Places.{slot_within}
 use Rattle.surveys.specs.Survey.{free, free_of, used_map}
 use Rattle.surveys.specs.declared.UsedMap.{UsedMap}
 use Rattle.surveys.specs.declared.Survey.{Survey}
-use Rattle.refusals.specs.Order.{Refusal, refuse, Reply, ◌else◌, row}
+use Rattle.refusals.specs.Order.{Refusal, refuse, ◌else◌, row}
 use Rattle.refusals.specs.Answers.{Outcome, out, filled, done, refused, refusal_of}
 use Rattle.refusals.specs.declared.Refused.{Refused}
 use Rattle.std.specs.Prelude.{Ok, Err}

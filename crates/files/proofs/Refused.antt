@@ -11,7 +11,7 @@ use borrow.Author.Tests.{ltb-true, ltb-false, le-leb, lt-leb}
 use lib.Dec.{leb, ltb}
 use lib.ListN.{length}
 use Rattle.buffers.proofs.Counts.{any_some, none_any}
-use Rattle.refusals.specs.Order.{Refusal, refuse, Reply, ◌else◌, row, SlotRow, FirstSlotRow, without_slots, rises, LowestRow}
+use Rattle.refusals.specs.Order.{Refusal, refuse, Reply, ◌else◌, row, SlotRow, without_slots, rises, LowestRow}
 use Rattle.refusals.specs.Answers.{Outcome, done, refused, unless, filled}
 use Rattle.refusals.proofs.First.{else_some, first_row, row_else, row_first, first-row}
 use Rattle.refusals.proofs.Lowest.{slot-lowest, slot_positive}

@@ -1,7 +1,6 @@
 -- `files::read_at_lem` meets its contract: each way out has the tests that led there.
 use mathlib.Core.Path.{◌≡◌, sym, ap, ◌∙◌}
 use mathlib.Core.Bool.{Bool, true}
-use borrow.Author.Tests.{not-true, not-false}
 use Rattle.refusals.specs.Answers.{outcome_of}
 use Rattle.slots.specs.Slot.{kind_of, readable}
 use Rattle.files.proofs.Reading.{read-not_readable, read_short, read_done}

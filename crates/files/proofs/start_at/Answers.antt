@@ -1,5 +1,4 @@
 -- `files::start_at` meets its contract: each way out has the tests that led there.
-use native.Mathlib.Omega.{arith}
 use mathlib.Core.Path.{sym, ap, ◌∙◌}
 use Rattle.refusals.specs.Answers.{outcome_of}
 use Rattle.slots.specs.Slot.{carried, spectrum}
