@@ -35,6 +35,7 @@ pub fn map_with(bits: &[u16]) -> [u8; 195]
 }
 
 // Bytes 11 to 14 of a slot: the count of a chain, high byte first, and its first track and sector.
+#[tactic(auto, unfolding(crate::specs::Filed::chain_bytes))]
 fn chain_bytes(count: usize, first: Link) -> [u8; 4]
     ensures { result ≡ chain_bytes count first }
 {
@@ -47,6 +48,7 @@ fn chain_bytes(count: usize, first: Link) -> [u8; 4]
 }
 
 // Bytes 236 to 241 of a slot: where a file of `len` bytes is loaded, and that length.
+#[tactic(auto, unfolding(crate::specs::Filed::start_fields))]
 fn span_of(start: HeaderFields, len: usize) -> [u8; 6]
     ensures { result ≡ start_fields start len }
 {
@@ -98,6 +100,7 @@ fn kept_slot(image: &[u8], i: usize, fresh: [u8; 256]) -> [u8; 256]
 
 // The slot that is written at slot `i`, counted from 0, for a file of `len` bytes in a chain of `count` sectors, of which `first` is
 // the first and `map` the map.
+#[tactic(auto, unfolding(crate::specs::Filed::slot_of))]
 pub fn slot_of(
     image: &[u8],
     i: usize,

@@ -1,7 +1,6 @@
 -- `slot_writes::clear_next` meets its contract.
 use native.Mathlib.Omega.{arith}
 use Rattle.slot_writes.proofs.Dirs.{cleared-next, cleared_not}
-use borrow.Author.Rules.{rules}
 use Rattle.slot_writes.proofs.clear_next.Goals as goal
 
 pub overflow_add-i : goal.overflow_add-i
