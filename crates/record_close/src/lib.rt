@@ -26,6 +26,7 @@ use slot_writes::Particulars;
 use surveys::UsedMap;
 
 // The kind of the file that is recorded, and where it is loaded.
+#[tactic(auto, unfolding(recordings::specs::Record::recording_of))]
 fn start_of(kept: &Record) -> HeaderFields
     ensures { result ≡ header_fields_of (request_of kept.now) }
 {
@@ -105,6 +106,7 @@ fn write_recording(image: &mut [u8], i: usize, old: bool, kept: &Record, bits: &
 }
 
 // How many sectors of its data a close writes, of a chain of `n`.
+#[tactic(auto, unfolding(crate::specs::Close::end_sectors))]
 fn ends_of(n: usize) -> usize
     ensures { (result ≡ end_sectors n) × (result ≤ 2) }
 {

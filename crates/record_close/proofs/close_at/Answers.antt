@@ -3,7 +3,6 @@ use mathlib.Core.Path.{refl, ap}
 use Rattle.refusals.specs.Answers.{outcome_of}
 use Rattle.slots.specs.Slot.{sectors_for}
 use Rattle.record_close.proofs.Planned.{open_size, closed-few, closed_large, closed-short, closable, closed-done}
-use borrow.Author.Rules.{rules}
 use Rattle.record_close.proofs.close_at.Goals as goal
 
 pub returns-then-kept-gt795591 : goal.returns-then-kept-gt795591

@@ -1,7 +1,6 @@
 -- `record_close::write_last` meets its contract.
 use native.Mathlib.Omega.{arith}
 use Rattle.record_close.proofs.Ends.{last_from_lem, last-sector}
-use borrow.Author.Rules.{rules}
 use Rattle.record_close.proofs.write_last.Goals as goal
 
 pub overflow_mul-from : goal.overflow_mul-from
