@@ -148,14 +148,15 @@ pub enum Marking {
 }
 
 // A slot's first byte with one bit set or cleared: bit 7 is hidden, bit 6 protected.
+#[tactic(auto, using(crate::proofs::Bits::hide_bits, crate::proofs::Bits::show_bits, crate::proofs::Bits::protect_bits, crate::proofs::Bits::release_bits))]
 fn marked_byte(marking: Marking, x: u8) -> u8
     ensures { result ≡ marked_byte (mark_of marking) x }
 {
     match marking {
-        Marking::Hide => x % 128 + 128,
-        Marking::Show => x % 128,
-        Marking::Protect => x / 128 * 128 + 64 + x % 64,
-        Marking::Release => x / 128 * 128 + x % 64,
+        Marking::Hide => x | 128,
+        Marking::Show => x & 127,
+        Marking::Protect => x | 64,
+        Marking::Release => x & 191,
     }
 }
 
