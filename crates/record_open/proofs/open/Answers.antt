@@ -1,6 +1,6 @@
 -- `record_open::open` meets its contract: a refused check is the answer; on an accepted disk what refuses the slot, 19 where no sector is
 -- free, or the record.
-use mathlib.Core.Path.{sym, ap, ◌∙◌}
+use mathlib.Core.Path.{sym, ◌∙◌}
 use Rattle.std.proofs.lemmas.Result.{err_from_is_err_and}
 use Rattle.files.proofs.Listing.{checked_disk}
 use Rattle.record_open.proofs.Opening.{reply_err, reply_no_slot, reply-few, running}
