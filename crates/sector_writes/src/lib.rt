@@ -21,13 +21,14 @@ pub struct Link {
 pub fn header_of(start: HeaderFields, len: usize) -> [u8; 9]
     ensures { result ≡ header start len }
 {
-    let rest = len % 16384;
+    let rest = ((len % 16384) as u16).to_le_bytes();
+    let offset = ((start.offset % 65536) as u16).to_le_bytes();
     [
         (start.kind % 256) as u8,
-        (rest % 256) as u8,
-        (rest / 256) as u8,
-        (start.offset % 256) as u8,
-        (start.offset / 256 % 256) as u8,
+        rest[0],
+        rest[1],
+        offset[0],
+        offset[1],
         0,
         0,
         (len / 16384 % 256) as u8,
