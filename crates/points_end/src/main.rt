@@ -58,11 +58,8 @@ fn end_at(what: &[u8], image: &mut [u8], i: usize, name: &[u8], buf: &mut [u8])
 }
 
 // A name and rubbish in the slot at that place again.
-fn rubbish(image: &mut [u8], at: usize)
-    requires { at < 40960 }
-{
-    points::set(image, at, 63);
-    points::set(image, at + 1, b'-');
+fn rubbish(image: &mut [u8], at: usize) {
+    buffers::copy_into(image, at, b"\x3f-");
 }
 
 fn first_ends(image: &mut [u8], buf: &mut [u8]) {
