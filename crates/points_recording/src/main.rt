@@ -9,8 +9,10 @@ use changes::Marking;
 use recordings::Record;
 use refusals::Refused;
 
+// A recording of the kind and start of most programs' files.
 fn opened(image: &[u8], name: &[u8]) -> Result<Record, Refused> {
-    record_open::open(image, 19, name, 29, 32768, b"", b"")
+    let file = points::CODE;
+    record_open::open(image, file.kind, name, file.page, file.offset, b"", b"")
 }
 
 fn added(what: &[u8], image: &mut [u8], record: &mut Record, piece: &[u8], list: &mut [u16]) {
@@ -147,10 +149,16 @@ fn renamed(image: &mut [u8], name: &[u8], new: &[u8], list: &mut [u16]) {
 }
 
 // A recording of 1,600 bytes, four sectors, of which the second and the third are written.
-fn begun(image: &mut [u8], body: &[u8], list: &mut [u16]) -> Result<Record, Refused> {
-    let mut record = opened(image, b"TAKE")?;
+fn begun(
+    what: &[u8],
+    image: &mut [u8],
+    name: &[u8],
+    body: &[u8],
+    list: &mut [u16],
+) -> Result<Record, Refused> {
+    let mut record = opened(image, name)?;
     let piece = buffers::part_at(body, 0, 1600);
-    added(b"1600 bytes", image, &mut record, piece, list);
+    added(what, image, &mut record, piece, list);
     Ok(record)
 }
 
@@ -163,7 +171,7 @@ fn ended(image: &mut [u8], record: &Record, buf: &mut [u8], list: &mut [u16]) {
 
 fn beside_other(image: &mut [u8], body: &[u8], list: &mut [u16]) -> Result<Record, Refused> {
     points::saved(b"OTHER", image, b"OTHER", b"", list);
-    begun(image, body, list)
+    begun(b"1600 bytes", image, b"TAKE", body, list)
 }
 
 fn hidden_between(
@@ -185,7 +193,7 @@ fn saved_between(
     buf: &mut [u8],
     list: &mut [u16],
 ) -> Result<(), Refused> {
-    let mut record = begun(image, body, list)?;
+    let mut record = begun(b"1600 bytes", image, b"TAKE", body, list)?;
     points::saved(b"LATE", image, b"LATE", b"", list);
     empty_piece(image, &mut record, buf, list);
     Ok(())
@@ -200,7 +208,7 @@ fn erased_between(
     buf: &mut [u8],
     list: &mut [u16],
 ) -> Result<(), Refused> {
-    let record = begun(image, body, list)?;
+    let record = begun(b"1600 bytes", image, b"TAKE", body, list)?;
     points::saved(
         b"LATE",
         image,
@@ -240,7 +248,7 @@ fn cut_piece(
 ) -> Result<(), Refused> {
     let mut whole = points::blank();
     buffers::copy_into(&mut whole, 0, image);
-    let mut record = begun(&mut whole, body, list)?;
+    let mut record = begun(b"1600 bytes", &mut whole, b"TAKE", body, list)?;
     added(b"one byte", image, &mut record, b"!", list);
     ended(image, &record, buf, list);
     Ok(())
@@ -260,13 +268,6 @@ fn all_cut(body: &[u8], late: &[u8], buf: &mut [u8], list: &mut [u16]) -> Result
     cut_piece(&mut image, body, buf, list)
 }
 
-fn second_of_two(image: &mut [u8], body: &[u8], list: &mut [u16]) -> Result<Record, Refused> {
-    let mut record = opened(image, b"SECOND")?;
-    let piece = buffers::part_at(body, 0, 1600);
-    added(b"1600 more", image, &mut record, piece, list);
-    Ok(record)
-}
-
 // Both take the same sectors, until one is closed.
 fn two_at_once(
     image: &mut [u8],
@@ -275,8 +276,8 @@ fn two_at_once(
     buf: &mut [u8],
     list: &mut [u16],
 ) -> Result<(), Refused> {
-    let first = begun(image, body, list)?;
-    let mut second = second_of_two(image, late, list)?;
+    let first = begun(b"1600 bytes", image, b"TAKE", body, list)?;
+    let mut second = begun(b"1600 more", image, b"SECOND", late, list)?;
     ended(image, &first, buf, list);
     added(b"no bytes", image, &mut second, b"", list);
     closed(b"SECOND", image, &second, list);
