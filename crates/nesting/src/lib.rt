@@ -37,7 +37,7 @@ impl Codes<'_> {
         }
     }
 
-    // The code of the directory above, by the table; 0 where there is none.
+    // The code of the directory above, by the table; the root's, which is 0, where no directory is.
     fn step_up(&self, code: usize) -> usize
         ensures { result ≡ get_or self.now.above.now code 0 - 1 }
     {
