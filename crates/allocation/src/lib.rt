@@ -88,6 +88,7 @@ fn is_full(map: &[u8], b: usize) -> bool
 
 // Puts the `n` lowest clear bits of a map to the front of a list, as many as it has room for. Of a byte that is full no bit
 // is looked at.
+#[tactic(auto, using(crate::proofs::Picked::picked_none, crate::proofs::Picked::picked_full, crate::proofs::Picked::picked_set, crate::proofs::Picked::picked_clear))]
 pub fn pick_bits(map: &[u8], n: usize, list: &mut [u16])
     ensures { list.new ≡ put list.old 0 (lowest_clear_bits map.now n) }
 {
@@ -109,6 +110,7 @@ pub fn pick_bits(map: &[u8], n: usize, list: &mut [u16])
 }
 
 // The lowest clear bit of a map that is not below `from`; 1,560 where there is none.
+#[tactic(auto, using(crate::proofs::Next::passed_full, crate::proofs::Next::passed_set, crate::proofs::Next::passed_clear, crate::proofs::Next::passed_all))]
 pub fn next_clear(map: &[u8], from: usize) -> usize
     ensures { result ≡ next_clear map.now from }
 {

@@ -12,8 +12,8 @@ use lib.ListN.{get_or}
 use Rattle.buffers.specs.Bytes.{part}
 use Rattle.buffers.proofs.Lists.{below_or_not}
 use Rattle.buffers.proofs.Counts.{any_some}
-use Rattle.geometry.specs.Disk.{image_size, bit_of, place_or_end}
-use Rattle.geometry.proofs.Laws.{place_or_end_lem, place_end, place_inside}
+use Rattle.geometry.specs.Disk.{bit_of, place_or_end}
+use Rattle.geometry.proofs.Laws.{place_or_end_lem}
 use Rattle.maps.specs.Bits.{has}
 use Rattle.slots.specs.Slot.{count_of, first_of, map_of, slot_fields}
 use Rattle.chains.specs.File.{file_of, sectors_of}
@@ -22,11 +22,6 @@ use Rattle.chains.proofs.Laws.{sectors-own, link_at, linked-own, map-small}
 use Rattle.plans.specs.Gathering.{scattered}
 use Rattle.plans.proofs.Runs.{in_order}
 use Rattle.gathers.specs.Moving.{ChainedSlot}
-
--- a map bit's place is in the image or at its end
-pub end_le : (b p : ℕ) → p ≡ place_or_end b → p ≤ image_size
-end_le b p e =
-    ⊎_elim (λ (h : b < 1560). omega (arith, place_or_end_lem b h, place_inside b h)) (λ (h : 1560 ≤ b). omega (arith, place_end b h)) (below_or_not b 1560)
 
 -- a link, as it is read
 pub link_read : (d : List ℕ) (b p t u x : ℕ) → p ≡ place_or_end b → t ≡ get_or d (p + 510) 0 → u ≡ get_or d (p + 511) 0 → x ≡ bit_of t u

@@ -1,5 +1,5 @@
 -- The list of a gather's data sectors, as far as it is put, and then the slot's.
-use Prim.Native.Nat.{ℕ, zero, suc, ◌+◌, ◌/◌, ◌≤◌, ◌<◌}
+use Prim.Native.Nat.{ℕ, zero, suc, ◌+◌, ◌*◌, ◌/◌, ◌≤◌, ◌<◌}
 use mathlib.Core.Path.{◌≡◌, sym, ap, ◌∙◌}
 use mathlib.Core.List.{List, [], ◌∷◌, ◌++◌, map, map-append}
 use native.Mathlib.Numerals.{add-one}
@@ -9,9 +9,9 @@ use lib.ListN.{length, set, length-map}
 use Rattle.buffers.specs.Bytes.{put}
 use Rattle.buffers.proofs.Lists.{length-put, put_one, put-none, put_next}
 use Rattle.geometry.specs.Disk.{bit_number, place_or_end}
+use Rattle.geometry.proofs.Laws.{place_or_end_lem, number_small}
 use Rattle.directory.specs.Places.{dir_sector_or}
 use Rattle.directory.proofs.Places.{dir_placed}
-use Rattle.sector_writes.proofs.Links.{place-number}
 use Rattle.plans.specs.Gathering.{up_from}
 use Rattle.plans.specs.Gathered.{run_sectors}
 use Rattle.plans.proofs.Runs.{up_long}
@@ -35,7 +35,9 @@ run_snoc n b =
 
 -- a bit's number, of its place
 pub number-place : (b p : ℕ) → b < 1560 → p ≡ place_or_end b → (p / 512 ≡ bit_number b) × (p / 512 < 1600)
-number-place b p h e = place-number b h p e
+number-place b p h e =
+    let q : p ≡ bit_number b * 512 = e ∙ place_or_end_lem b h in
+    (omega arith, omega (arith, number_small b h))
 
 pub record RunListLoop (l : List ℕ) (n b : ℕ) (l' : List ℕ) (j : ℕ) : Type 0 where
   pub far : j ≤ n

@@ -31,6 +31,7 @@ pub struct Move {
 }
 
 // The bit that the link of a bit's sector leads to.
+#[tactic(auto, using(sector_writes::proofs::Links::end_le, crate::proofs::ChainOrder::link_read))]
 fn bit_after(image: &[u8], bit: usize) -> usize
     ensures { result ≡ linked_bit (part (place_or_end bit) 512 image.now) }
 {
@@ -79,6 +80,7 @@ fn move_sector(image: &mut [u8], from: usize, to: usize, link: Link)
 }
 
 // The link to the first of the `n` bits from `b` on; 0, 0 where there is none.
+#[tactic(auto, using(crate::proofs::Moving::run_link_none, crate::proofs::Moving::run_link_some))]
 fn link_to(n: usize, b: usize) -> Link
     requires { b + n ≤ 1560 }
     ensures { result ≡ link_to_run n b }
@@ -184,6 +186,7 @@ pub fn gather_in(image: &mut [u8], name: &[u8], room: usize) -> Result<Option<Mo
 }
 
 // Puts the sector numbers of the `n` bits from `b` on to the front of a list.
+#[tactic(auto, using(crate::proofs::Listed::listed_none, crate::proofs::Listed::listed_all))]
 fn put_run(list: &mut [u16], n: usize, b: usize)
     requires { (n ≤ length list.old) × (b + n ≤ 1560) }
     ensures { list.new ≡ put list.old 0 (run_sectors n b) }

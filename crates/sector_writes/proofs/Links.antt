@@ -38,12 +38,6 @@ unfolding header stream
 stream-is w p =
     rw (one_byte w.kind p.kind, one_byte w.page p.page, high_byte w.offset p.offset, page-byte (length w.body) p.pages)
 
--- the number of a map bit's sector, by its place
-pub place-number : (b : ℕ) → b < 1560 → (p : ℕ) → p ≡ place_or_end b → (p / 512 ≡ bit_number b) × (p / 512 < 1600)
-place-number b h p e =
-    let q : p ≡ bit_number b * 512 = e ∙ place_or_end_lem b h in
-    (omega arith, omega (arith, number_small b h))
-
 -- ---- a chain and its links
 
 -- what is left of a chain from sector j on

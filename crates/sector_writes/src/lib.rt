@@ -37,6 +37,7 @@ pub fn header_of(start: HeaderFields, len: usize) -> [u8; 9]
 }
 
 // The link to the sector of a map bit; to no sector where it is none.
+#[tactic(auto, using(crate::proofs::Links::link_small, crate::proofs::Links::link_some, crate::proofs::Links::link_none))]
 pub fn link_of(bit: usize) -> Link
     ensures { result ≡ link_to_bit bit }
 {
@@ -53,6 +54,7 @@ pub fn link_of(bit: usize) -> Link
 }
 
 // The number of the sector of a map bit.
+#[tactic(auto, using(geometry::proofs::Laws::place_or_end_lem, geometry::proofs::Laws::number_small))]
 pub fn sector_number(bit: usize) -> u16
     requires { bit < 1560 }
     ensures { result ≡ bit_number bit }
@@ -91,6 +93,7 @@ fn write_payload(image: &mut [u8], at: usize, front: &[u8], back: &[u8], from: u
 }
 
 // Puts a link at a place. Byte by byte: two bytes laid down one after the other and read back as a pair would make the machine wait.
+#[tactic(auto, using(crate::proofs::Runs::link_put))]
 fn write_link(image: &mut [u8], at: usize, link: Link)
     requires { at ≤ 819710 }
     ensures { image.new ≡ put image.old at (link.track ∷ link.sector ∷ []) }
@@ -101,6 +104,7 @@ fn write_link(image: &mut [u8], at: usize, link: Link)
 
 // Writes the sector of a map bit: as payload the 510 bytes from a place on of two lists one after the other, 0 past their end;
 // and then a link.
+#[tactic(auto, using(crate::proofs::Links::end_le))]
 pub fn write_sector(
     image: &mut [u8],
     bit: usize,

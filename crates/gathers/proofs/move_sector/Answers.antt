@@ -1,6 +1,6 @@
 -- `gathers::move_sector` meets its contract: the payload, and then the link.
 use native.Mathlib.Omega.{arith}
-use Rattle.gathers.proofs.ChainOrder.{end_le}
+use Rattle.sector_writes.proofs.Links.{end_le}
 use Rattle.gathers.proofs.Moving.{places_are, sector-is}
 use Rattle.gathers.proofs.move_sector.Goals as goal
 

@@ -1,12 +1,6 @@
 -- `gathers::put_run` meets its contract: before each turn the numbers of the first `j` bits are put.
-use Rattle.gathers.proofs.Listed.{listed_none, listed_more, listed_all}
+use Rattle.gathers.proofs.Listed.{listed_more}
 use Rattle.gathers.proofs.put_run.Goals as goal
-
-pub loop-j-init : goal.loop-j-init
-loop-j-init c = listed_none _ _ _ c.requires.0
 
 pub loop-j-preserved : goal.loop-j-preserved
 loop-j-preserved c = listed_more _ _ _ _ _ c.loop-j.invariant c.loop-j-test.true _ c.sector_number.ensures
-
-pub returns : goal.returns
-returns c = listed_all _ _ _ _ _ c.loop-j.invariant c.loop-j-test.false
