@@ -1,7 +1,7 @@
 // The text of the listing program: a line for each live, unhidden slot and then the free count, or a refusal.
 #![tactic(auto)]
 
-ghost use Rattle.std.specs.Prelude.{◌≡◌, length};
+ghost use Rattle.std.specs.Prelude.{◌≡◌};
 ghost use Rattle.refusals.specs.Answers.{outcome_of, out};
 ghost use Rattle.text_lines.specs.Written.{Wrote};
 ghost use Rattle.directory.specs.Places.{slots};
@@ -16,13 +16,9 @@ use surveys::Survey;
 fn put_lines(page: &mut [u8], dir: &[u8]) -> usize
     ensures { Wrote page.old 0 (lines (directory dir.now) slots) page.new result }
 {
-    let end = directory::slots_read(dir);
     let mut at: usize = 0;
-    let mut i: usize = 0;
-    while i < end {
-        let s = directory::slot_at(dir, i);
-        i += 1;
-        at = text_lines::put_slot_line(page, at, i, s);
+    for i in 0..directory::slots_read(dir) {
+        at = text_lines::put_slot_line(page, at, i + 1, directory::slot_at(dir, i));
     }
     at
 }
@@ -32,10 +28,7 @@ fn has_more_tracks(input: &[u8]) -> bool
     ensures { result ≡ more_tracks (label_of input.now 255) }
 {
     let n = buffers::num_at(input, 255);
-    if n == 0 {
-        return false;
-    }
-    n != 255
+    n != 0 && n != 255
 }
 
 // What the directory is refused for, or its survey.
@@ -64,19 +57,12 @@ fn put_text(page: &mut [u8], input: &[u8]) -> usize
     }
 }
 
-// An empty page.
-fn blank() -> [u8; 2048]
-    ensures { length result ≡ 2048 }
-{
-    [0; 2048]
-}
-
 // The listing of the directory at the front of `input`, put to the front of `buf`: answers its length, or refusal 20
 // where `buf` is too short for it. A refusal of the directory is such a text too.
 pub fn catalogue(input: &[u8], buf: &mut [u8]) -> Result<usize, Refused>
     ensures { out (outcome_of result) buf.new ≡ catalogue_of input.now buf.old }
 {
-    let mut page = blank();
+    let mut page = [0u8; 2048];
     let n = put_text(&mut page, input);
     if buf.len() < n {
         return refusals::refuse(Reason::BufferTooShort, 0);

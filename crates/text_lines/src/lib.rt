@@ -78,13 +78,7 @@ fn mark_of(s: &[u8]) -> [u8; 3]
 fn shown_byte(b: u8) -> u8
     ensures { result ≡ shown b }
 {
-    if b < 32 {
-        return 63;
-    }
-    if 126 < b {
-        return 63;
-    }
-    b
+    if b < 32 || 126 < b { b'?' } else { b }
 }
 
 // A slot's name as it is shown.
@@ -93,10 +87,8 @@ fn shown_name(s: &[u8]) -> [u8; 10]
 {
     let name = slots::name_of(s);
     let mut visible = [0u8; 10];
-    let mut k: usize = 0;
-    while k < 10 {
+    for k in 0..10 {
         visible[k] = shown_byte(buffers::byte_at(name, k));
-        k += 1;
     }
     visible
 }
@@ -119,10 +111,7 @@ fn put_line(page: &mut [u8], at: usize, number: usize, s: &[u8]) -> usize
 pub fn put_slot_line(page: &mut [u8], at: usize, number: usize, s: &[u8]) -> usize
     ensures { Wrote page.old at (slot_line number s.now) page.new result }
 {
-    if !slots::is_live(s) {
-        return at.min(page.len());
-    }
-    if slots::is_hidden(s) {
+    if !slots::is_live(s) || slots::is_hidden(s) {
         return at.min(page.len());
     }
     put_line(page, at, number, s)
