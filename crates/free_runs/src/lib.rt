@@ -19,6 +19,7 @@ fn stretch_at(map: &[u8], b: usize) -> usize
 }
 
 // The first of the lowest `count` clear bits of a map that are consecutive, in one pass: `len` is how many before `b` are clear.
+#[tactic(auto, using(crate::proofs::Pass::alike, crate::proofs::Pass::trail_zero, crate::proofs::Pass::trail_start, crate::proofs::Pass::trail_found))]
 pub fn find_run(map: &[u8], count: usize) -> Option<usize>
     ensures { found_at result ≡ lowest_clear map.now count }
 {
