@@ -1,25 +1,15 @@
 -- `record_close::put_ends` meets its contract.
-use mathlib.Core.Path.{sym, ap, ◌∙◌, subst}
+use mathlib.Core.Path.{ap, ◌∙◌}
 use lib.ListN.{length-set}
-use native.Mathlib.Omega.{arith}
-use Prim.Native.Nat.{◌<◌}
 use Rattle.geometry.specs.Disk.{bit_number}
 use Rattle.record_close.proofs.Ends.{room_one, room-both, put_one_end, put_both_ends}
 use Rattle.record_close.proofs.put_ends.Goals as goal
-
-pub sector_number-first-requires : goal.sector_number-first-requires
-sector_number-first-requires c =
-    subst (λ b. b < 1560) (sym c.from.ensures) (c.requires.0.small 0 c.requires.1)
 
 pub bounds-list-0 : goal.bounds-list-0
 bounds-list-0 c = room_one _ _ c.requires.2
 
 pub returns-then-n-lt2 : goal.returns-then-n-lt2
 returns-then-n-lt2 c = put_one_end _ _ c.if-n-lt2.true _ (c.sector_number-first.ensures ∙ ap bit_number c.from.ensures)
-
-pub sector_number-requires : goal.sector_number-requires
-sector_number-requires c =
-    subst (λ b. b < 1560) (sym c.from-2.ensures) (c.requires.0.small _ (omega (arith, c.if-n-lt2.false)))
 
 pub bounds-list-0-2 : goal.bounds-list-0-2
 bounds-list-0-2 c = room_one _ _ c.requires.2

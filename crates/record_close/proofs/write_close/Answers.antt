@@ -1,29 +1,16 @@
 -- `record_close::write_close` meets its contract: the bits, the recording with that chain, and the list.
 use Prim.Native.Nat.{ℕ}
 use mathlib.Core.Path.{◌≡◌}
-use native.Mathlib.Omega.{arith}
 use lib.ListN.{length, replicate, length-replicate}
-use Rattle.record_close.proofs.Whole.{few_bits, front_long, front_closable, front_ends, closed-made}
+use Rattle.record_close.proofs.Whole.{front_closable, front_ends, closed-made}
 use Rattle.record_close.proofs.write_close.Goals as goal
 
 -- the array before its front is filled
 room : length (replicate {A = ℕ} 1560 0) ≡ 1560
 room = length-replicate {A = ℕ} 1560 0
 
-pub slice_bounds-bits-end : goal.slice_bounds-bits-end
-slice_bounds-bits-end c = omega (arith, few_bits _ _ _ _ _ _ c.requires.0 _ _ room c.pick_bits.ensures)
-
-pub slice_bounds-write_recording-end : goal.slice_bounds-write_recording-end
-slice_bounds-write_recording-end c = front_long _ _ _ _ _ _ c.requires.0 _ _ room c.pick_bits.ensures
-
 pub write_recording-requires : goal.write_recording-requires
 write_recording-requires c = (front_closable _ _ _ _ _ _ c.requires.0 _ _ room c.pick_bits.ensures, c.requires.1)
-
-pub slice_bounds-bits-end-2 : goal.slice_bounds-bits-end-2
-slice_bounds-bits-end-2 c = omega (arith, few_bits _ _ _ _ _ _ c.requires.0 _ _ room c.pick_bits.ensures)
-
-pub slice_bounds-put_ends-end : goal.slice_bounds-put_ends-end
-slice_bounds-put_ends-end c = front_long _ _ _ _ _ _ c.requires.0 _ _ room c.pick_bits.ensures
 
 pub put_ends-requires : goal.put_ends-requires
 put_ends-requires c = front_ends _ _ _ _ _ _ c.requires.0 _ _ room c.pick_bits.ensures

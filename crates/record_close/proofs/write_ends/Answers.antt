@@ -6,18 +6,9 @@ use Rattle.record_close.proofs.write_ends.Goals as goal
 pub bounds-bits-0 : goal.bounds-bits-0
 bounds-bits-0 c = chained_some _ _ c.requires
 
-pub write_first-requires : goal.write_first-requires
-write_first-requires c = c.requires.plain
-
 pub returns-then-n-lt2 : goal.returns-then-n-lt2
 returns-then-n-lt2 c =
     ends_one _ _ c.args.bits.now c.if-n-lt2.true (chained_some _ _ c.requires) (c.requires.bits.small 0 (chained_some _ _ c.requires)) c.from.ensures c.write_first.ensures
-
-pub write_last-requires : goal.write_last-requires
-write_last-requires c = (c.requires.enough, c.if-n-lt2.false, c.requires.bits.few)
-
-pub write_first-requires-2 : goal.write_first-requires-2
-write_first-requires-2 c = c.requires.plain
 
 pub returns : goal.returns
 returns c =

@@ -7,9 +7,6 @@ use Rattle.record_close.proofs.write_recording.Goals as goal
 pub bounds-bits-0 : goal.bounds-bits-0
 bounds-bits-0 c = chained_some _ _ (chained_of _ _ _ _ c.requires.0)
 
-pub write_ends-requires : goal.write_ends-requires
-write_ends-requires c = chained_of _ _ _ _ c.requires.0
-
 pub returns : goal.returns
 returns c =
     recording_written _ _ _ _ c.args.image.now c.requires.1 c.requires.0 c.map_with-map.ensures (c.link_of-first.ensures ∙ ap link_to_bit c.from.ensures) c.start_of.ensures c.slot_of-slot.ensures
