@@ -4,7 +4,7 @@ use mathlib.Core.Path.{◌≡◌, refl, sym, ap, ◌∙◌}
 use mathlib.Core.List.{List, [], ◌∷◌, ◌++◌}
 use native.Mathlib.Omega.{arith}
 use Rattle.std.specs.Prelude as Prelude
-use lib.ListN.{length, set, length-set}
+use lib.ListN.{length}
 use Rattle.buffers.specs.Bytes.{put}
 use Rattle.buffers.proofs.Lists.{length-put, put-none}
 use Rattle.refusals.specs.Answers.{done, refused, refusal_of}
@@ -23,45 +23,23 @@ use Rattle.gathers.proofs.Call.{reported_refused, reported_stays, reported_went}
 use Rattle.byte_lists.specs.Lists.{in_bytes, change_bytes_by, change_bytes}
 use Rattle.byte_lists.proofs.Pairs.{pair_next}
 
--- the list l with the pairs of the first j bits, of the n from b on
-pub record RunPairsLoop (l₀ : List ℕ) (n b : ℕ) (l : List ℕ) (j : ℕ) : Type 0 where
-  pub is : l ≡ put l₀ 0 (in_bytes (run_sectors j b))
-  pub far : j ≤ n
-  pub room : 2 * n ≤ length l₀
-
-pub run_none : (l : List ℕ) (n b : ℕ) → 2 * n ≤ length l → RunPairsLoop l n b l 0
+-- the list l with the pairs of the first j bits from b on, and with one more
+pub run_none : (l : List ℕ) (b : ℕ) → l ≡ put l 0 (in_bytes (run_sectors 0 b))
 unfolding up_from in_bytes
-run_none l n b h = record { is = put-none l 0 []; far = omega arith; room = h }
+run_none l b = put-none l 0 []
 
-module _ (l₀ : List ℕ) (n b : ℕ) (l : List ℕ) (j : ℕ) (w : RunPairsLoop l₀ n b l j) where
-  pub run_long : length l ≡ length l₀
-  run_long = ap length w.is ∙ length-put l₀ 0 (in_bytes (run_sectors j b))
-
-  -- room for the second byte of a pair
-  pub run-second : j < n → (v : ℕ) → 2 * j + 1 < length (set l (2 * j) v)
-  run-second h v = rw length-set (omega (arith, w.room, run_long))
-
-  pub run_more : j < n → b + n ≤ 1560 → (p : ℕ) → p ≡ place_or_end (b + j) → RunPairsLoop l₀ n b (set (set l (2 * j) (p / 512 % 256)) (2 * j + 1) (p / 512 / 256)) (j + 1)
-  run_more h s p e = record {
-    is =
-        pair_next l₀ (run_sectors j b) j (length-run_sectors j b) l w.is (p / 512)
-        ∙ ap (λ (x : List ℕ). put l₀ 0 (in_bytes x)) (ap (λ (v : ℕ). run_sectors j b ++ (v ∷ [])) (number-place (b + j) p (omega arith) e).0 ∙ sym (run_snoc j b));
-    far = omega arith;
-    room = w.room;
-  }
-
-  pub run_all : n ≤ j → l ≡ put l₀ 0 (in_bytes (run_sectors n b))
-  run_all h = let e : j ≡ n = omega (arith, w.far) in w.is ∙ ap (λ (k : ℕ). put l₀ 0 (in_bytes (run_sectors k b))) e
+pub run_more : (l₀ l : List ℕ) (b j : ℕ) → l ≡ put l₀ 0 (in_bytes (run_sectors j b)) → b + j < 1560 → (p : ℕ) → p ≡ place_or_end (b + j)
+    → put l (2 * j) (in_bytes (p / 512 ∷ [])) ≡ put l₀ 0 (in_bytes (run_sectors (j + 1) b))
+run_more l₀ l b j w h p e =
+    pair_next l₀ (run_sectors j b) j (length-run_sectors j b) l w (p / 512)
+    ∙ ap (λ (x : List ℕ). put l₀ 0 (in_bytes x)) (ap (λ (v : ℕ). run_sectors j b ++ (v ∷ [])) (number-place (b + j) p h e).0 ∙ sym (run_snoc j b))
 
 -- and then the slot's sector
 module _ (l₀ l : List ℕ) (m : Move) (w : MoveInRange m (length l₀ / 2)) (e : l ≡ put l₀ 0 (in_bytes (run_sectors m.count m.bit))) where
-  pub last-first : 2 * m.count < length l
-  last-first = omega (arith, w.fits, ap length e, length-put l₀ 0 (in_bytes (run_sectors m.count m.bit)))
+  pub last-room : 2 * m.count + 2 ≤ length l
+  last-room = omega (arith, w.fits, ap length e, length-put l₀ 0 (in_bytes (run_sectors m.count m.bit)))
 
-  pub last-second : (v : ℕ) → 2 * m.count + 1 < length (set l (2 * m.count) v)
-  last-second v = rw length-set (omega (arith, w.fits, ap length e, length-put l₀ 0 (in_bytes (run_sectors m.count m.bit))))
-
-  pub last-is : (s : ℕ) → s ≡ dir_sector_or m.slot → set (set l (2 * m.count) (s % 256)) (2 * m.count + 1) (s / 256) ≡ put l₀ 0 (in_bytes (moved_sectors m))
+  pub last-is : (s : ℕ) → s ≡ dir_sector_or m.slot → put l (2 * m.count) (in_bytes (s ∷ [])) ≡ put l₀ 0 (in_bytes (moved_sectors m))
   last-is s q =
       pair_next l₀ (run_sectors m.count m.bit) m.count (length-run_sectors m.count m.bit) l e s
       ∙ ap (λ (s : ℕ). put l₀ 0 (in_bytes (run_sectors m.count m.bit ++ (s ∷ [])))) (q ∙ dir_placed m.slot w.slot)

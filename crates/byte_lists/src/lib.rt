@@ -2,7 +2,7 @@
 // directory with its slots so.
 #![tactic(auto)]
 
-ghost use Rattle.std.specs.Prelude.{◌≡◌, ◌+◌, ◌*◌, ◌/◌, ◌≤◌, length, take};
+ghost use Rattle.std.specs.Prelude.{◌≡◌, ◌+◌, ◌*◌, ◌/◌, ◌≤◌, [], ◌∷◌, length, take};
 ghost use Rattle.buffers.specs.Bytes.{put};
 ghost use Rattle.refusals.specs.Answers.{outcome_of, out};
 ghost use Rattle.directory.specs.Places.{slots};
@@ -25,17 +25,23 @@ use gathers::Move;
 use recordings::Record;
 use refusals::Refused;
 
+// Puts a number as the two bytes of the place `j` of a list, low byte first.
+fn put_pair(list: &mut [u8], j: usize, number: u16)
+    requires { 2 * j + 2 ≤ length list.old }
+    ensures { list.new ≡ put list.old (2 * j) (in_bytes (number ∷ [])) }
+{
+    let pair = number.to_le_bytes();
+    list[2 * j] = pair[0];
+    list[2 * j + 1] = pair[1];
+}
+
 // Puts the first `n` of the numbers to the front of a list, two bytes each, low byte first.
 fn put_numbers(list: &mut [u8], numbers: &[u16], n: usize)
     requires { (n ≤ length numbers.now) × (2 * n ≤ length list.old) }
     ensures { list.new ≡ put list.old 0 (in_bytes (take n numbers.now)) }
 {
-    let mut j: usize = 0;
-    while j < n {
-        let s = numbers[j];
-        list[2 * j] = (s % 256) as u8;
-        list[2 * j + 1] = (s / 256) as u8;
-        j += 1;
+    for j in 0..n {
+        put_pair(list, j, numbers[j]);
     }
 }
 
@@ -138,12 +144,8 @@ fn put_run(list: &mut [u8], n: usize, b: usize)
     requires { (2 * n ≤ length list.old) × (b + n ≤ 1560) }
     ensures { list.new ≡ put list.old 0 (in_bytes (run_sectors n b)) }
 {
-    let mut j: usize = 0;
-    while j < n {
-        let sector = geometry::bit_place(b + j) / 512;
-        list[2 * j] = (sector % 256) as u8;
-        list[2 * j + 1] = (sector / 256) as u8;
-        j += 1;
+    for j in 0..n {
+        put_pair(list, j, (geometry::bit_place(b + j) / 512) as u16);
     }
 }
 
@@ -152,11 +154,8 @@ fn put_moved(list: &mut [u8], to: Move)
     requires { MoveInRange to (length list.old / 2) }
     ensures { list.new ≡ put list.old 0 (in_bytes (moved_sectors to)) }
 {
-    let count = to.count;
-    put_run(list, count, to.bit);
-    let s = directory::dir_sector(to.slot);
-    list[2 * count] = (s % 256) as u8;
-    list[2 * count + 1] = (s / 256) as u8;
+    put_run(list, to.count, to.bit);
+    put_pair(list, to.count, directory::dir_sector(to.slot) as u16);
 }
 
 // Gathers a file: how many sectors, and their numbers to the front of the list. They are told by where the file went, so that no
