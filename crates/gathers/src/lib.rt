@@ -59,7 +59,7 @@ fn is_scattered(image: &[u8], s: &[u8]) -> bool
 }
 
 // Copies 510 bytes of an image to a place apart from them. Neither is lent beside the other, so they go one by one, and the
-// compiler makes runs of them. Not by copy_within: cross/guard refuses code that asks where two pieces lie.
+// compiler makes runs of them. The library's copy_within goes one by one too, with a loop for each way.
 fn copy_payload(image: &mut [u8], from: usize, to: usize)
     requires { DisjointRanges (length image.old) from to }
     ensures { image.new ≡ put image.old to (part from 510 image.old) }
