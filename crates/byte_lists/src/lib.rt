@@ -5,7 +5,6 @@
 ghost use Rattle.std.specs.Prelude.{◌≡◌, ◌+◌, ◌*◌, ◌/◌, ◌≤◌, [], ◌∷◌, length, take};
 ghost use Rattle.buffers.specs.Bytes.{put};
 ghost use Rattle.refusals.specs.Answers.{outcome_of, out};
-ghost use Rattle.directory.specs.Places.{slots};
 ghost use Rattle.plans.specs.Change.{save, erase, rename, mark, gather};
 ghost use Rattle.plans.specs.Gathered.{run_sectors};
 ghost use Rattle.changes.specs.Marks.{mark_of};
@@ -83,13 +82,6 @@ pub fn set_mark(
     Ok(marked)
 }
 
-// Room for the numbers of every save: 1,560 data sectors and one of the directory.
-fn no_numbers() -> [u16; 1562]
-    ensures { length result ≡ 1562 }
-{
-    [0u16; 1562]
-}
-
 // Saves a file.
 pub fn save(
     image: &mut [u8],
@@ -104,7 +96,8 @@ pub fn save(
 ) -> Result<usize, Refused>
     ensures { ReturnsByteChange (save (save_request kind name.now page offset exec.now info.now body.now)) image.old list.old result image.new list.new }
 {
-    let mut numbers = no_numbers();
+    // Room for the numbers of every save: 1,560 data sectors, and those of the directory.
+    let mut numbers = [0u16; 1562];
     let room = (list.len() / 2).min(1562);
     let saved = saves::save(
         image,
@@ -121,18 +114,11 @@ pub fn save(
     Ok(saved)
 }
 
-// Room for the numbers of every listing of a directory.
-fn no_slots() -> [u16; directory::SLOTS]
-    ensures { length result ≡ slots }
-{
-    [0u16; directory::SLOTS]
-}
-
 // What lies beneath a directory: how many, and their slots to the front of the list.
 pub fn list_tree(image: &[u8], name: &[u8], list: &mut [u8]) -> Result<usize, Refused>
     ensures { out (outcome_of result) list.new ≡ tree_listing_bytes image.now name.now list.old }
 {
-    let mut numbers = no_slots();
+    let mut numbers = [0u16; directory::SLOTS];
     let room = (list.len() / 2).min(directory::SLOTS);
     let listed = tree_lists::list_tree(image, name, &mut numbers[..room])?;
     put_numbers(list, &numbers, listed);
@@ -190,13 +176,6 @@ pub fn erase_many(
     Ok(emptied)
 }
 
-// Room for the numbers of every piece: all but the first and the last of 1,560 sectors.
-fn no_sectors() -> [u16; 1558]
-    ensures { length result ≡ 1558 }
-{
-    [0u16; 1558]
-}
-
 // Adds a piece to a recording: how many sectors, their numbers to the front of the list, and the record.
 pub fn add_piece(
     image: &mut [u8],
@@ -206,7 +185,8 @@ pub fn add_piece(
 ) -> Result<usize, Refused>
     ensures { (changed (outcome_of result) image.new list.new ≡ operation_bytes (record_piece (recording_of kept.old) bytes.now) image.old list.old) × (kept.new ≡ added_record kept.old bytes.now image.old (length list.old / 2)) }
 {
-    let mut numbers = no_sectors();
+    // Room for the numbers of every piece: all but the first and the last of 1,560 sectors.
+    let mut numbers = [0u16; 1558];
     let room = (list.len() / 2).min(1558);
     let added = record_add::add(image, kept, bytes, &mut numbers[..room])?;
     put_numbers(list, &numbers, added);
