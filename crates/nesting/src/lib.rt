@@ -2,7 +2,7 @@
 // an erase asks for. All of it goes by the directory's bytes alone, and answers for a slice of any length.
 #![tactic(auto)]
 
-ghost use Rattle.std.specs.Prelude.{◌≡◌, ◌-◌, get_or, set, replicate};
+ghost use Rattle.std.specs.Prelude.{◌≡◌, ◌-◌, get_or, replicate};
 ghost use Rattle.buffers.specs.Bytes.{any};
 ghost use Rattle.refusals.specs.Order.{rows, scan};
 ghost use Rattle.refusals.specs.Answers.{reply_of};
@@ -90,7 +90,9 @@ impl Codes<'_> {
     fn all_places(&self) -> Result<(), Refused>
         ensures { reply_of result ≡ scan slots (place_at (directory self.now.dir.now)) }
     {
-        let mut passed = root_alone();
+        // At first the root's code alone is passed.
+        let mut passed = [0u8; 256];
+        passed[0] = 1;
         for i in 0..directory::slots_read(self.dir) {
             let s = directory::slot_at(self.dir, i);
             if slots::is_live(s) {
@@ -102,15 +104,6 @@ impl Codes<'_> {
         }
         Ok(())
     }
-}
-
-// The root's code alone is passed.
-fn root_alone() -> [u8; 256]
-    ensures { result ≡ set (replicate 256 0) 0 1 }
-{
-    let mut passed = [0u8; 256];
-    passed[0] = 1;
-    passed
 }
 
 // 26 at all slots; and the table of the directories, in one with nothing yet, and how many there are.

@@ -16,7 +16,7 @@ use Rattle.nesting.proofs.Codes.all_places.Goals.{then-is_live+in_ok-place_rows+
 use Rattle.nesting.proofs.Codes.all_places.Goals as goal
 
 pub loop-i-init : goal.loop-i-init
-loop-i-init c = (passed_root _ c.args.self.now.tabled _ c.root_alone-passed.ensures, scan_start slots _)
+loop-i-init c = (passed_root _ c.args.self.now.tabled _ refl, scan_start slots _)
 
 pub returns-in_err-place_rows : goal.returns-in_err-place_rows
 returns-in_err-place_rows c =
