@@ -15,6 +15,3 @@ pub returns-in_err-i : goal.returns-in_err-i
 returns-in_err-i c =
     let p = err_from_is_err_and c.from_residual-in_err-i.result c.from_residual-in_err-i.ensures.1 in
     rw (p.1, p.2) (save-refused _ _ _ _ _ _ _ (checked_disk _ _ c.in_ok-used.ensures).accepted _ c.in_err-i.ensures)
-
-pub save_at-requires : goal.save_at-requires
-save_at-requires c = record { disk = checked_disk _ _ c.in_ok-used.ensures; place = c.in_ok-i.ensures }

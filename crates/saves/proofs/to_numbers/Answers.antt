@@ -1,7 +1,7 @@
 -- `saves::to_numbers` meets its contract: before each turn the first `j` bits are turned.
 use mathlib.Core.Path.{ap, ◌∙◌}
 use Rattle.geometry.specs.Disk.{bit_number}
-use Rattle.saves.proofs.Numbers.{numbered_none, numbered_small, numbered_more, numbered_all}
+use Rattle.saves.proofs.Numbers.{numbered_none, numbered_small, numbered_more}
 use Rattle.saves.proofs.to_numbers.Goals as goal
 
 pub loop-j-init : goal.loop-j-init
@@ -13,6 +13,3 @@ sector_number-requires c = rw c.from.ensures (numbered_small _ _ _ _ c.loop-j.in
 pub loop-j-preserved : goal.loop-j-preserved
 loop-j-preserved c =
     numbered_more _ _ _ _ c.loop-j.invariant c.loop-j-test.true _ (c.sector_number.ensures ∙ ap bit_number c.from.ensures)
-
-pub returns : goal.returns
-returns c = numbered_all _ _ _ _ c.loop-j.invariant c.loop-j-test.false

@@ -1,9 +1,6 @@
 -- `saves::write_chain` meets its contract: before each turn the sectors so far are written, and the rest of the chain is left.
-use Rattle.saves.proofs.Chained.{write_chain_none, chain_more, chain_all}
+use Rattle.saves.proofs.Chained.{chain_more, chain_all}
 use Rattle.saves.proofs.write_chain.Goals as goal
-
-pub loop-k-init : goal.loop-k-init
-loop-k-init c = write_chain_none _ _ _
 
 pub loop-k-preserved : goal.loop-k-preserved
 loop-k-preserved c =
