@@ -55,13 +55,7 @@ module _ (m : List ℕ) (from count f : ℕ) (st d buf : List ℕ) (a : SectorsA
   bs = clear_from m from
 
   module _ (e l : List ℕ) (j b : ℕ) (w : SectorsLoop m from count f st d buf e l j b) where
-    pub written-long : length l ≡ length buf
-    written-long = ap length w.list ∙ length-put buf 0 (map bit_number (take j (clear_from m from)))
-
     module _ (h : j < count) where
-      pub written-room : j < length l
-      written-room = omega (arith, written-long, a.room)
-
       some : 1 < length (clear_from m b)
       some = omega (arith, a.enough, ap length w.here, length-drop j (clear_from m from))
 

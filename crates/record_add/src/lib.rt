@@ -20,6 +20,7 @@ fn sectors_of(long: usize, more: usize) -> usize
 }
 
 // Where the last sector's body bytes begin, of a body of `long` bytes.
+#[tactic(auto, unfolding(slots::specs::Slot::sectors_for))]
 fn last_from(long: usize) -> usize
     requires { long ≤ 795591 }
     ensures { result ≡ last_from long }

@@ -1,6 +1,6 @@
 -- `record_add::write_sectors` meets its contract: before each turn the sectors so far are written and named, and the bit is the next one's.
 use native.Mathlib.Omega.{arith}
-use Rattle.record_add.proofs.Sectors.{set_as_put, written_none, written-room, written-bit, written-more, written_all}
+use Rattle.record_add.proofs.Sectors.{set_as_put, written_none, written-bit, written-more, written_all}
 use Rattle.record_add.proofs.write_sectors.Goals as goal
 
 pub loop-j-init : goal.loop-j-init
@@ -11,9 +11,6 @@ overflow_add-b c = omega (arith, written-bit _ _ _ _ _ _ _ c.requires _ _ _ _ c.
 
 pub sector_number-requires : goal.sector_number-requires
 sector_number-requires c = written-bit _ _ _ _ _ _ _ c.requires _ _ _ _ c.loop-j.invariant c.loop-j-test.true
-
-pub bounds-list-j : goal.bounds-list-j
-bounds-list-j c = written-room _ _ _ _ _ _ _ c.requires _ _ _ _ c.loop-j.invariant c.loop-j-test.true
 
 pub loop-j-preserved : goal.loop-j-preserved
 loop-j-preserved c =
