@@ -16,9 +16,6 @@ pub returns-then-c-ge1560 : goal.returns-then-c-ge1560
 returns-then-c-ge1560 c =
     walk_last _ _ _ _ _ c.loop-k.invariant c.loop-k-test.true c.if-b-ge1560.false _ c.next_clear-c.ensures c.if-c-ge1560.true
 
-pub leads_to-requires : goal.leads_to-requires
-leads_to-requires c = (c.if-b-ge1560.false, c.if-c-ge1560.false)
-
 pub returns-then-not-leads_to : goal.returns-then-not-leads_to
 returns-then-not-leads_to c =
     walk_fault _ _ _ _ _ c.loop-k.invariant c.loop-k-test.true c.if-b-ge1560.false _ c.next_clear-c.ensures c.if-c-ge1560.false
