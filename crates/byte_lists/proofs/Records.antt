@@ -8,9 +8,8 @@ use native.Mathlib.Omega.{arith}
 use lib.Dec.{ltb}
 use lib.ListN.{length, take, drop, length-take, length-append, length-drop}
 use Rattle.buffers.specs.Bytes.{put}
-use Rattle.refusals.specs.Order.{Refusal, Reply, ◌else◌, row}
+use Rattle.refusals.specs.Order.{Refusal, Reply, row}
 use Rattle.refusals.specs.Answers.{done, refused}
-use Rattle.refusals.proofs.First.{else_none}
 use Rattle.surveys.specs.Survey.{free}
 use Rattle.disk.specs.View.{View, view, view_slots, view_tracks}
 use Rattle.disk.specs.Check.{check_disk}
