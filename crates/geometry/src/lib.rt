@@ -49,7 +49,8 @@ pub fn place(track: usize, sector: usize) -> Option<usize>
     }
 }
 
-// The map bit as a plain number, for loops: 1,560 where it is no data sector.
+// The map bit as a plain number, for loops: 1,560 where it is no data sector. A number and no Option, as the definition has it; `bit_of`
+// is the Option.
 #[tactic(auto, using(crate::proofs::Laws::bits))]
 pub fn bit_or_end(track: usize, sector: usize) -> usize
     ensures { (result ≡ bit_of track sector) × (result ≤ 1560) }
@@ -103,8 +104,8 @@ fn entry_of(bit: usize) -> usize
     }
 }
 
-// From the table. What the library's calls reach uses `bit_place`: it may hold no table of numbers, since each machine lays these
-// out in a way of its own (cross/guard).
+// From the table, which a call puts on the stack. What the library's calls reach uses `bit_place`: it may hold no table of numbers,
+// since each machine lays these out in a way of its own (cross/guard).
 #[tactic(auto, using(crate::proofs::Laws::place_or_end_lem), unfolding(crate::specs::Disk::spot_of_bit))]
 pub fn place_of_bit(bit: usize) -> Option<usize>
     ensures { result ≡ spot_of_bit bit }
@@ -116,7 +117,8 @@ pub fn place_of_bit(bit: usize) -> Option<usize>
     }
 }
 
-// The same place computed, as a plain number: the image's size where there is no such bit.
+// The same place computed, as a plain number: the image's size where there is no such bit. A number and no Option, as the definition
+// has it: nothing of an image lies there.
 #[tactic(auto, using(crate::proofs::Laws::bit_places))]
 pub fn bit_place(bit: usize) -> usize
     ensures { result ≡ place_or_end bit }
@@ -130,7 +132,7 @@ pub fn bit_place(bit: usize) -> usize
     }
 }
 
-// The place of a data sector, from its address, with no division by 10: the image's size where it is none.
+// The place of a data sector, from its address, with no division by 10: the image's size where it is none, as for `bit_place`.
 #[tactic(auto, using(crate::proofs::Laws::data_places))]
 pub fn data_place(track: usize, sector: usize) -> usize
     ensures { result ≡ place_or_end (bit_of track sector) }
