@@ -25,7 +25,8 @@ pub fn open(
     ensures { out (outcome_of result) kept.new ≡ opening_bytes (save_request kind name.now page offset exec.now info.now []) image.now kept.old }
 {
     let opened = record_open::open(image, kind, name, page, offset, exec, info)?;
-    if kept.len() < record_bytes::RECORD_BYTES {
+    let room = kept.len();
+    if room < record_bytes::RECORD_BYTES {
         return refusals::refuse(Reason::BufferTooShort, 0);
     }
     record_bytes::put_opened(kept, &opened);

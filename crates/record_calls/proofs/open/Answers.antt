@@ -10,10 +10,10 @@ returns-in_err-opened c =
     let p = err_from_is_err_and c.from_residual.result c.from_residual.ensures.1 in
     rw (p.1, p.2) (opening_refused _ _ _ _ c.in_err-opened.ensures.reply)
 
-pub returns-then-kept-lt-RECORD_BYTES : goal.returns-then-kept-lt-RECORD_BYTES
-returns-then-kept-lt-RECORD_BYTES c =
-    opening_short _ _ _ c.in_ok-opened.ensures.reply c.if-kept-lt-RECORD_BYTES.true _ (ap outcome_of c.refuse.ensures)
+pub returns-then-room-lt-RECORD_BYTES : goal.returns-then-room-lt-RECORD_BYTES
+returns-then-room-lt-RECORD_BYTES c =
+    opening_short _ _ _ c.in_ok-opened.ensures.reply c.if-room-lt-RECORD_BYTES.true _ (ap outcome_of c.refuse.ensures)
 
 pub returns : goal.returns
 returns c =
-    opening_done _ _ _ c.in_ok-opened.ensures.reply c.if-kept-lt-RECORD_BYTES.false _ c.in_ok-opened.ensures.opened _ c.put_opened.ensures
+    opening_done _ _ _ c.in_ok-opened.ensures.reply c.if-room-lt-RECORD_BYTES.false _ c.in_ok-opened.ensures.opened _ c.put_opened.ensures
