@@ -24,13 +24,19 @@ pub fn open(
 ) -> Result<usize, Refused>
     ensures { out (outcome_of result) kept.new ≡ opening_bytes (save_request kind name.now page offset exec.now info.now []) image.now kept.old }
 {
-    let opened = record_open::open(image, kind, name, page, offset, exec, info)?;
-    let room = kept.len();
-    if room < record_bytes::RECORD_BYTES {
-        return refusals::refuse(Reason::BufferTooShort, 0);
+    let opened = record_open::open(image, kind, name, page, offset, exec, info);
+    // Not by `?`, which would lay the record on the stack twice more.
+    match &opened {
+        Err(r) => Err(*r),
+        Ok(record) => {
+            let room = kept.len();
+            if room < record_bytes::RECORD_BYTES {
+                return refusals::refuse(Reason::BufferTooShort, 0);
+            }
+            record_bytes::put_opened(kept, record);
+            Ok(0)
+        }
     }
-    record_bytes::put_opened(kept, &opened);
-    Ok(0)
 }
 
 // Of a record that is too short to be one: what the check refuses comes first.
