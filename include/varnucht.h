@@ -24,11 +24,11 @@
  * You own every buffer before, during and after a call. The library allocates nothing, keeps no pointer and has no state:
  * what a call does depends on its arguments alone. So calls on different buffers may run at once on different threads, and
  * calls that only read may share an image. Nobody may read or write a buffer while a call that may change it is running.
- * Nothing outside is called but memcpy, memset and their like. On x86-64 a save needs less than 8 KiB of stack, the calls of
- * a recording less than 9 KiB, an erase of many less than 5 KiB, a gather less than 3 KiB, every other call less than 2 KiB;
- * but varnucht_tree less than 7 KiB where no more than ten subdirectories lie inside each other, and 96 bytes more for each
- * beyond them: less than 30 KiB on any disk. "Stack:" at a call is x86-64's too. README.md has a table of each call on each
- * target (section 8): on none is it 10 KiB, but of varnucht_tree less than 41 KiB on iOS and less than 37 KiB on other phones.
+ * Nothing outside is called but memcpy, memset and their like. On x86-64 a save needs less than 6 KiB of stack, the calls of
+ * a recording less than 8 KiB, an erase of many less than 5 KiB, a gather less than 3 KiB, every other call less than 2 KiB;
+ * but varnucht_tree less than 7 KiB where no more than ten subdirectories lie inside each other, and 48 bytes more for each
+ * beyond them: less than 19 KiB on any disk. "Stack:" at a call is x86-64's too. README.md has a table of each call on each
+ * target (section 8): on none is it 8 KiB, but of varnucht_tree less than 23 KiB on iOS and less than 19 KiB on other phones.
  *
  * Every call answers one number with four parts, which the functions below take apart:
  *
@@ -239,7 +239,7 @@ uint64_t varnucht_check(const uint8_t *image, varnucht_length image_len);
 
 /* Whether the disk is accepted and fit to go out: no file of a carried kind has waste sectors behind it, where old texts hide.
  * A file has them where its count is above the least that its length needs. Every other call accepts such a disk still.
- * Value: 0. Refusals: 1 to 11, 22, 24, 25. Stack: 1,736 bytes. */
+ * Value: 0. Refusals: 1 to 11, 22, 24, 25. Stack: 1,720 bytes. */
 uint64_t varnucht_check_release(const uint8_t *image, varnucht_length image_len);
 
 /* Every file, hidden ones too, by rising slot, at 258 bytes each from the front of `out`; section 6 says how to read them.
@@ -277,7 +277,7 @@ uint64_t varnucht_read(const uint8_t *image, varnucht_length image_len, const ui
 
 /* Finds a file. Value: the length of its body in bytes, 0 to 795,591. Slot: the sector that the body begins in, 0 to 1,599.
  * Free: the place of its first byte there, 9. Refusals: 1 to 11, 24, 25, 12, 13, 15, as varnucht_read has them.
- * Stack: 1,784 bytes. */
+ * Stack: 1,768 bytes. */
 uint64_t varnucht_open(const uint8_t *image, varnucht_length image_len, const uint8_t *name, varnucht_length name_len);
 
 /* The next bytes, to the front of `out`: as many as it holds or as are left.
@@ -333,7 +333,7 @@ uint64_t varnucht_start(const uint8_t *image, varnucht_length image_len, const u
  * room for L / 2 numbers. A listing has all else that the slots say, and varnucht_entry_code and varnucht_entry_parent tell
  * which of them is in which.
  * Refusals: 1 to 11, 24, 25, 26, 27, 28, 12, 13 (not a subdirectory), 15, 20. On a disk with 255 subdirectories, each inside
- * the one before, which are as many as there can be, Stack: 24,712 bytes. */
+ * the one before, which are as many as there can be, Stack: 18,400 bytes. */
 uint64_t varnucht_tree(const uint8_t *image, varnucht_length image_len, const uint8_t *name, varnucht_length name_len,
                        uint8_t *slots, varnucht_length slots_len);
 
@@ -377,7 +377,7 @@ enum varnucht_report_place {
 
 /* Adds a disk to a report: any bytes, which are only read. A disk that varnucht_check refuses is counted by the number that
  * it gives, and nowhere else. Value: how many disks are in the report then, 1 to 65,535. Refusals: 20 where `report` is too
- * short to be one, then 31 where 65,535 disks are in it. Stack: 1,784 bytes. */
+ * short to be one, then 31 where 65,535 disks are in it. Stack: 1,768 bytes. */
 uint64_t varnucht_report_add(const uint8_t *image, varnucht_length image_len, uint8_t *report, varnucht_length report_len);
 
 /* Joins `other`, which is only read, to `report`. Value: how many disks are in the report then, 0 to 65,535. Refusals: 20
@@ -471,7 +471,7 @@ uint64_t varnucht_erase(uint8_t *image, varnucht_length image_len, const uint8_t
  * EACH SECTOR OF THE LIST IS A CHANGE OF ITS OWN. Where the writing is stopped, the files erased in the sectors written are
  * gone, all others are still there, and varnucht_check accepts the disk. A file may be left there whose subdirectory is
  * gone: varnucht_tree refuses such a disk 27, and the same names given again erase the rest.
- * Refusals: 1 to 11, 24, 25, 23, 20 (`answers` or `list` too short). Stack: 4,712 bytes. */
+ * Refusals: 1 to 11, 24, 25, 23, 20 (`answers` or `list` too short). Stack: 4,728 bytes. */
 uint64_t varnucht_erase_many(uint8_t *image, varnucht_length image_len, const uint8_t *names, varnucht_length names_len,
                              uint8_t *answers, varnucht_length answers_len, uint8_t *list, varnucht_length list_len);
 
@@ -502,7 +502,7 @@ uint64_t varnucht_release(uint8_t *image, varnucht_length image_len, const uint8
  * long enough. A protected file may be gathered, and any kind with sectors; a subdirectory is refused 13.
  * Value: the file's sectors and one of the directory, named in this order, the first in that of the chain; 0 where the file
  * is left. `list`: two bytes for each; a file that moves has at most 780 sectors, so VARNUCHT_GATHER_LIST_BYTES always
- * suffice. Refusals: 1 to 11, 24, 25, 12, 13 (kind 21), 15, 32, 20. Stack: 2,680 bytes. */
+ * suffice. Refusals: 1 to 11, 24, 25, 12, 13 (kind 21), 15, 32, 20. Stack: 2,472 bytes. */
 uint64_t varnucht_gather(uint8_t *image, varnucht_length image_len, const uint8_t *name, varnucht_length name_len,
                          uint8_t *list, varnucht_length list_len);
 
@@ -538,7 +538,7 @@ uint64_t varnucht_gather(uint8_t *image, varnucht_length image_len, const uint8_
 
 /* Begins a recording: `record` gets its record. The image is only read. The arguments are those of varnucht_save, but for
  * the body and the list. Value: 0. `record`: VARNUCHT_RECORD_BYTES. Refusals: those of a save with an empty body, 1 to 11,
- * 24, 25, 12, 13, 14, 16, 18, 19; then 20 (`record` too short). Stack: 2,360 bytes. */
+ * 24, 25, 12, 13, 14, 16, 18, 19; then 20 (`record` too short). Stack: 2,344 bytes. */
 uint64_t varnucht_record_open(const uint8_t *image, varnucht_length image_len, uint32_t kind, const uint8_t *name,
                               varnucht_length name_len, uint32_t page, uint32_t offset, const uint8_t *exec,
                               varnucht_length exec_len, const uint8_t *info, varnucht_length info_len, uint8_t *record,
@@ -548,7 +548,7 @@ uint64_t varnucht_record_open(const uint8_t *image, varnucht_length image_len, u
  * when a byte beyond it comes; till then its bytes wait in the record. Value: how many sectors, in the order of the chain;
  * 0 is usual for a small piece. `list`: two bytes for each, and a piece of L bytes names at most L / 510 + 1;
  * VARNUCHT_PIECE_LIST_BYTES always suffice. Refusals: 1 to 11, 24, 25, 20 (`record` too short), 30, 19 (the joined pieces
- * take more sectors than are free), 20 (`list` too short). Stack: 9,064 bytes. */
+ * take more sectors than are free), 20 (`list` too short). Stack: 7,032 bytes. */
 uint64_t varnucht_record_add(uint8_t *image, varnucht_length image_len, const uint8_t *piece, varnucht_length piece_len,
                              uint8_t *record, varnucht_length record_len, uint8_t *list, varnucht_length list_len);
 
@@ -556,7 +556,7 @@ uint64_t varnucht_record_add(uint8_t *image, varnucht_length image_len, const ui
  * varnucht_save does. The record is only read. Value: 2 to 4. `list`: VARNUCHT_CLOSE_LIST_BYTES always suffice. Refusals: 1
  * to 11, 24, 25, 20 (`record` too short), 30, 12, 13, 14, 16 (the name was given to a file since), 18 (the last slot was
  * taken since), 19, 20 (`list` too short); of a record made by these calls 12, 13, 14 and 19 do not come.
- * Stack: 8,952 bytes. */
+ * Stack: 7,384 bytes. */
 uint64_t varnucht_record_close(uint8_t *image, varnucht_length image_len, const uint8_t *record,
                                varnucht_length record_len, uint8_t *list, varnucht_length list_len);
 

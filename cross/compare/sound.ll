@@ -45,6 +45,11 @@ start:
   ret { ptr, i64 } %both
 }
 
+define internal noundef i64 @"generic::<i64>"(i64 noundef %a0) #0 {
+start:
+  ret i64 %a0
+}
+
 declare i64 @llvm.ctpop.i64(i64)
 
 attributes #0 = { nounwind "probe-stack"="inline-asm" "stack-probe-size"="3072" "target-cpu"="x86-64" }

@@ -1,8 +1,9 @@
 -- The lowest clear bits of a map, as a pass over its bits finds them.
-use Prim.Native.Nat.{ℕ, zero, suc, ◌+◌, ◌-◌, ◌*◌, ◌/◌, ◌%◌, ◌≤◌, ◌<◌}
+use Prim.Native.Nat.{ℕ, zero, suc, ◌+◌, ◌-◌, ◌*◌, ◌/◌, ◌%◌, ◌≤◌, ◌<◌, min}
 use mathlib.Core.Path.{◌≡◌, refl, sym, ap, ap₂, ◌∙◌}
 use mathlib.Core.Bool.{Bool, true, false, not, and-eq-true_iff}
 use mathlib.Core.List.{List, [], ◌∷◌, ◌++◌, append_assoc, append-nil}
+use mathlib.Core.Logic.{⊎_elim}
 use native.Mathlib.Nat.{add-zero, zero-add}
 use native.Mathlib.Numerals.{add-one}
 use native.Mathlib.Omega.{arith}
@@ -11,7 +12,7 @@ use lib.Dec.{eqb}
 use lib.ListN.{length, get_or, take, set, length-append}
 use lib.Seq.{take-nil}
 use Rattle.buffers.specs.Bytes.{put}
-use Rattle.buffers.proofs.Lists.{put_one, length-put, put-append, put-none, put_past}
+use Rattle.buffers.proofs.Lists.{below_or_not, put_one, length-put, put-append, put-none, put_past}
 use Rattle.maps.specs.Bits.{has}
 use Rattle.maps.proofs.Laws.{bit, has-byte}
 use Rattle.plans.specs.Saving.{satisfying}
@@ -122,21 +123,26 @@ module _ (m : List ℕ) (n : ℕ) (out₀ out : List ℕ) (j b : ℕ) (w : PickL
             ∙ sym (ap₂ (λ (k : ℕ) (x : List ℕ). w.got ++ take k x) s (pass_yes b (unset m) h z)) ∙ w.left;
       }
 
-  pub picked_long : length out ≡ length out₀
+  picked_long : length out ≡ length out₀
   picked_long = ap length w.is ∙ length-put out₀ 0 w.got
 
   ends : take (n - j) (satisfying (1560 - b) b (unset m)) ≡ [] → out ≡ put out₀ 0 (lowest_clear_bits m n)
   ends e = w.is ∙ ap (put out₀ 0) (sym (append-nil w.got) ∙ ap (λ (x : List ℕ). w.got ++ x) (sym e) ∙ w.left)
 
-  pub picked_all : n ≤ j → out ≡ put out₀ 0 (lowest_clear_bits m n)
+  picked_all : n ≤ j → out ≡ put out₀ 0 (lowest_clear_bits m n)
   picked_all h = let e : n - j ≡ 0 = omega arith in ends (rw e)
 
   -- the list is full, so that what is left would lie past its end
-  pub picked_room : length out ≤ j → out ≡ put out₀ 0 (lowest_clear_bits m n)
+  picked_room : length out ≤ j → out ≡ put out₀ 0 (lowest_clear_bits m n)
   picked_room h =
       let z : List ℕ = take (n - j) (satisfying (1560 - b) b (unset m)) in
       w.is ∙ put_past (put out₀ 0 w.got) (0 + length w.got) z (omega (arith, picked_long, w.many, length-put out₀ 0 w.got))
       ∙ put-append out₀ 0 w.got z ∙ ap (put out₀ 0) w.left
+
+  -- as many as are asked for and there is room for
+  pub picked_done : (room : ℕ) → room ≡ min n (length out₀) → room ≤ j → out ≡ put out₀ 0 (lowest_clear_bits m n)
+  picked_done room e h =
+      ⊎_elim (λ (l : j < n). picked_room (omega (arith, picked_long))) (λ (l : n ≤ j). picked_all l) (below_or_not j n)
 
   pub picked_end : 1560 ≤ b → out ≡ put out₀ 0 (lowest_clear_bits m n)
   unfolding satisfying

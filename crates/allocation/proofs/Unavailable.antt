@@ -4,7 +4,7 @@ use mathlib.Core.Path.{◌≡◌, refl, ap, ap₂, ◌∙◌}
 use mathlib.Core.Bool.{Bool, true, false, cond, not, ◌&&◌, ◌||◌}
 use mathlib.Core.List.{List, ◌∷◌}
 use native.Mathlib.Omega.{arith}
-use Rattle.maps.specs.Bits.{has, join}
+use Rattle.maps.specs.Bits.{has}
 use Rattle.maps.proofs.Laws.{has_join}
 use Rattle.slots.specs.Tracks.{data_bit, inner_map}
 use Rattle.slots.proofs.Tracks.{data_few, length_inner, has_inner}
@@ -12,11 +12,6 @@ use Rattle.surveys.specs.Survey.{free_of}
 use Rattle.surveys.specs.declared.UsedMap.{UsedMap}
 use Rattle.plans.specs.Saving.{satisfying}
 use Rattle.allocation.specs.Taken.{unset, unavailable_map}
-
--- as the code makes it
-pub shut_by : (u : UsedMap) (m x : List ℕ) → m ≡ inner_map u.tracks → x ≡ join m u.bytes → x ≡ unavailable_map u
-unfolding unavailable_map
-shut_by u m x e q = q ∙ ap (λ (y : List ℕ). join y u.bytes) e
 
 pub shut_is : (u : UsedMap) (b : ℕ) → b < 1560 → unset (unavailable_map u) b ≡ (data_bit u.tracks b && not (has u.bytes b))
 unfolding unavailable_map

@@ -118,6 +118,19 @@ unfolding part
 part_cut a n m d h k =
     take_all n (drop a d) (omega (arith, length-drop a d)) ∙ sym (take_all m (drop a d) (omega (arith, length-drop a d)))
 
+-- a part whose place and length are cut to the list
+pub part-clipped : (a n k m : ℕ) (d : List ℕ) → k ≡ min a (length d) → m ≡ min n (length d - k) → part k m d ≡ part a n d
+part-clipped a n k m d p q = ⊎_elim there past (below_or_not a (length d))
+  where
+    there : a < length d → part k m d ≡ part a n d
+    there h =
+        let e : k ≡ a = omega arith in
+        ⊎_elim (λ (l : n < length d - a). let f : m ≡ n = omega arith in rw (e, f)) (λ (l : length d - a ≤ n). rw e (part_cut a m n d (omega arith) (omega arith)))
+        (below_or_not n (length d - a))
+
+    past : length d ≤ a → part k m d ≡ part a n d
+    past h = part_none k m d (omega arith) ∙ sym (part_none a n d h)
+
 -- ---- what is put
 
 abbrev inside : ℕ → ℕ → List ℕ → Bool
@@ -223,6 +236,11 @@ put-cut d a x j h m =
     (λ i k l. put_in d a (take j x) i (omega arith) l ∙ get_or-take j x i 0 (omega arith))
     (λ k l. put-before d a (take j x) k l) (λ k l n. absurd (omega arith))
 
+-- as much as there is room for
+pub put_cut_to : (d : List ℕ) (a : ℕ) (x : List ℕ) (k : ℕ) → k ≡ min (length x) (length d - a) → a < length d → put d a (take k x) ≡ put d a x
+put_cut_to d a x k e h =
+    ⊎_elim (λ (l : k < length x). put-cut d a x k (omega arith) (omega arith)) (λ (l : length x ≤ k). put_all_lem d a x k l) (below_or_not k (length x))
+
 -- one run put after another
 pub put-append : (d : List ℕ) (a : ℕ) (x y : List ℕ) → put (put d a x) (a + length x) y ≡ put d a (x ++ y)
 put-append d a x y =
@@ -285,12 +303,9 @@ unfolding word_or
 word_not m i h = rw (lt-leb (i + 8) (length m) h)
 
 -- the bytes of a part, as a number
-word_in : (k a n : ℕ) (m : List ℕ) (j : ℕ) → j + k ≤ n → word k (part a n m) 0 j ≡ word k m a j
+pub word_in : (k a n : ℕ) (m : List ℕ) (j : ℕ) → j + k ≤ n → word k (part a n m) 0 j ≡ word k m a j
 unfolding word
 word_in zero a n m j h = refl
 word_in (suc k) a n m j h =
     let e : 0 + j ≡ j = omega arith in
     rw (e, part_at a n m j (omega arith), word_in k a n m (suc j) (omega arith))
-
-pub word-part : (m : List ℕ) (a n : ℕ) → n ≡ 8 → a + 8 ≤ length m → word_or (part a n m) 0 ≡ word 8 m a 0
-word-part m a n e h = word-there (part a n m) 0 (omega (arith, part-long a n m (omega arith))) ∙ word_in 8 a n m 0 (omega arith)

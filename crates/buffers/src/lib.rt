@@ -1,10 +1,12 @@
 // Bytes of a lent buffer: a byte, eight as one number, a part, a run of bytes copied.
 #![tactic(auto)]
 
-ghost use Rattle.std.specs.Prelude.{◌≡◌, ℕ, ◌+◌, ◌-◌, ◌≤◌, ◌<◌, min, length, get_or};
+ghost use Rattle.std.specs.Prelude.{◌≡◌, ℕ, ◌+◌, ◌-◌, ◌≤◌, ◌<◌, [], ◌∷◌, length, get_or};
 ghost use Rattle.buffers.specs.Bytes.{part, put, word, word_or};
 
-// The byte at a place, and 0 past the end.
+// The byte at a place, and 0 past the end. Not by `get`: the pair that an Option<&u8> is answered as lies otherwise where pointers
+// have 32 bits, so cross/guard refuses it.
+#[tactic(auto, using(crate::proofs::Lists::past_end))]
 pub fn byte_at(s: &[u8], i: usize) -> u8
     ensures { result ≡ get_or s.now i 0 }
 {
@@ -15,74 +17,46 @@ pub fn byte_at(s: &[u8], i: usize) -> u8
 pub fn num_at(s: &[u8], i: usize) -> usize
     ensures { (result ≡ get_or s.now i 0) × (result < 256) }
 {
-    byte_at(s, i) as usize
+    usize::from(byte_at(s, i))
 }
 
-fn wide(x: u8) -> u64
-    ensures { (result ≡ x) × (result < 256) }
-{
-    x as u64
-}
-
-// Eight bytes as one number, low byte first, which the compiler makes one load.
-fn eight_at(s: &[u8], i: usize) -> u64
-    requires { i + 8 ≤ length s.now }
-    ensures { result ≡ word 8 s.now i 0 }
-{
-    wide(s[i])
-        + 256 * wide(s[i + 1])
-        + 65536 * wide(s[i + 2])
-        + 16777216 * wide(s[i + 3])
-        + 4294967296 * wide(s[i + 4])
-        + 1099511627776 * wide(s[i + 5])
-        + 281474976710656 * wide(s[i + 6])
-        + 72057594037927936 * wide(s[i + 7])
-}
-
-// The same of any place; 0 where the eight bytes are not all there.
+// Eight bytes as one number, low byte first, which the compiler makes one load; 0 where the eight are not all there. Not by
+// `first_chunk`, which answers an Option of a reference as `get` does.
 pub fn word_at(s: &[u8], i: usize) -> u64
     ensures { result ≡ word_or s.now i }
 {
-    let len = s.len();
-    if len < 8 {
+    if s.len() < 8 || s.len() - 8 < i {
         return 0;
     }
-    if len - 8 < i {
-        return 0;
-    }
-    eight_at(s, i)
-}
-
-pub fn lesser(a: usize, b: usize) -> usize
-    ensures { result ≡ min a b }
-{
-    if a < b { a } else { b }
+    u64::from_le_bytes([
+        s[i],
+        s[i + 1],
+        s[i + 2],
+        s[i + 3],
+        s[i + 4],
+        s[i + 5],
+        s[i + 6],
+        s[i + 7],
+    ])
 }
 
 // The `n` bytes at a place, uncopied; fewer where the slice ends before.
 pub fn part_at(s: &[u8], at: usize, n: usize) -> &[u8]
     ensures { result.now ≡ part at n s.now }
 {
-    let len = s.len();
-    if len <= at {
-        return &s[0..0];
-    }
-    if len - at < n {
-        return &s[at..len];
-    }
-    let end = at + n;
-    &s[at..end]
+    let start = at.min(s.len());
+    let end = start + n.min(s.len() - start);
+    &s[start..end]
 }
 
-// All of `from`, put at a place of `out` where it fits.
+// All of `from`, put at a place of `out` where it fits. Not by copy_from_slice: it compares the addresses of the two as numbers
+// of 64 bits, which cross/guard refuses, since the library is built for machines with pointers of 32 bits too.
 fn copy(out: &mut [u8], at: usize, from: &[u8])
     requires { at + length from.now ≤ length out.old }
     ensures { out.new ≡ put out.old at from.now }
 {
-    let mut j: usize = 0;
-    while j < from.len() {
+    for j in 0..from.len() {
         out[at + j] = from[j];
-        j += 1;
     }
 }
 
@@ -102,11 +76,9 @@ fn copy_runs(out: &mut [u8], at: usize, from: &[u8])
     requires { at + length from.now ≤ length out.old }
     ensures { out.new ≡ put out.old at from.now }
 {
-    let mut done: usize = 0;
-    while done < from.len() {
-        let end = done + lesser(512, from.len() - done);
+    for done in (0..from.len()).step_by(512) {
+        let end = done + 512usize.min(from.len() - done);
         copy_run(out, at + done, &from[done..end]);
-        done = end;
     }
 }
 
@@ -114,13 +86,18 @@ fn copy_runs(out: &mut [u8], at: usize, from: &[u8])
 pub fn copy_into(out: &mut [u8], at: usize, from: &[u8])
     ensures { out.new ≡ put out.old at from.now }
 {
-    if out.len() <= at {
-        return;
+    if at < out.len() {
+        let n = from.len().min(out.len() - at);
+        copy_runs(out, at, &from[..n]);
     }
-    let room = out.len() - at;
-    if from.len() <= room {
-        copy_runs(out, at, from);
-    } else {
-        copy_runs(out, at, &from[..room]);
+}
+
+// Puts one number at a place of a list, where it has that place.
+#[tactic(auto, using(crate::proofs::Lists::put_one, crate::proofs::Lists::put_past))]
+pub fn put_number(list: &mut [u16], at: usize, n: u16)
+    ensures { list.new ≡ put list.old at (n ∷ []) }
+{
+    if at < list.len() {
+        list[at] = n;
     }
 }

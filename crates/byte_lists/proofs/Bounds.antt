@@ -1,5 +1,5 @@
 -- A change with a list of bytes is the change with a list of numbers: no change names more than 1,562 sectors, so that many numbers are always room enough.
-use Prim.Native.Nat.{ℕ, suc, ◌/◌, ◌≤◌, ◌<◌, min}
+use Prim.Native.Nat.{ℕ, suc, ◌*◌, ◌/◌, ◌≤◌, ◌<◌, min}
 use mathlib.Core.Path.{◌≡◌, refl, ap}
 use mathlib.Core.Bool.{Bool, true, false, cond, not, ◌&&◌}
 use mathlib.Core.List.{List, [], ◌∷◌, ◌++◌}
@@ -8,8 +8,8 @@ use native.Mathlib.Omega.{arith}
 use lib.Dec.{leb, ltb}
 use lib.ListN.{length, get_or, take, drop, length-take}
 use Rattle.buffers.specs.Bytes.{put}
-use Rattle.refusals.specs.Order.{refuse, Reply, ◌else◌, row}
-use Rattle.refusals.specs.Answers.{Outcome}
+use Rattle.refusals.specs.Order.{Refusal, refuse, Reply, ◌else◌, row}
+use Rattle.refusals.specs.Answers.{done, refused}
 use Rattle.slots.specs.Slot.{carried, protected, is_directory, count_of, sectors_for}
 use Rattle.names.specs.Name.{askable, padded}
 use Rattle.chains.specs.File.{File}
@@ -38,10 +38,9 @@ use Rattle.plans.proofs.Saved.{save-long}
 use Rattle.plans.proofs.SafeSteps.{save_tested}
 use Rattle.plans.proofs.Demand3.{run_room}
 use Rattle.allocation.proofs.Unavailable.{free_le}
-use Rattle.packing.specs.Packed.{outcome_value}
-use Rattle.byte_lists.specs.Lists.{in_bytes, change_bytes, CountFits}
+use Rattle.byte_lists.specs.Lists.{in_bytes, change_bytes}
 use Rattle.byte_lists.proofs.Table.{Small, small_else, small_row, check_small}
-use Rattle.byte_lists.proofs.Lent.{least-room, lent_counted, lent_is}
+use Rattle.byte_lists.proofs.Lent.{least-room, lent_room, lent_is, lent_refused}
 
 -- how many sectors a change names at most
 abbrev pub most : Change → ℕ
@@ -229,11 +228,15 @@ module _ (c : Change) (d b xs : List ℕ) (k : ℕ) (room : k ≡ min (length b 
   fits : (n : ℕ) (new ss : List ℕ) → run_change c d n ≡ new_disk new ss → length ss ≤ n
   fits n new ss e = (run_room c d n new ss e).fits
 
-  module _ (o : Outcome) (d' ys : List ℕ) (e : changed o d' ys ≡ change c d (take k xs)) where
-    pub counted : CountFits o (ys ++ drop k xs) b
-    unfolding change
-    counted = lent_counted (run_change c d) d b xs k room same fits o d' ys e
+  pub named_room : (n : ℕ) (d' ys : List ℕ) → changed (done n 0) d' ys ≡ change c d (take k xs) → (n ≤ length (ys ++ drop k xs)) × (2 * n ≤ length b)
+  unfolding change
+  named_room = lent_room (run_change c d) d b xs k room same fits
 
-    pub changing_is : (p : Outcome) → p ≡ o → (b' : List ℕ) → b' ≡ put b 0 (in_bytes (take (outcome_value o) (ys ++ drop k xs))) → changed p d' b' ≡ change_bytes c d b
-    unfolding change change_bytes
-    changing_is = lent_is (run_change c d) d b xs k room same fits o d' ys e
+  pub changing_is : (n : ℕ) (d' ys : List ℕ) → changed (done n 0) d' ys ≡ change c d (take k xs) → (b' : List ℕ) → b' ≡ put b 0 (in_bytes (take n (ys ++ drop k xs)))
+      → changed (done n 0) d' b' ≡ change_bytes c d b
+  unfolding change change_bytes
+  changing_is = lent_is (run_change c d) d b xs k room same fits
+
+  pub changing_refused : (r : Refusal) (d' ys : List ℕ) → changed (refused r) d' ys ≡ change c d (take k xs) → changed (refused r) d' b ≡ change_bytes c d b
+  unfolding change change_bytes
+  changing_refused = lent_refused (run_change c d) d b xs k room same fits

@@ -8,9 +8,8 @@ use native.Mathlib.Omega.{arith}
 use lib.Dec.{ltb}
 use lib.ListN.{length, take, drop, length-take, length-append, length-drop}
 use Rattle.buffers.specs.Bytes.{put}
-use Rattle.refusals.specs.Order.{Reply, ◌else◌, row}
-use Rattle.refusals.specs.Answers.{Outcome}
-use Rattle.refusals.proofs.First.{else_none}
+use Rattle.refusals.specs.Order.{Refusal, Reply, row}
+use Rattle.refusals.specs.Answers.{done, refused}
 use Rattle.surveys.specs.Survey.{free}
 use Rattle.disk.specs.View.{View, view, view_slots, view_tracks}
 use Rattle.disk.specs.Check.{check_disk}
@@ -21,7 +20,6 @@ use Rattle.plans.specs.Saving.{stream}
 use Rattle.plans.specs.Plan.{data_steps, old_name, dir_sectors, planned_steps, plan_unless, save_reply, new_disk, changed}
 use Rattle.plans.specs.Allowed.{sectors_taken}
 use Rattle.plans.proofs.Ended.{dir_numbers_lem, dirs_some}
-use Rattle.packing.specs.Packed.{outcome_value}
 use Rattle.recordings.specs.Recording.{Recording, with_piece, chain_of, inner_sectors, disk_moved, piece_steps, piece_reply, piece_plan, add_piece, close_data, close_steps, close_slot, close_reply, close_plan, close_recording}
 use Rattle.recordings.specs.Record.{recording_of, record_by}
 use Rattle.recordings.specs.Calls.{add_piece_call, added_record, close_call}
@@ -29,10 +27,10 @@ use Rattle.recordings.specs.declared.Record.{Record}
 use Rattle.recordings.proofs.Piece.{made_of, piece_of}
 use Rattle.recordings.proofs.Refused.{length_data}
 use Rattle.operations.specs.Operations.{record_piece, record_close}
-use Rattle.byte_lists.specs.Lists.{in_bytes, CountFits}
+use Rattle.byte_lists.specs.Lists.{in_bytes}
 use Rattle.byte_lists.specs.EraseMany.{operation_bytes}
 use Rattle.byte_lists.proofs.Table.{Small, small_else, small_row, check_small}
-use Rattle.byte_lists.proofs.Lent.{lent_same, lent_counted, lent_is}
+use Rattle.byte_lists.proofs.Lent.{lent_same, lent_room, lent_is, lent_refused}
 use Rattle.byte_lists.proofs.Bounds.{PlanBounded, ResultBounded, small-save, free-few, bounded_settled, same_settled}
 
 -- ---- how many sectors each names at most
@@ -108,14 +106,18 @@ unfolding add_piece
 adding_fits k x d m new ss e = (made_of d (piece_plan d (recording_of k) x) m new ss e).fits
 
 module _ (k : Record) (x d b xs : List ℕ) (n : ℕ) (room : n ≡ min (length b / 2) (length xs)) (enough : 1558 ≤ length xs) where
-  module _ (o : Outcome) (d' ys : List ℕ) (e : changed o d' ys ≡ add_piece_call k x d (take n xs)) where
-    pub added_counted : CountFits o (ys ++ drop n xs) b
-    unfolding add_piece_call
-    added_counted = lent_counted (add_piece (recording_of k) x d) d b xs n room (adding_same k x d xs n (length b / 2) room enough) (adding_fits k x d) o d' ys e
+  pub added_room : (m : ℕ) (d' ys : List ℕ) → changed (done m 0) d' ys ≡ add_piece_call k x d (take n xs) → (m ≤ length (ys ++ drop n xs)) × (2 * m ≤ length b)
+  unfolding add_piece_call
+  added_room = lent_room (add_piece (recording_of k) x d) d b xs n room (adding_same k x d xs n (length b / 2) room enough) (adding_fits k x d)
 
-    pub added_is : (p : Outcome) → p ≡ o → (b' : List ℕ) → b' ≡ put b 0 (in_bytes (take (outcome_value o) (ys ++ drop n xs))) → changed p d' b' ≡ operation_bytes (record_piece (recording_of k) x) d b
-    unfolding add_piece_call
-    added_is = lent_is (add_piece (recording_of k) x d) d b xs n room (adding_same k x d xs n (length b / 2) room enough) (adding_fits k x d) o d' ys e
+  pub added_is : (m : ℕ) (d' ys : List ℕ) → changed (done m 0) d' ys ≡ add_piece_call k x d (take n xs) → (b' : List ℕ) → b' ≡ put b 0 (in_bytes (take m (ys ++ drop n xs)))
+      → changed (done m 0) d' b' ≡ operation_bytes (record_piece (recording_of k) x) d b
+  unfolding add_piece_call
+  added_is = lent_is (add_piece (recording_of k) x d) d b xs n room (adding_same k x d xs n (length b / 2) room enough) (adding_fits k x d)
+
+  pub added_refused : (r : Refusal) (d' ys : List ℕ) → changed (refused r) d' ys ≡ add_piece_call k x d (take n xs) → changed (refused r) d' b ≡ operation_bytes (record_piece (recording_of k) x) d b
+  unfolding add_piece_call
+  added_refused = lent_refused (add_piece (recording_of k) x d) d b xs n room (adding_same k x d xs n (length b / 2) room enough) (adding_fits k x d)
 
 module _ (k : Record) (d b xs : List ℕ) (n : ℕ) (room : n ≡ min (length b / 2) (length xs)) (enough : 4 ≤ length xs) where
   closing_same : close_recording (recording_of k) d (min (length b / 2) (length xs)) ≡ close_recording (recording_of k) d (length b / 2)
@@ -126,11 +128,15 @@ module _ (k : Record) (d b xs : List ℕ) (n : ℕ) (room : n ≡ min (length b 
   unfolding close_recording
   closing_fits m new ss e = (made_of d (close_plan d (recording_of k)) m new ss e).fits
 
-  module _ (o : Outcome) (d' ys : List ℕ) (e : changed o d' ys ≡ close_call k d (take n xs)) where
-    pub closed-counted : CountFits o (ys ++ drop n xs) b
-    unfolding close_call
-    closed-counted = lent_counted (close_recording (recording_of k) d) d b xs n room closing_same closing_fits o d' ys e
+  pub closed_room : (m : ℕ) (d' ys : List ℕ) → changed (done m 0) d' ys ≡ close_call k d (take n xs) → (m ≤ length (ys ++ drop n xs)) × (2 * m ≤ length b)
+  unfolding close_call
+  closed_room = lent_room (close_recording (recording_of k) d) d b xs n room closing_same closing_fits
 
-    pub closed_is : (p : Outcome) → p ≡ o → (b' : List ℕ) → b' ≡ put b 0 (in_bytes (take (outcome_value o) (ys ++ drop n xs))) → changed p d' b' ≡ operation_bytes (record_close (recording_of k)) d b
-    unfolding close_call
-    closed_is = lent_is (close_recording (recording_of k) d) d b xs n room closing_same closing_fits o d' ys e
+  pub closed_is : (m : ℕ) (d' ys : List ℕ) → changed (done m 0) d' ys ≡ close_call k d (take n xs) → (b' : List ℕ) → b' ≡ put b 0 (in_bytes (take m (ys ++ drop n xs)))
+      → changed (done m 0) d' b' ≡ operation_bytes (record_close (recording_of k)) d b
+  unfolding close_call
+  closed_is = lent_is (close_recording (recording_of k) d) d b xs n room closing_same closing_fits
+
+  pub closed_refused : (r : Refusal) (d' ys : List ℕ) → changed (refused r) d' ys ≡ close_call k d (take n xs) → changed (refused r) d' b ≡ operation_bytes (record_close (recording_of k)) d b
+  unfolding close_call
+  closed_refused = lent_refused (close_recording (recording_of k) d) d b xs n room closing_same closing_fits

@@ -1,11 +1,11 @@
 -- A change with a list of bytes, two to a number.
-use Rattle.std.specs.Prelude.{ℕ, ◌+◌, ◌*◌, ◌/◌, ◌%◌, ◌≤◌, List, [], ◌∷◌, ◌≡◌, length}
+use Rattle.std.specs.Prelude.{ℕ, ◌+◌, ◌*◌, ◌/◌, ◌%◌, List, [], ◌∷◌, ◌≡◌, length}
+use Rattle.std.specs.Prelude as Prelude
 use Rattle.buffers.specs.Bytes.{put}
-use Rattle.refusals.specs.Answers.{Outcome, done, refused, outcome_of}
-use Rattle.refusals.specs.declared.Answer.{Answer}
+use Rattle.refusals.specs.Answers.{done, refused, outcome_of}
+use Rattle.refusals.specs.declared.Refused.{Refused}
 use Rattle.plans.specs.Change.{Change}
 use Rattle.plans.specs.Plan.{Result, refused_result, new_disk, run_change, Changed, changed}
-use Rattle.packing.specs.Packed.{outcome_value}
 
 -- "In the C layer the buffer is bytes, two to a number, low byte first."
 unfoldable pub in_bytes : List ℕ → List ℕ
@@ -28,10 +28,5 @@ unfoldable pub change_bytes : Change → List ℕ → List ℕ → Changed
 change_bytes c d b = change_bytes_by (run_change c d (length b / 2)) d b
 
 -- answer, image and list at return are those of the change
-abbrev pub ReturnsByteChange : Change → List ℕ → List ℕ → Answer → List ℕ → List ℕ → Type 0
+abbrev pub ReturnsByteChange : Change → List ℕ → List ℕ → Prelude.Result ℕ Refused → List ℕ → List ℕ → Type 0
 ReturnsByteChange c d b r d' b' = changed (outcome_of r) d' b' ≡ change_bytes c d b
-
--- as many numbers as an answer counts, and a list with room for them
-pub record CountFits (o : Outcome) (named b : List ℕ) : Type 0 where
-  pub enough : outcome_value o ≤ length named
-  pub room : 2 * outcome_value o ≤ length b

@@ -2,17 +2,15 @@
 // directory with its slots so.
 #![tactic(auto)]
 
-ghost use Rattle.std.specs.Prelude.{◌≡◌, ◌+◌, ◌*◌, ◌/◌, ◌≤◌, length, take};
+ghost use Rattle.std.specs.Prelude.{◌≡◌, ◌+◌, ◌*◌, ◌/◌, ◌≤◌, [], ◌∷◌, length, take};
 ghost use Rattle.buffers.specs.Bytes.{put};
 ghost use Rattle.refusals.specs.Answers.{outcome_of, out};
-ghost use Rattle.directory.specs.Places.{slots};
-ghost use Rattle.packing.specs.Packed.{outcome_value};
 ghost use Rattle.plans.specs.Change.{save, erase, rename, mark, gather};
 ghost use Rattle.plans.specs.Gathered.{run_sectors};
 ghost use Rattle.changes.specs.Marks.{mark_of};
 ghost use Rattle.saves.specs.Write.{save_request};
 ghost use Rattle.gathers.specs.Call.{moved_sectors, MoveInRange};
-ghost use Rattle.byte_lists.specs.Lists.{in_bytes, ReturnsByteChange, CountFits};
+ghost use Rattle.byte_lists.specs.Lists.{in_bytes, ReturnsByteChange};
 ghost use Rattle.byte_lists.specs.Trees.{tree_listing_bytes};
 ghost use Rattle.erase_many.specs.EraseMany.{erased};
 ghost use Rattle.byte_lists.specs.EraseMany.{erase_many_bytes, operation_bytes};
@@ -22,74 +20,66 @@ ghost use Rattle.recordings.specs.Record.{recording_of};
 ghost use Rattle.recordings.specs.Calls.{added_record};
 
 use changes::Marking;
-use gathers::{Gathered, Move};
-use record_add::Added;
+use gathers::Move;
 use recordings::Record;
-use refusals::Answer;
+use refusals::Refused;
+
+// Puts a number as the two bytes of the place `j` of a list, low byte first.
+fn put_pair(list: &mut [u8], j: usize, number: u16)
+    requires { 2 * j + 2 ≤ length list.old }
+    ensures { list.new ≡ put list.old (2 * j) (in_bytes (number ∷ [])) }
+{
+    let pair = number.to_le_bytes();
+    list[2 * j] = pair[0];
+    list[2 * j + 1] = pair[1];
+}
 
 // Puts the first `n` of the numbers to the front of a list, two bytes each, low byte first.
 fn put_numbers(list: &mut [u8], numbers: &[u16], n: usize)
     requires { (n ≤ length numbers.now) × (2 * n ≤ length list.old) }
     ensures { list.new ≡ put list.old 0 (in_bytes (take n numbers.now)) }
 {
-    let mut j: usize = 0;
-    while j < n {
-        let s = numbers[j];
-        list[2 * j] = (s % 256) as u8;
-        list[2 * j + 1] = (s / 256) as u8;
-        j += 1;
-    }
-}
-
-// Puts the sectors that a change's answer counts to the front of the list, and answers the same.
-fn put_counted(a: Answer, numbers: &[u16], list: &mut [u8]) -> Answer
-    requires { CountFits (outcome_of a) numbers.now list.old }
-    ensures { (result ≡ a) × (list.new ≡ put list.old 0 (in_bytes (take (outcome_value (outcome_of a)) numbers.now))) }
-{
-    match a {
-        Answer::Done(n, _) => {
-            put_numbers(list, numbers, n);
-            a
-        }
-        Answer::Err(_) => a,
+    for j in 0..n {
+        put_pair(list, j, numbers[j]);
     }
 }
 
 // Erases a file: how many sectors, and their numbers to the front of the list.
-pub fn erase(image: &mut [u8], name: &[u8], list: &mut [u8]) -> Answer
+pub fn erase(image: &mut [u8], name: &[u8], list: &mut [u8]) -> Result<usize, Refused>
     ensures { ReturnsByteChange (erase name.now) image.old list.old result image.new list.new }
 {
     let mut numbers = [0u16; 1];
-    let room = buffers::lesser(list.len() / 2, 1);
-    let erased = changes::erase(image, name, &mut numbers[..room]);
-    put_counted(erased, &numbers, list)
+    let room = (list.len() / 2).min(1);
+    let erased = changes::erase(image, name, &mut numbers[..room])?;
+    put_numbers(list, &numbers, erased);
+    Ok(erased)
 }
 
 // Gives a file a new name.
-pub fn rename(image: &mut [u8], name: &[u8], new: &[u8], list: &mut [u8]) -> Answer
+pub fn rename(image: &mut [u8], name: &[u8], new: &[u8], list: &mut [u8]) -> Result<usize, Refused>
     ensures { ReturnsByteChange (rename name.now new.now) image.old list.old result image.new list.new }
 {
     let mut numbers = [0u16; 1];
-    let room = buffers::lesser(list.len() / 2, 1);
-    let renamed = changes::rename(image, name, new, &mut numbers[..room]);
-    put_counted(renamed, &numbers, list)
+    let room = (list.len() / 2).min(1);
+    let renamed = changes::rename(image, name, new, &mut numbers[..room])?;
+    put_numbers(list, &numbers, renamed);
+    Ok(renamed)
 }
 
 // Sets or clears one of a file's two marks.
-pub fn set_mark(image: &mut [u8], name: &[u8], marking: Marking, list: &mut [u8]) -> Answer
+pub fn set_mark(
+    image: &mut [u8],
+    name: &[u8],
+    marking: Marking,
+    list: &mut [u8],
+) -> Result<usize, Refused>
     ensures { ReturnsByteChange (mark (mark_of marking) name.now) image.old list.old result image.new list.new }
 {
     let mut numbers = [0u16; 1];
-    let room = buffers::lesser(list.len() / 2, 1);
-    let marked = changes::set_mark(image, name, marking, &mut numbers[..room]);
-    put_counted(marked, &numbers, list)
-}
-
-// Room for the numbers of every save: 1,560 data sectors and one of the directory.
-fn no_numbers() -> [u16; 1562]
-    ensures { length result ≡ 1562 }
-{
-    [0u16; 1562]
+    let room = (list.len() / 2).min(1);
+    let marked = changes::set_mark(image, name, marking, &mut numbers[..room])?;
+    put_numbers(list, &numbers, marked);
+    Ok(marked)
 }
 
 // Saves a file.
@@ -103,11 +93,12 @@ pub fn save(
     info: &[u8],
     body: &[u8],
     list: &mut [u8],
-) -> Answer
+) -> Result<usize, Refused>
     ensures { ReturnsByteChange (save (save_request kind name.now page offset exec.now info.now body.now)) image.old list.old result image.new list.new }
 {
-    let mut numbers = no_numbers();
-    let room = buffers::lesser(list.len() / 2, 1562);
+    // Room for the numbers of every save: 1,560 data sectors, and those of the directory.
+    let mut numbers = [0u16; 1562];
+    let room = (list.len() / 2).min(1562);
     let saved = saves::save(
         image,
         kind,
@@ -118,25 +109,20 @@ pub fn save(
         info,
         body,
         &mut numbers[..room],
-    );
-    put_counted(saved, &numbers, list)
-}
-
-// Room for the numbers of every listing of a directory.
-fn no_slots() -> [u16; directory::SLOTS]
-    ensures { length result ≡ slots }
-{
-    [0u16; directory::SLOTS]
+    )?;
+    put_numbers(list, &numbers, saved);
+    Ok(saved)
 }
 
 // What lies beneath a directory: how many, and their slots to the front of the list.
-pub fn list_tree(image: &[u8], name: &[u8], list: &mut [u8]) -> Answer
+pub fn list_tree(image: &[u8], name: &[u8], list: &mut [u8]) -> Result<usize, Refused>
     ensures { out (outcome_of result) list.new ≡ tree_listing_bytes image.now name.now list.old }
 {
-    let mut numbers = no_slots();
-    let room = buffers::lesser(list.len() / 2, directory::SLOTS);
-    let listed = tree_lists::list_tree(image, name, &mut numbers[..room]);
-    put_counted(listed, &numbers, list)
+    let mut numbers = [0u16; directory::SLOTS];
+    let room = (list.len() / 2).min(directory::SLOTS);
+    let listed = tree_lists::list_tree(image, name, &mut numbers[..room])?;
+    put_numbers(list, &numbers, listed);
+    Ok(listed)
 }
 
 // Puts the sector numbers of the `n` map bits from `b` on to the front of a list, two bytes each, low byte first.
@@ -144,12 +130,8 @@ fn put_run(list: &mut [u8], n: usize, b: usize)
     requires { (2 * n ≤ length list.old) × (b + n ≤ 1560) }
     ensures { list.new ≡ put list.old 0 (in_bytes (run_sectors n b)) }
 {
-    let mut j: usize = 0;
-    while j < n {
-        let sector = geometry::bit_place(b + j) / 512;
-        list[2 * j] = (sector % 256) as u8;
-        list[2 * j + 1] = (sector / 256) as u8;
-        j += 1;
+    for j in 0..n {
+        put_pair(list, j, (geometry::bit_place(b + j) / 512) as u16);
     }
 }
 
@@ -158,65 +140,66 @@ fn put_moved(list: &mut [u8], to: Move)
     requires { MoveInRange to (length list.old / 2) }
     ensures { list.new ≡ put list.old 0 (in_bytes (moved_sectors to)) }
 {
-    let count = to.count;
-    put_run(list, count, to.bit);
-    let s = directory::dir_sector(to.slot);
-    list[2 * count] = (s % 256) as u8;
-    list[2 * count + 1] = (s / 256) as u8;
+    put_run(list, to.count, to.bit);
+    put_pair(list, to.count, directory::dir_sector(to.slot) as u16);
 }
 
 // Gathers a file: how many sectors, and their numbers to the front of the list. They are told by where the file went, so that no
 // room for them is taken here.
-pub fn gather(image: &mut [u8], name: &[u8], list: &mut [u8]) -> Answer
+pub fn gather(image: &mut [u8], name: &[u8], list: &mut [u8]) -> Result<usize, Refused>
     ensures { ReturnsByteChange (gather name.now) image.old list.old result image.new list.new }
 {
     let room = list.len() / 2;
-    match gathers::gather_in(image, name, room) {
-        Gathered::Err(r) => Answer::Err(r),
-        Gathered::InPlace => Answer::Done(0, 0),
-        Gathered::Relocated(to) => {
+    match gathers::gather_in(image, name, room)? {
+        None => Ok(0),
+        Some(to) => {
             put_moved(list, to);
-            Answer::Done(to.count + 1, 0)
+            Ok(to.count + 1)
         }
     }
 }
 
 // Erases an erase-many of files, their names of ten bytes each laid end to end: how many sectors, an answer to each name, and the
 // numbers of the sectors to the front of the list.
-pub fn erase_many(image: &mut [u8], names: &[u8], answers: &mut [u8], list: &mut [u8]) -> Answer
+pub fn erase_many(
+    image: &mut [u8],
+    names: &[u8],
+    answers: &mut [u8],
+    list: &mut [u8],
+) -> Result<usize, Refused>
     ensures { erased (outcome_of result) image.new answers.new list.new ≡ erase_many_bytes image.old names.now answers.old list.old }
 {
     let mut numbers = [0u16; slot_erasing::DIR_SECTORS];
-    let room = buffers::lesser(list.len() / 2, slot_erasing::DIR_SECTORS);
-    let emptied = erase_calls::erase_many(image, names, answers, &mut numbers[..room]);
-    put_counted(emptied, &numbers, list)
-}
-
-// Room for the numbers of every piece: all but the first and the last of 1,560 sectors.
-fn no_sectors() -> [u16; 1558]
-    ensures { length result ≡ 1558 }
-{
-    [0u16; 1558]
+    let room = (list.len() / 2).min(slot_erasing::DIR_SECTORS);
+    let emptied = erase_calls::erase_many(image, names, answers, &mut numbers[..room])?;
+    put_numbers(list, &numbers, emptied);
+    Ok(emptied)
 }
 
 // Adds a piece to a recording: how many sectors, their numbers to the front of the list, and the record.
-pub fn add_piece(image: &mut [u8], kept: Record, bytes: &[u8], list: &mut [u8]) -> Added
-    ensures { (changed (outcome_of result.answer) image.new list.new ≡ operation_bytes (record_piece (recording_of kept) bytes.now) image.old list.old) × (result.«record» ≡ added_record kept bytes.now image.old (length list.old / 2)) }
+pub fn add_piece(
+    image: &mut [u8],
+    kept: &mut Record,
+    bytes: &[u8],
+    list: &mut [u8],
+) -> Result<usize, Refused>
+    ensures { (changed (outcome_of result) image.new list.new ≡ operation_bytes (record_piece (recording_of kept.old) bytes.now) image.old list.old) × (kept.new ≡ added_record kept.old bytes.now image.old (length list.old / 2)) }
 {
-    let mut numbers = no_sectors();
-    let room = buffers::lesser(list.len() / 2, 1558);
-    let added = record_add::add(image, kept, bytes, &mut numbers[..room]);
-    let answer = added.answer;
-    put_counted(answer, &numbers, list);
-    added
+    // Room for the numbers of every piece: all but the first and the last of 1,560 sectors.
+    let mut numbers = [0u16; 1558];
+    let room = (list.len() / 2).min(1558);
+    let added = record_add::add(image, kept, bytes, &mut numbers[..room])?;
+    put_numbers(list, &numbers, added);
+    Ok(added)
 }
 
 // Closes a recording: how many sectors, and their numbers to the front of the list.
-pub fn close(image: &mut [u8], kept: Record, list: &mut [u8]) -> Answer
-    ensures { changed (outcome_of result) image.new list.new ≡ operation_bytes (record_close (recording_of kept)) image.old list.old }
+pub fn close(image: &mut [u8], kept: &Record, list: &mut [u8]) -> Result<usize, Refused>
+    ensures { changed (outcome_of result) image.new list.new ≡ operation_bytes (record_close (recording_of kept.now)) image.old list.old }
 {
     let mut numbers = [0u16; 4];
-    let room = buffers::lesser(list.len() / 2, 4);
-    let closed = record_close::close(image, kept, &mut numbers[..room]);
-    put_counted(closed, &numbers, list)
+    let room = (list.len() / 2).min(4);
+    let closed = record_close::close(image, kept, &mut numbers[..room])?;
+    put_numbers(list, &numbers, closed);
+    Ok(closed)
 }

@@ -2,9 +2,10 @@
 use Prim.Native.Nat.{ℕ, zero, suc, ◌+◌, ◌-◌, ◌*◌, ◌≤◌, ◌<◌}
 use mathlib.Core.Path.{◌≡◌, refl, sym, ap, ◌∙◌}
 use mathlib.Core.Bool.{Bool, true, false, cond, not, ◌||◌, true≢false}
-use mathlib.Core.List.{List, [], ◌++◌, append-nil}
+use mathlib.Core.List.{List, [], ◌∷◌, ◌++◌, append-nil}
 use mathlib.Core.Logic.{⊎_elim}
 use mathlib.Core.Option.{Option, none, some}
+use Rattle.std.specs.Prelude.{Result, Ok, Err}
 use native.Mathlib.Nat.{add-zero, add-suc}
 use native.Mathlib.Numerals.{add-one}
 use native.Mathlib.Omega.{arith}
@@ -13,10 +14,11 @@ use lib.Dec.{eqb, leb, ltb}
 use lib.ListN.{length, get_or, take, length-append}
 use Rattle.buffers.specs.Bytes.{part, put}
 use Rattle.buffers.proofs.Lists.{below_or_not, part-whole, part-long, part-put}
-use Rattle.refusals.specs.Order.{Refusal, refuse, Reply, row}
-use Rattle.refusals.specs.Answers.{Outcome, refused, done, outcome_of, Out, out, filled}
-use Rattle.refusals.specs.declared.Answer.{Answer}
-use Rattle.refusals.specs.declared.Answer.TheVariants.{Done}
+use Rattle.refusals.specs.Order.{refuse, Reply, ◌else◌, ◌when◌, row}
+use Rattle.refusals.specs.Answers.{Outcome, refused, done, refusal_of, reply_of, outcome_of, Out, out, filled}
+use Rattle.refusals.specs.declared.Reason.TheVariants.{NotAnImage, TracksOutOfRange}
+use Rattle.refusals.specs.declared.Refused.{Refused}
+use Rattle.refusals.proofs.First.{else_none, rows_clear}
 use Rattle.slots.specs.Slot.{is_live, hidden, count_of}
 use Rattle.slots.specs.Tracks.{tracks_by}
 use Rattle.slots.proofs.Tracks.{data_few}
@@ -25,12 +27,13 @@ use Rattle.text_lines.specs.Written.{Wrote}
 use Rattle.text_lines.proofs.Laws.{wrote_then, line-most, length-free, decimal-most, refusal-most}
 use Rattle.directory.specs.Places.{slot_count, slots}
 use Rattle.directory.specs.Directory.{fold_option, Directory, label_of, tracks_of, slots_read, directory, slot_or}
-use Rattle.surveys.specs.Survey.{survey, counted, used_map, used_or, free_of, free}
-use Rattle.surveys.specs.declared.UsedMap.{UsedMap}
+use Rattle.surveys.specs.Survey.{survey, counted, used_map, free_of, free}
+use Rattle.surveys.specs.Steps.{Surveyed}
+use Rattle.surveys.specs.declared.Survey.{Survey}
 use Rattle.directory.proofs.Ends.{read-most}
 use Rattle.directory.proofs.Live.{label-front, directory_base, directory-front, directory-read, directory-unread}
 use Rattle.directory.proofs.Label.{label-byte}
-use Rattle.surveys.proofs.Pass.{survey_passed}
+use Rattle.surveys.proofs.Pass.{survey_passed, surveyed_ok, surveyed_err}
 use Rattle.catalogue.specs.Text.{lines, more_tracks, reply_to, text_by, text, catalogue_of}
 
 -- of the lines of the first k slots, the last is that of the bytes read there
@@ -92,10 +95,6 @@ text-most d = by (reply_to d)
         let n = free 0 (directory d) in
         omega (arith, length-append (lines (directory d) 80) (free_line n), lines-most (directory d) 80 (omega arith), length-free n, decimal-most n)
 
-pub text-short : (d : List ℕ) → length d < 40960 → refusal_line (refuse 1 0) ≡ text d
-unfolding text reply_to
-text-short d h = rw (lt-ltb (length d) 40960 h)
-
 -- ---- the number of tracks, as the code meets byte 255
 
 pub no_byte : (d : List ℕ) {n : ℕ} → n ≡ get_or d 255 0 → n ≡ 0 → false ≡ more_tracks (label_of d 255)
@@ -116,26 +115,40 @@ no_tracks d e = by (eqb (label_of d 255) 0) refl (eqb (label_of d 255) 255) refl
     by false p true q w = rw (eqb-true (label_of d 255) 255 q)
     by false p false q w = absurd (true≢false w)
 
-module _ (d : List ℕ) (h : 40960 ≤ length d) where
-  pub text-tracks : more_tracks (label_of d 255) ≡ true → refusal_line (refuse 24 0) ≡ text d
-  unfolding text reply_to
-  text-tracks e = rw (le-ltb (length d) 40960 h, e)
+-- where the directory is accepted there are none
+plain_tracks : (d : List ℕ) → reply_to d ≡ none → tracks_of d ≡ 0
+unfolding reply_to
+plain_tracks d e =
+    let a = else_none (row 1 0 (ltb (length d) 40960)) _ e in
+    let b = else_none (row 24 0 (more_tracks (label_of d 255))) (survey 0 (directory d)) a.1 in
+    no_tracks d (rows_clear 0 ((24 when more_tracks (label_of d 255)) ∷ []) b.0).0
 
-  module _ (t : more_tracks (label_of d 255) ≡ false) where
-    pub text-refused : (r : Refusal) → survey (tracks_of d) (directory d) ≡ some r → refusal_line r ≡ text d
-    unfolding text reply_to
-    text-refused r e =
-        let q : survey 0 (directory d) ≡ some r = sym (ap (λ (n : ℕ). survey n (directory d)) (no_tracks d t)) ∙ e in
-        rw (le-ltb (length d) 40960 h, t, q)
+-- ---- what the directory is refused for, or its survey
 
-    pub text-accepted : (u : UsedMap) (n : ℕ) → survey (tracks_of d) (directory d) ≡ none → u ≡ used_or (survey (tracks_of d) (directory d)) (tracks_of d) (directory d) → n ≡ free_of u
-        → lines (directory d) slots ++ free_line n ≡ text d
-    unfolding text reply_to free
-    text-accepted u n e p q =
-        let s : survey 0 (directory d) ≡ none = sym (ap (λ (n : ℕ). survey n (directory d)) (no_tracks d t)) ∙ e in
-        let f : n ≡ free_of (used_map 0 (directory d)) =
-        q ∙ ap free_of (p ∙ ap (λ (o : Reply). used_or o (tracks_of d) (directory d)) e ∙ ap (λ (n : ℕ). used_map n (directory d)) (no_tracks d t)) in
-        rw (le-ltb (length d) 40960 h, t, s, f, lines_base d (no_tracks d t))
+module _ (d : List ℕ) (r : Result Survey Refused) where
+  pub surveyed-short : length d < 40960 → r ≡ Err (record { reason = NotAnImage; slot = 0 }) → Surveyed (reply_to d) d r
+  unfolding reply_to
+  surveyed-short h e = rw e (record { reply = rw (lt-ltb (length d) 40960 h); used = tt; files = tt })
+
+  pub surveyed-tracks : 40960 ≤ length d → more_tracks (label_of d 255) ≡ true → r ≡ Err (record { reason = TracksOutOfRange; slot = 0 }) → Surveyed (reply_to d) d r
+  unfolding reply_to
+  surveyed-tracks h t e = rw e (record { reply = rw (le-ltb (length d) 40960 h, t); used = tt; files = tt })
+
+  pub surveyed-slots : 40960 ≤ length d → more_tracks (label_of d 255) ≡ false → Surveyed (survey (tracks_of d) (directory d)) d r → Surveyed (reply_to d) d r
+  unfolding reply_to
+  surveyed-slots h t w = record { reply = rw (le-ltb (length d) 40960 h, t) (w.reply ∙ ap (λ (n : ℕ). survey n (directory d)) (no_tracks d t)); used = w.used; files = w.files }
+
+  pub text-refused : Surveyed (reply_to d) d r → (f : Refused) → r ≡ Err f → refusal_line (refusal_of f) ≡ text d
+  unfolding text
+  text-refused w f e = rw (surveyed_err (reply_to d) d r f w e)
+
+  pub text-accepted : Surveyed (reply_to d) d r → (s : Survey) → r ≡ Ok s → (n : ℕ) → n ≡ free_of s.used → lines (directory d) slots ++ free_line n ≡ text d
+  unfolding text free
+  text-accepted w s e n q =
+      let z = surveyed_ok (reply_to d) d r s w e in
+      let t = plain_tracks d z.0 in
+      let f : n ≡ free_of (used_map 0 (directory d)) = q ∙ ap free_of (z.1 ∙ ap (λ (n : ℕ). used_map n (directory d)) t) in
+      rw (z.0, f, lines_base d t)
 
 text-long : (d : List ℕ) → 40960 ≤ length d → text d ≡ text (part 0 40960 d)
 unfolding text reply_to
@@ -211,5 +224,5 @@ done_within d buf b n f e =
     (below_or_not (length buf) (length (text d)))
 
 -- a length that is answered lies within the buffer
-pub answer_within : (d buf b : List ℕ) (r : Answer) (n f : ℕ) → r ≡ Done n f → out (outcome_of r) b ≡ catalogue_of d buf → n ≤ length buf
-answer_within d buf b r n f p e = done_within d buf b n f (ap (λ (a : Answer). out (outcome_of a) b) (sym p) ∙ e)
+pub answer_within : (d buf b : List ℕ) (r : Result ℕ Refused) (n : ℕ) → r ≡ Ok n → out (outcome_of r) b ≡ catalogue_of d buf → n ≤ length buf
+answer_within d buf b r n p e = done_within d buf b n 0 (ap (λ (a : Result ℕ Refused). out (outcome_of a) b) (sym p) ∙ e)

@@ -21,13 +21,13 @@ pub record VisitedMap (m : List ℕ) (b : ℕ) (passed : ℕ → Bool) : Type 0 
   pub long : length m ≡ 195
   pub bits : (c : ℕ) → has m c ≡ with_visited passed b c
 
--- before a turn, at a bit's sector: the chain is broken exactly where what is left of it leaves the map
+-- before a turn, at a bit's sector, with so many links left to follow: the chain is broken exactly where they leave the map
 pub record ChainLoop (d s m : List ℕ) (left bit at : ℕ) : Type 0 where
   pub own : has (map_of s) bit ≡ true
   pub place : at ≡ place_or_end bit
   pub passed : ℕ → Bool
   pub marks : VisitedMap m bit passed
-  pub rest : broken (slot_fields s) (sectors_of d s) ≡ leaves_map (map_of s) (sectors_of d s) (left - 1) bit passed
+  pub rest : broken (slot_fields s) (sectors_of d s) ≡ leaves_map (map_of s) (sectors_of d s) left bit passed
 
 -- the bit is one that a map has, and its place lies in the image
 pub walked_inside : (d s m : List ℕ) (left bit at : ℕ) → ChainLoop d s m left bit at → (bit < 1560) × (at < image_size)
@@ -69,7 +69,7 @@ module _ (d s : List ℕ) where
   unfolding broken slot_fields
   outside b e h = rw (← e, h)
 
-  pub start : (b n a : ℕ) (m : List ℕ) → b ≡ first_of s → n ≡ count_of s → a ≡ place_or_end (first_of s) → has (map_of s) b ≡ true → m ≡ with_bit clear_map b → ChainLoop d s m n b a
+  pub start : (b n a : ℕ) (m : List ℕ) → b ≡ first_of s → n ≡ count_of s - 1 → a ≡ place_or_end (first_of s) → has (map_of s) b ≡ true → m ≡ with_bit clear_map b → ChainLoop d s m n b a
   unfolding broken slot_fields
   start b n a m e f g h k =
       record { own = h; place = g ∙ ap place_or_end (sym e); passed = λ c. false; marks = first-mark m b (map-small s b h) k; rest = rw (← e, h, ← f) }
@@ -78,28 +78,27 @@ module _ (d s : List ℕ) where
   here : (h m : List ℕ) (left b a : ℕ) → ChainLoop d s m left b a → h ≡ part a 512 d → sectors_of d s b ≡ h
   here h m left b a w e = read b h w.own (e ∙ ap (λ (x : ℕ). part x 512 d) w.place)
 
-  pub end : (h m : List ℕ) (left b a : ℕ) → ChainLoop d s m left b a → left ≤ 1 → h ≡ part a 512 d → broken (slot_fields s) (sectors_of d s) ≡ not (is_last h)
+  pub end : (h m : List ℕ) (left b a : ℕ) → ChainLoop d s m left b a → left ≡ 0 → h ≡ part a 512 d → broken (slot_fields s) (sectors_of d s) ≡ not (is_last h)
   unfolding leaves_map
   end h m left b a w l e =
-      let k : left - 1 ≡ 0 = omega arith in
-      w.rest ∙ ap (λ (n : ℕ). leaves_map (map_of s) (sectors_of d s) n b w.passed) k ∙ ap (λ (x : List ℕ). not (is_last x)) (here h m left b a w e)
+      w.rest ∙ ap (λ (n : ℕ). leaves_map (map_of s) (sectors_of d s) n b w.passed) l ∙ ap (λ (x : List ℕ). not (is_last x)) (here h m left b a w e)
 
 -- a turn: the link of the sector is t, u, which is bit c
 module _
-    (d s m : List ℕ) (left b a t u c : ℕ) (w : ChainLoop d s m left b a) (more : 1 < left)
+    (d s m : List ℕ) (left b a t u c : ℕ) (w : ChainLoop d s m left b a) (more : 0 < left)
     (track : t ≡ get_or d (a + 510) 0) (sector : u ≡ get_or d (a + 511) 0) (leads : c ≡ bit_of t u) where
   turn : broken (slot_fields s) (sectors_of d s)
-      ≡ cond (has (map_of s) c && not (has m c)) (leaves_map (map_of s) (sectors_of d s) (left - 1 - 1) c (has m)) true
+      ≡ cond (has (map_of s) c && not (has m c)) (leaves_map (map_of s) (sectors_of d s) (left - 1) c (has m)) true
   unfolding leaves_map
   turn =
-      let k : left - 1 ≡ suc (left - 1 - 1) = omega arith in
+      let k : left ≡ suc (left - 1) = omega arith in
       let q : linked_bit (sectors_of d s b) ≡ c = ap linked_bit (here d s (part a 512 d) m left b a w refl) ∙ sym (leads ∙ link_at d a t u track sector) in
       w.rest ∙ ap (λ (n : ℕ). leaves_map (map_of s) (sectors_of d s) n b w.passed) k
       ∙ ap (λ (x : ℕ). leading x (with_visited w.passed b)) q
       ∙ ap (leading c) (sym (fun_ext w.marks.bits))
     where
       leading : ℕ → (ℕ → Bool) → Bool
-      leading x p = cond (has (map_of s) x && not (p x)) (leaves_map (map_of s) (sectors_of d s) (left - 1 - 1) x p) true
+      leading x p = cond (has (map_of s) x && not (p x)) (leaves_map (map_of s) (sectors_of d s) (left - 1) x p) true
 
   pub leaves_off : has (map_of s) c ≡ false → true ≡ broken (slot_fields s) (sectors_of d s)
   leaves_off i = sym (turn ∙ rw i)
@@ -107,6 +106,7 @@ module _
   pub comes_again : has (map_of s) c ≡ true → has m c ≡ true → true ≡ broken (slot_fields s) (sectors_of d s)
   comes_again i j = sym (turn ∙ rw (i, j))
 
-  pub walked : (e : ℕ) (k : List ℕ) → has (map_of s) c ≡ true → has m c ≡ false → e ≡ place_or_end c → k ≡ with_bit m c → ChainLoop d s k (left - 1) c e
-  walked e k i j f g =
-      record { own = i; place = f; passed = has m; marks = more_marks m k c w.marks.long (map-small s c i) g; rest = turn ∙ rw (i, j) }
+  pub walked : (e after : ℕ) (k : List ℕ) → has (map_of s) c ≡ true → has m c ≡ false → e ≡ place_or_end c → k ≡ with_bit m c → left ≡ suc after → ChainLoop d s k after c e
+  walked e after k i j f g h =
+      let l : left - 1 ≡ after = omega arith in
+      record { own = i; place = f; passed = has m; marks = more_marks m k c w.marks.long (map-small s c i) g; rest = turn ∙ rw (i, j, l) }

@@ -15,26 +15,22 @@ pub fn first_place(s: &[u8]) -> usize
 }
 
 // Whether a sector's link is 0, 0.
+#[tactic(auto, unfolding(crate::specs::Chain::is_last))]
 fn is_last(sector: &[u8]) -> bool
     ensures { result ≡ is_last sector.now }
 {
-    if buffers::byte_at(sector, 510) == 0 {
-        buffers::byte_at(sector, 511) == 0
-    } else {
-        false
-    }
+    buffers::byte_at(sector, 510) == 0 && buffers::byte_at(sector, 511) == 0
 }
 
 // The place of a link's sector, bit `next`, where the sector that has the link is bit `bit` and lies at `at`. Most links lead
 // to the next sector of the track, whose place does not hang on the link: the walk can run ahead of what it reads.
+#[tactic(auto, using(crate::proofs::ChainLoop::beside, geometry::proofs::Laws::place_or_end_lem, geometry::proofs::Laws::place_inside))]
 fn place_after(bit: usize, at: usize, next: usize, track: usize, number: usize) -> usize
     requires { (bit < 1560) × (at ≡ place_or_end bit) × (next < 1560) × (next ≡ bit_of track number) }
     ensures { result ≡ place_or_end next }
 {
-    if next == bit + 1 {
-        if number != 1 {
-            return at + 512;
-        }
+    if next == bit + 1 && number != 1 {
+        return at + 512;
     }
     geometry::data_place(track, number)
 }
@@ -49,11 +45,10 @@ pub fn chain_broken(image: &[u8], s: &[u8]) -> bool
     if !maps::has_bit(map, bit) {
         return true;
     }
-    let mut left = slots::count_of(s);
     let mut at = first_place(s);
     let mut passed = [0u8; 195];
     maps::set_bit(&mut passed, bit);
-    while 1 < left {
+    for _ in 1..slots::count_of(s) {
         let track = buffers::num_at(image, at + 510);
         let number = buffers::num_at(image, at + 511);
         let next = geometry::bit_or_end(track, number);
@@ -66,7 +61,6 @@ pub fn chain_broken(image: &[u8], s: &[u8]) -> bool
         maps::set_bit(&mut passed, next);
         at = place_after(bit, at, next, track, number);
         bit = next;
-        left -= 1;
     }
     !is_last(buffers::part_at(image, at, 512))
 }

@@ -1,5 +1,5 @@
 -- What a change gives; once the disk is accepted, by its plan at the slot that it finds by name.
-use Rattle.std.specs.Prelude.{ℕ, ◌<◌, true, List, [], ◌∷◌, ◌≡◌, length}
+use Rattle.std.specs.Prelude.{ℕ, ◌<◌, true, List, [], ◌∷◌, ◌≡◌, length, Result}
 use Rattle.buffers.specs.Bytes.{put}
 use Rattle.directory.specs.Places.{slots}
 use Rattle.directory.specs.Directory.{directory, slot_or}
@@ -7,21 +7,21 @@ use Rattle.disk.specs.View.{View, view}
 use Rattle.files.specs.Calls.{file_at}
 use Rattle.refusals.specs.Order.{◌else◌}
 use Rattle.refusals.specs.Answers.{outcome_of}
-use Rattle.refusals.specs.declared.Answer.{Answer}
+use Rattle.refusals.specs.declared.Refused.{Refused}
 use Rattle.names.specs.Name.{padded}
 use Rattle.steps.specs.Steps.{Step, apply, numbers}
 use Rattle.plans.specs.Change.{Change, usable}
 use Rattle.plans.specs.Plan.{Plan, planned_steps, plan_unless, rename_taken, is_protected, is_occupied, put_steps, plan_result, Changed, changed, changed_by, change}
 
 -- answer, image and list at return are those of the change
-abbrev pub ReturnsChange : Change → List ℕ → List ℕ → Answer → List ℕ → List ℕ → Type 0
+abbrev pub ReturnsChange : Change → List ℕ → List ℕ → Result ℕ Refused → List ℕ → List ℕ → Type 0
 ReturnsChange c d buf r d' buf' = changed (outcome_of r) d' buf' ≡ change c d buf
 
 -- by its plan
 unfoldable pub plan_call : Plan → List ℕ → List ℕ → Changed
 plan_call p d buf = changed_by (plan_result d (length buf) p) d buf
 
-abbrev pub ReturnsPlan : Plan → List ℕ → List ℕ → Answer → List ℕ → List ℕ → Type 0
+abbrev pub ReturnsPlan : Plan → List ℕ → List ℕ → Result ℕ Refused → List ℕ → List ℕ → Type 0
 ReturnsPlan p d buf r d' buf' = changed (outcome_of r) d' buf' ≡ plan_call p d buf
 
 -- what steps leave, d and buf being the image and the list as handed in

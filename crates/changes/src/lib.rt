@@ -1,8 +1,8 @@
-// The changes to one slot: erase, rename, hide, show, protect, release. Each tests all that it can refuse before it writes,
+// The changes to one slot: erase, rename, and the four marks. Each tests all that it can refuse before it writes,
 // and it writes the directory sector of that slot alone.
 #![tactic(auto)]
 
-ghost use Rattle.std.specs.Prelude.{◌≡◌, [], ◌∷◌, ◌+◌, ◌≤◌, ◌<◌, length};
+ghost use Rattle.std.specs.Prelude.{◌≡◌, ◌+◌};
 ghost use Rattle.buffers.specs.Bytes.{put};
 ghost use Rattle.directory.specs.Places.{slot_at};
 ghost use Rattle.directory.specs.Directory.{directory};
@@ -10,42 +10,30 @@ ghost use Rattle.directory.specs.Find.{found_at};
 ghost use Rattle.disk.specs.View.{view};
 ghost use Rattle.files.specs.Calls.{file_at};
 ghost use Rattle.plans.specs.Plan.{taken_by};
-ghost use Rattle.plans.specs.Change.{erase, rename, mark, hide, show, protect, release, marked_byte, all_between, usable};
+ghost use Rattle.plans.specs.Change.{erase, rename, mark, marked_byte, all_between, usable};
 ghost use Rattle.changes.specs.Marks.{mark_of};
 ghost use Rattle.changes.specs.ChangeCalls.{ReturnsChange, ReturnsPlan, put_plan, put_unless_protected, erase_plan, rename_plan, FileInSlot, ByteInSlot, NewNameInSlot};
 
-use directory::Found;
-use files::Lookup;
-use refusals::{Answer, Reason, Verdict};
+use refusals::{Reason, Refused, refuse};
 
 // Whether every byte of a name is one of 32 to 126.
 fn is_printable(name: &[u8]) -> bool
     ensures { result ≡ all_between 32 name.now 126 }
 {
-    let mut i: usize = 0;
-    while i < name.len() {
-        if name[i] < 32 {
+    for b in name {
+        if *b < 32 || 126 < *b {
             return false;
         }
-        if 126 < name[i] {
-            return false;
-        }
-        i += 1;
     }
     true
 }
 
 // Whether a name can be given to a file.
+#[tactic(auto, unfolding(plans::specs::Change::usable))]
 pub fn is_usable(name: &[u8]) -> bool
     ensures { result ≡ usable name.now }
 {
-    if !names::is_askable(name) {
-        return false;
-    }
-    if !is_printable(name) {
-        return false;
-    }
-    buffers::byte_at(name, 0) != 32
+    names::is_askable(name) && is_printable(name) && buffers::byte_at(name, 0) != 32
 }
 
 // Puts bytes at place `o` of slot `i`.
@@ -56,119 +44,102 @@ fn put_in_slot(image: &mut [u8], i: usize, o: usize, y: &[u8])
     buffers::copy_into(image, directory::slot_place(i) + o, y);
 }
 
-// Puts one sector number to the front of a list.
-fn put_number(list: &mut [u16], n: usize)
-    requires { (1 ≤ length list.old) × (n < 65536) }
-    ensures { list.new ≡ put list.old 0 (n ∷ []) }
-{
-    list[0] = n as u16;
-}
-
 // Writes a change that only the list can still refuse.
-fn touch(image: &mut [u8], i: usize, o: usize, y: &[u8], list: &mut [u16]) -> Answer
+fn touch(image: &mut [u8], i: usize, o: usize, y: &[u8], list: &mut [u16]) -> Result<usize, Refused>
     requires { ByteInSlot image.old i o }
     ensures { ReturnsPlan (put_plan image.old i o y.now) image.old list.old result image.new list.new }
 {
-    if list.len() < 1 {
-        return refusals::refused_answer(Reason::BufferTooShort, 0);
+    if list.is_empty() {
+        return refuse(Reason::BufferTooShort, 0);
     }
     put_in_slot(image, i, o, y);
-    put_number(list, directory::dir_sector(i));
-    Answer::Done(1, 0)
+    buffers::put_number(list, 0, directory::dir_sector(i) as u16);
+    Ok(1)
 }
 
 // The same, of a file that must not be protected.
-fn touch_unprotected(image: &mut [u8], i: usize, o: usize, y: &[u8], list: &mut [u16]) -> Answer
+fn touch_unprotected(
+    image: &mut [u8],
+    i: usize,
+    o: usize,
+    y: &[u8],
+    list: &mut [u16],
+) -> Result<usize, Refused>
     requires { ByteInSlot image.old i o }
     ensures { ReturnsPlan (put_unless_protected image.old i o y.now) image.old list.old result image.new list.new }
 {
     if slots::is_protected(directory::slot_at(image, i)) {
-        return refusals::refused_answer(Reason::FileProtected, i + 1);
+        return refuse(Reason::FileProtected, i + 1);
     }
     touch(image, i, o, y, list)
 }
 
 // Erases the file in slot `i`, unless it is protected or a directory that another live slot is in.
-fn erase_at(image: &mut [u8], i: usize, list: &mut [u16]) -> Answer
+fn erase_at(image: &mut [u8], i: usize, list: &mut [u16]) -> Result<usize, Refused>
     requires { FileInSlot image.old i }
     ensures { ReturnsPlan (erase_plan image.old i) image.old list.old result image.new list.new }
 {
     let erased = directory::slot_at(image, i);
     if slots::is_protected(erased) {
-        return refusals::refused_answer(Reason::FileProtected, i + 1);
+        return refuse(Reason::FileProtected, i + 1);
     }
     if nesting::is_occupied(image, i, directory::slot_at(image, i)) {
-        return refusals::refused_answer(Reason::DirectoryNotEmpty, i + 1);
+        return refuse(Reason::DirectoryNotEmpty, i + 1);
     }
     touch(image, i, 0, &[0], list)
 }
 
 // Erases a file: its slot's first byte becomes 0.
-pub fn erase(image: &mut [u8], name: &[u8], list: &mut [u16]) -> Answer
+pub fn erase(image: &mut [u8], name: &[u8], list: &mut [u16]) -> Result<usize, Refused>
     ensures { ReturnsChange (erase name.now) image.old list.old result image.new list.new }
 {
-    match files::look_up(image, name) {
-        Lookup::Err(r) => Answer::Err(r),
-        Lookup::At(i) => erase_at(image, i, list),
-    }
+    let i = files::look_up(image, name)?;
+    erase_at(image, i, list)
 }
 
 // The slot that keeps the file in slot `i` from a new name: another that has it, or its own where the bytes stored are the new ones.
-fn taken_by(image: &[u8], i: usize, new: &[u8]) -> Found
+fn taken_by(image: &[u8], i: usize, new: &[u8]) -> Option<usize>
     requires { NewNameInSlot image.now i new.now }
     ensures { found_at result ≡ taken_by (directory image.now) i (file_at (view image.now) i) new.now }
 {
-    match directory::find(image, new) {
-        Found::Nothing => Found::Nothing,
-        Found::At(j) => {
-            if j != i {
-                return Found::At(j);
-            }
-            if names::same_bytes(
-                slots::name_of(directory::slot_at(image, i)),
-                &names::padded_name(new),
-            ) {
-                return Found::At(j);
-            }
-            Found::Nothing
-        }
+    let j = directory::find(image, new)?;
+    let own = slots::name_of(directory::slot_at(image, i));
+    if j == i && !names::same_bytes(own, &names::padded_name(new)) {
+        return None;
     }
+    Some(j)
 }
 
 // Gives the file in slot `i` a name that is fit for one.
-fn rename_at(image: &mut [u8], i: usize, new: &[u8], list: &mut [u16]) -> Answer
+fn rename_at(image: &mut [u8], i: usize, new: &[u8], list: &mut [u16]) -> Result<usize, Refused>
     requires { NewNameInSlot image.old i new.now }
     ensures { ReturnsPlan (rename_plan image.old i new.now) image.old list.old result image.new list.new }
 {
     match taken_by(image, i, new) {
-        Found::At(j) => refusals::refused_answer(Reason::NameTaken, j + 1),
-        Found::Nothing => touch_unprotected(image, i, 1, &names::padded_name(new), list),
+        Some(j) => refuse(Reason::NameTaken, j + 1),
+        None => touch_unprotected(image, i, 1, &names::padded_name(new), list),
     }
 }
 
 // Renames a file. Both names are tested before either is looked for.
-pub fn rename(image: &mut [u8], name: &[u8], new: &[u8], list: &mut [u16]) -> Answer
+pub fn rename(image: &mut [u8], name: &[u8], new: &[u8], list: &mut [u16]) -> Result<usize, Refused>
     ensures { ReturnsChange (rename name.now new.now) image.old list.old result image.new list.new }
 {
-    match disk::check(image) {
-        Verdict::Err(r) => Answer::Err(r),
-        Verdict::Accepted => {
-            if !names::is_askable(name) {
-                return refusals::refused_answer(Reason::NameNotUsable, 0);
-            }
-            if !is_usable(new) {
-                return refusals::refused_answer(Reason::NameNotUsable, 0);
-            }
-            match directory::find(image, name) {
-                Found::At(i) => rename_at(image, i, new, list),
-                Found::Nothing => refusals::refused_answer(Reason::NameNotFound, 0),
-            }
-        }
+    disk::check(image)?;
+    if !names::is_askable(name) {
+        return refuse(Reason::NameNotUsable, 0);
+    }
+    if !is_usable(new) {
+        return refuse(Reason::NameNotUsable, 0);
+    }
+    match directory::find(image, name) {
+        Some(i) => rename_at(image, i, new, list),
+        None => refuse(Reason::NameNotFound, 0),
     }
 }
 
 // The four marks.
-#[derive(Clone, Copy)]
+#[derive(Clone, Copy, Debug, PartialEq, Eq)]
 pub enum Marking {
     Hide,
     Show,
@@ -177,51 +148,28 @@ pub enum Marking {
 }
 
 // A slot's first byte with one bit set or cleared: bit 7 is hidden, bit 6 protected.
+#[tactic(auto, using(crate::proofs::Bits::hide_bits, crate::proofs::Bits::show_bits, crate::proofs::Bits::protect_bits, crate::proofs::Bits::release_bits))]
 fn marked_byte(marking: Marking, x: u8) -> u8
     ensures { result ≡ marked_byte (mark_of marking) x }
 {
     match marking {
-        Marking::Hide => x % 128 + 128,
-        Marking::Show => x % 128,
-        Marking::Protect => x / 128 * 128 + 64 + x % 64,
-        Marking::Release => x / 128 * 128 + x % 64,
+        Marking::Hide => x | 128,
+        Marking::Show => x & 127,
+        Marking::Protect => x | 64,
+        Marking::Release => x & 191,
     }
 }
 
 // Marks a file; one that has the mark already is accepted.
-pub fn set_mark(image: &mut [u8], name: &[u8], marking: Marking, list: &mut [u16]) -> Answer
+pub fn set_mark(
+    image: &mut [u8],
+    name: &[u8],
+    marking: Marking,
+    list: &mut [u16],
+) -> Result<usize, Refused>
     ensures { ReturnsChange (mark (mark_of marking) name.now) image.old list.old result image.new list.new }
 {
-    match files::look_up(image, name) {
-        Lookup::Err(r) => Answer::Err(r),
-        Lookup::At(i) => {
-            let first = buffers::byte_at(directory::slot_at(image, i), 0);
-            let byte = [marked_byte(marking, first)];
-            touch(image, i, 0, &byte, list)
-        }
-    }
-}
-
-pub fn hide(image: &mut [u8], name: &[u8], list: &mut [u16]) -> Answer
-    ensures { ReturnsChange (mark hide name.now) image.old list.old result image.new list.new }
-{
-    set_mark(image, name, Marking::Hide, list)
-}
-
-pub fn show(image: &mut [u8], name: &[u8], list: &mut [u16]) -> Answer
-    ensures { ReturnsChange (mark show name.now) image.old list.old result image.new list.new }
-{
-    set_mark(image, name, Marking::Show, list)
-}
-
-pub fn protect(image: &mut [u8], name: &[u8], list: &mut [u16]) -> Answer
-    ensures { ReturnsChange (mark protect name.now) image.old list.old result image.new list.new }
-{
-    set_mark(image, name, Marking::Protect, list)
-}
-
-pub fn release(image: &mut [u8], name: &[u8], list: &mut [u16]) -> Answer
-    ensures { ReturnsChange (mark release name.now) image.old list.old result image.new list.new }
-{
-    set_mark(image, name, Marking::Release, list)
+    let i = files::look_up(image, name)?;
+    let first = buffers::byte_at(directory::slot_at(image, i), 0);
+    touch(image, i, 0, &[marked_byte(marking, first)], list)
 }

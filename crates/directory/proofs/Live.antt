@@ -2,12 +2,11 @@
 use Prim.Native.Nat.{ℕ, zero, suc, ◌+◌, ◌-◌, ◌≤◌, ◌<◌}
 use mathlib.Core.Path.{◌≡◌, refl, sym, ap, ◌∙◌, fun_ext}
 use mathlib.Core.Bool.{Bool, true, false, cond, ◌&&◌, true≢false}
-use mathlib.Core.List.{List, []}
+use mathlib.Core.List.{List}
 use mathlib.Core.Logic.{⊎_elim}
 use mathlib.Core.Option.{Option, none, some, some-ne-none}
 use native.Mathlib.Nat.{add-zero, add-suc}
 use native.Mathlib.Omega.{arith}
-use borrow.Author.Tests.{le-ltb}
 use Rattle.buffers.specs.Bytes.{part, count}
 use Rattle.buffers.proofs.Lists.{below_or_not, part-part}
 use Rattle.buffers.proofs.Counts.{count-more, count_le, count_add, none-count}
@@ -22,10 +21,6 @@ use Rattle.directory.proofs.Ends.{slot_read, read-most, seen_read, unread, seen-
 
 pub slot-there : (d : List ℕ) (i : ℕ) → i < slots → {a : ℕ} → a ≡ slot_place i → {s : List ℕ} → s ≡ part a 256 d → s ≡ slot_or d i
 slot-there d i h p e = e ∙ ap (λ (a : ℕ). part a 256 d) (p ∙ slot_placed i h) ∙ sym (slot_read d i h)
-
-pub slot_past : (d : List ℕ) (i : ℕ) → slots ≤ i → slot_or d i ≡ []
-unfolding slot_or
-slot_past d i h = rw (le-ltb i slots h)
 
 -- ---- live, erased, unread, or none at all
 

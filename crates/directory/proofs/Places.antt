@@ -1,10 +1,10 @@
 -- Where the slots lie: inside the image, apart from each other, and apart from every data sector.
 use Prim.Native.Nat.{ℕ, ◌+◌, ◌*◌, ◌/◌, ◌%◌, ◌≤◌, ◌<◌}
-use mathlib.Core.Path.{◌≡◌, refl, sym, ap, ◌∙◌}
+use mathlib.Core.Path.{◌≡◌, refl, sym, ◌∙◌}
 use mathlib.Core.Bool.{Bool, true, false, cond}
 use mathlib.Core.Logic.{◌⊎◌, inl, inr, ⊎_elim}
 use native.Mathlib.Omega.{arith}
-use borrow.Author.Tests.{lt-ltb, le-ltb, eqb-true, eqb-false}
+use borrow.Author.Tests.{lt-ltb, le-ltb, eqb-false}
 use lib.Dec.{eqb}
 use Rattle.geometry.specs.Disk.{image_size, bit_number, bit_place}
 use Rattle.geometry.proofs.Laws.{number-first, number-second, number_from}
@@ -67,27 +67,14 @@ pub slot_placed : (i : ℕ) → i < slots → slot_place i ≡ slot_at i
 unfolding slot_place
 slot_placed i h = rw (lt-ltb i slots h)
 
-pub slot_end : (i : ℕ) → slots ≤ i → slot_place i ≡ image_size
-unfolding slot_place
-slot_end i h = rw (le-ltb i slots h)
-
--- as the code has it: before the gap, and past it
+-- before the gap
 pub slot-low : (i : ℕ) → i < 80 → i / 20 * 10240 + i % 20 * 256 ≡ slot_place i
 unfolding slot_at past_gap
 slot-low i h = sym (slot_placed i (omega arith) ∙ rw (lt-ltb i 80 h))
 
-pub slot-high : (i : ℕ) → 80 ≤ i → i < slots → (i + 2) / 20 * 10240 + (i + 2) % 20 * 256 ≡ slot_place i
-unfolding slot_at past_gap
-slot-high i l h = sym (slot_placed i h ∙ rw (le-ltb i 80 l))
-
 pub dir_placed : (i : ℕ) → i < slots → dir_sector_or i ≡ dir_sector i
 unfolding dir_sector_or
 dir_placed i h = rw (lt-ltb i slots h)
-
-pub dir_is : (i : ℕ) → slot_place i / 512 ≡ dir_sector_or i
-unfolding slot_place dir_sector_or
-dir_is i =
-    ⊎_elim (λ h. rw (lt-ltb i slots h) (omega (arith, slot-sector i))) (λ h. rw (le-ltb i slots h)) (below_or_not i slots)
 
 pub slots_apart : (i j : ℕ) → i < j → slot_at i + 256 ≤ slot_at j
 unfolding slot_at

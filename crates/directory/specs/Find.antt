@@ -1,13 +1,12 @@
 -- A live slot by its name.
 use Rattle.std.specs.Prelude.{ℕ, cond, List}
+use Rattle.std.specs.Prelude as Prelude
 use Rattle.std.proofs.Math.Option.{Option, none, some}
 use Rattle.refusals.specs.Order.{scan}
 use Rattle.slots.specs.Slot.{name_of}
 use Rattle.names.specs.Name.{same_name, padded}
 use Rattle.directory.specs.Places.{slots}
 use Rattle.directory.specs.Directory.{fold_option, Directory}
-use Rattle.directory.specs.declared.Found.{Found}
-use Rattle.directory.specs.declared.Found.TheVariants.{At, Nothing}
 
 abbrev pub match_at : Directory → List ℕ → ℕ → Option ℕ
 match_at v n i = fold_option none (λ s. cond (same_name (name_of s) (padded n)) (some i) none) (v i)
@@ -16,6 +15,7 @@ match_at v n i = fold_option none (λ s. cond (same_name (name_of s) (padded n))
 unfoldable pub find : Directory → List ℕ → Option ℕ
 find v n = scan slots (match_at v n)
 
-abbrev pub found_at : Found → Option ℕ
-found_at (At i) = some i
-found_at Nothing = none
+-- the same of what the code gives
+abbrev pub found_at : Prelude.Option ℕ → Option ℕ
+found_at (Prelude.Some i) = some i
+found_at Prelude.None = none

@@ -11,28 +11,22 @@ ghost use Rattle.directory.specs.Find.{find, found_at};
 // The most slots that there can be: those of 39 tracks.
 pub const SLOTS: usize = 778;
 
-// A live slot, counted from 0, or none.
-#[derive(Clone, Copy)]
-pub enum Found {
-    At(usize),
-    Nothing,
-}
-
-// Where slot `i`, counted from 0, lies; the image's size past the last slot.
+// Where slot `i`, counted from 0, lies; the image's size past the last slot. A number and no Option, as the definition has it: nothing
+// of an image lies there.
+#[tactic(auto, unfolding(crate::specs::Places::slot_place, crate::specs::Places::slot_at, crate::specs::Places::past_gap))]
 pub fn slot_place(i: usize) -> usize
     ensures { (result ≡ slot_place i) × (result ≤ 819200) }
 {
     if SLOTS <= i {
         return geometry::IMAGE_SIZE;
     }
-    if i < 80 {
-        return i / 20 * 10240 + i % 20 * 256;
-    }
-    let k = i + 2;
+    let k = if i < 80 { i } else { i + 2 };
     k / 20 * 10240 + k % 20 * 256
 }
 
-// The number of the sector that slot `i`, counted from 0, lies in; 1,600 past the last slot.
+// The number of the sector that slot `i`, counted from 0, lies in; 1,600, the number of no sector, past the last slot. A number and no
+// Option, as the definition has it.
+#[tactic(auto, unfolding(crate::specs::Places::slot_place, crate::specs::Places::slot_at, crate::specs::Places::past_gap, crate::specs::Places::dir_sector_or, crate::specs::Places::dir_sector))]
 pub fn dir_sector(i: usize) -> usize
     ensures { result ≡ dir_sector_or i }
 {
@@ -40,28 +34,25 @@ pub fn dir_sector(i: usize) -> usize
 }
 
 // The number of directory tracks beyond four, by byte 255 of slot 1: 0 where that is above 35.
+#[tactic(auto, using(crate::proofs::Label::label_at), unfolding(crate::specs::Directory::tracks_of, slots::specs::Tracks::tracks_by))]
 pub fn tracks_of(dir: &[u8]) -> usize
     ensures { (result ≡ tracks_of dir.now) × (result ≤ 35) }
 {
     let n = buffers::num_at(dir, 255);
-    if n <= 35 {
-        return n;
-    }
-    0
+    if n <= 35 { n } else { 0 }
 }
 
 // Whether that byte is 36 to 254.
+#[tactic(auto, using(crate::proofs::Label::label_at), unfolding(slots::specs::Tracks::bad_tracks))]
 pub fn has_bad_tracks(dir: &[u8]) -> bool
     ensures { result ≡ bad_tracks (label_of dir.now 255) }
 {
     let n = buffers::num_at(dir, 255);
-    if n <= 35 {
-        return false;
-    }
-    n != 255
+    35 < n && n != 255
 }
 
 // How many slots there are, read or not.
+#[tactic(auto, unfolding(crate::specs::Places::slot_count))]
 pub fn slots_in(dir: &[u8]) -> usize
     ensures { (result ≡ slots_in dir.now) × (result ≤ 778) }
 {
@@ -73,11 +64,12 @@ pub fn slots_in(dir: &[u8]) -> usize
 }
 
 // The 256 bytes of slot `i`, counted from 0, uncopied; none past the last slot.
+#[tactic(auto, unfolding(crate::specs::Directory::slot_or, crate::specs::Places::slot_place))]
 pub fn slot_at(dir: &[u8], i: usize) -> &[u8]
     ensures { result.now ≡ slot_or dir.now i }
 {
     if SLOTS <= i {
-        return buffers::part_at(dir, 0, 0);
+        return &[];
     }
     buffers::part_at(dir, slot_place(i), 256)
 }
@@ -87,32 +79,26 @@ pub fn slots_read(dir: &[u8]) -> usize
     ensures { (result ≡ slots_read dir.now) × (result ≤ 778) }
 {
     let count = slots_in(dir);
-    let mut i: usize = 0;
-    while i < count {
+    for i in 0..count {
         if slots::is_nameless(slot_at(dir, i)) {
             return i;
         }
-        i += 1;
     }
     count
 }
 
 // The lowest live slot that has that name, filled to ten bytes; no slot has a longer one.
-pub fn find(dir: &[u8], name: &[u8]) -> Found
+pub fn find(dir: &[u8], name: &[u8]) -> Option<usize>
     ensures { found_at result ≡ find (directory dir.now) name.now }
 {
     if 10 < name.len() {
-        return Found::Nothing;
+        return None;
     }
     let filled = names::padded_name(name);
-    let end = slots_read(dir);
-    let mut i: usize = 0;
-    while i < end {
-        let k = i;
-        i += 1;
-        if slots::is_named(slot_at(dir, k), &filled) {
-            return Found::At(k);
+    for i in 0..slots_read(dir) {
+        if slots::is_named(slot_at(dir, i), &filled) {
+            return Some(i);
         }
     }
-    Found::Nothing
+    None
 }

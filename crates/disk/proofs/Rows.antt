@@ -1,7 +1,7 @@
 -- What it means that no row holds at a file: the rows' tests as facts, both ways.
 use Prim.Native.Nat.{ℕ, ◌+◌, ◌-◌, ◌*◌, ◌%◌, ◌≤◌}
 use mathlib.Core.Path.{◌≡◌, refl, sym, ap, ◌∙◌}
-use mathlib.Core.Bool.{Bool, true, false, not, cond, ◌&&◌, ◌||◌, false≢true}
+use mathlib.Core.Bool.{Bool, true, false, not, cond, ◌&&◌, false≢true}
 use mathlib.Core.List.{List, [], ◌∷◌, ◌++◌}
 use mathlib.Core.Logic.{◌⊎◌, inl, inr, ⊎_elim}
 use native.Mathlib.Omega.{arith}
@@ -212,11 +212,9 @@ clear_later s sec w = by (directory_kind (kind_of s)) refl
 -- ---- two lists of rows, one after the other
 
 pub clear_parts : (a b : List Row) → RowsClear (a ++ b) → RowsClear a × RowsClear b
-unfolding ◌++◌
 clear_parts [] b c = (tt, c)
 clear_parts (r ∷ a) b c = let d = clear_parts a b c.1 in ((c.0, d.0), d.1)
 
 pub parts_clear : (a b : List Row) → RowsClear a → RowsClear b → RowsClear (a ++ b)
-unfolding ◌++◌
 parts_clear [] b p q = q
 parts_clear (r ∷ a) b p q = (p.0, parts_clear a b p.1 q)

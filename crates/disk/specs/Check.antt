@@ -1,8 +1,9 @@
 -- The disk check and the release check beside it: the first refusal of the table in its order. The words of documents 01 and 02
 -- stand above what they define.
-use Rattle.std.specs.Prelude.{ℕ, suc, Bool, true, false, not, List, eqb}
+use Rattle.std.specs.Prelude.{ℕ, suc, Bool, true, false, not, List, eqb, Result}
 use Rattle.std.proofs.Math.Option.{none}
 use Rattle.refusals.specs.Order.{Reply, ◌else◌, row, scan}
+use Rattle.refusals.specs.declared.Refused.{Refused}
 use Rattle.geometry.specs.Disk.{image_size}
 use Rattle.headers.specs.Header.{chain_pass_reply}
 use Rattle.slots.specs.Tracks.{bad_tracks}
@@ -34,6 +35,6 @@ check_disk d = check_view (view d)
 unfoldable pub check_release : List ℕ → Reply
 check_release d = check_by true (view d)
 
--- the check's reply, and the used map and the number of files of a disk that is not refused (a clear map and 0 of another)
-abbrev pub Examined : List ℕ → Survey → Type 0
+-- the check's reply, and the used map and the number of files of a disk that is not refused
+abbrev pub Examined : List ℕ → Result Survey Refused → Type 0
 Examined d r = Surveyed (check_disk d) d r

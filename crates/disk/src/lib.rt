@@ -11,76 +11,62 @@ ghost use Rattle.disk.specs.View.{view};
 ghost use Rattle.surveys.specs.Steps.{Surveyed};
 ghost use Rattle.disk.specs.Check.{chain_at, check_by, check_disk, check_release, Examined};
 
-use refusals::{Reason, Verdict};
+use refusals::{Reason, Refused};
 use surveys::Survey;
 
 // Rows 10, 11 and 25 at all slots, of which `files` are live: past the last of these there is none to look at.
-fn all_chains(image: &[u8], files: usize) -> Verdict
+fn all_chains(image: &[u8], files: usize) -> Result<(), Refused>
     requires { files ≡ live_among (directory image.now) slots }
     ensures { reply_of result ≡ scan slots (chain_at (view image.now)) }
 {
     let mut seen: usize = 0;
     let mut i: usize = 0;
+    // No plainer: the loop ends on the files that were seen, so that no slot past the last live one is looked at.
     while seen < files {
         let s = directory::slot_at(image, i);
         i += 1;
         if slots::is_live(s) {
             seen += 1;
-            match headers::chain_pass_rows(image, s, i) {
-                Verdict::Err(r) => {
-                    return Verdict::Err(r);
-                }
-                Verdict::Accepted => {}
-            }
+            headers::chain_pass_rows(image, s, i)?;
         }
     }
-    Verdict::Accepted
+    Ok(())
 }
 
-// The check, or the release check, with the used map and the number of files of an accepted disk; a clear map and 0 where the
-// disk is refused.
-fn examine_by(image: &[u8], release: bool) -> Survey
+// The check, or the release check, with the used map and the number of files of an accepted disk.
+fn examine_by(image: &[u8], release: bool) -> Result<Survey, Refused>
     ensures { Surveyed (check_by release (view image.now)) image.now result }
 {
     if image.len() != geometry::IMAGE_SIZE {
-        return surveys::refused(refusals::refused_verdict(Reason::NotAnImage, 0));
+        return refusals::refuse(Reason::NotAnImage, 0);
     }
     if directory::has_bad_tracks(image) {
-        return surveys::refused(refusals::refused_verdict(Reason::TracksOutOfRange, 0));
+        return refusals::refuse(Reason::TracksOutOfRange, 0);
     }
-    let found = surveys::survey_slots(image, release);
-    let verdict = found.verdict;
-    match verdict {
-        Verdict::Err(_) => found,
-        Verdict::Accepted => {
-            let chained = all_chains(image, found.files);
-            match chained {
-                Verdict::Err(_) => surveys::refused(chained),
-                Verdict::Accepted => found,
-            }
-        }
-    }
+    let found = surveys::survey_slots(image, release)?;
+    all_chains(image, found.files)?;
+    Ok(found)
 }
 
-// The check with the used map and the number of files of an accepted disk; a clear map and 0 where the disk is refused.
-pub fn examine(image: &[u8]) -> Survey
+// The check with the used map and the number of files of an accepted disk.
+pub fn examine(image: &[u8]) -> Result<Survey, Refused>
     ensures { Examined image.now result }
 {
     examine_by(image, false)
 }
 
 // The check.
-pub fn check(image: &[u8]) -> Verdict
+pub fn check(image: &[u8]) -> Result<(), Refused>
     ensures { reply_of result ≡ check_disk image.now }
 {
-    let found = examine(image);
-    found.verdict
+    examine(image)?;
+    Ok(())
 }
 
 // The release check: it also refuses a carried kind with more sectors than its length needs.
-pub fn check_release(image: &[u8]) -> Verdict
+pub fn check_release(image: &[u8]) -> Result<(), Refused>
     ensures { reply_of result ≡ check_release image.now }
 {
-    let released = examine_by(image, true);
-    released.verdict
+    examine_by(image, true)?;
+    Ok(())
 }

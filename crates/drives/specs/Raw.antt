@@ -2,7 +2,10 @@
 -- The words of document 01 stand above what they define.
 -- Assumes nothing.
 use Rattle.std.specs.Prelude.{ℕ, Bool, cond, not, ◌&&◌, List, [], leb, eqb, length, take, drop}
+use Rattle.std.specs.Prelude.{Result, Ok, Err}
 use Rattle.geometry.specs.Disk.{image_size, is_sector, sector_place}
+use Rattle.refusals.specs.Answers.{refusal_number}
+use Rattle.refusals.specs.declared.Reason.{Reason}
 
 -- "819,200 bytes."
 abbrev pub is_image : List ℕ → Bool
@@ -23,3 +26,8 @@ raw_refusal one two d t s = cond (not (is_image one && is_image two)) 1 (cond (n
 -- "and hands back those 512 bytes of the chosen drive's image uncopied; a refusal hands back an empty part"
 unfoldable pub raw_sector : List ℕ → List ℕ → ℕ → ℕ → ℕ → List ℕ
 raw_sector one two d t s = cond (eqb (raw_refusal one two d t s) 0) (take 512 (drop (sector_place t s) (chosen one two d))) []
+
+-- the number that the code's answer has
+abbrev pub raw_number : {A : Type 0} → Result A Reason → ℕ
+raw_number (Ok _) = 0
+raw_number (Err r) = refusal_number r

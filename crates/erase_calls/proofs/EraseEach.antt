@@ -2,30 +2,32 @@
 use Prim.Native.Nat.{ℕ, zero, suc, ◌+◌, ◌*◌, ◌≤◌, ◌<◌}
 use mathlib.Core.Path.{◌≡◌, refl, sym, ap, ap₂, ◌∙◌}
 use mathlib.Core.Bool.{Bool, true, false, cond}
-use mathlib.Core.List.{List, [], ◌∷◌, ◌++◌}
+use mathlib.Core.List.{List, [], ◌∷◌}
 use mathlib.Core.Option.{Option, none, some}
 use native.Mathlib.Numerals.{add-one}
 use native.Mathlib.Omega.{arith}
 use lib.Dec.{eqb}
 use lib.ListN.{length}
+use Rattle.std.specs.Prelude.{Result, Ok, Err}
 use Rattle.buffers.specs.Bytes.{tab, part, put}
 use Rattle.buffers.proofs.Lists.{tab-more, length-tab, part-long, put-none, put-append, length-put}
-use Rattle.maps.specs.Bits.{has, with_bit}
+use Rattle.maps.specs.Bits.{with_bit}
 use Rattle.maps.proofs.Laws.{length_marked}
+use Rattle.refusals.specs.declared.Reason.{Reason}
+use Rattle.refusals.specs.declared.Reason.TheVariants.{NameNotUsable, NameNotFound, FileProtected, DirectoryNotEmpty}
 use Rattle.slots.specs.Slot.{protected}
 use Rattle.names.specs.Name.{askable}
-use Rattle.directory.specs.Places.{slots}
 use Rattle.directory.specs.Directory.{fold_option, Directory, directory, slot_or}
 use Rattle.directory.specs.Find.{find}
 use Rattle.directory.proofs.Ends.{slot_read}
 use Rattle.directory.proofs.Live.{directory-some}
 use Rattle.directory.proofs.Search.{find-some}
 use Rattle.trees.specs.Tree.{occupied}
-use Rattle.erase_many.specs.EraseMany.{name_at, sectors_with}
-use Rattle.erase_many.specs.ErasedMap.{none_erased, not_erased, erase_answer, name_answer, erased_with, erased_map, erased_map_answer, slots_cleared}
-use Rattle.slot_erasing.specs.Listed.{PutInFront}
-use Rattle.erase_calls.specs.Erasing.{OneErased, AllErased, ErasesWritten}
-use Rattle.erase_calls.proofs.Seek.{left_was}
+use Rattle.nesting.specs.Steps.{not_erased}
+use Rattle.nesting.proofs.Others.{left_was}
+use Rattle.erase_many.specs.EraseMany.{name_at}
+use Rattle.erase_many.specs.ErasedMap.{none_erased, erase_answer, name_answer, erased_with, erased_map, erased_map_answer}
+use Rattle.erase_calls.specs.Erasing.{number_or_done, OneErased, AllErased}
 
 -- ---- one name
 
@@ -37,33 +39,33 @@ module _ (d m n : List ℕ) where
       let w = directory-some d i f.bytes (left_was (directory d) m i f.bytes f.here) in
       f.here ∙ ap some (w.1 ∙ sym (slot_read d i f.below) ∙ sym p)
 
-  settled : (r : ℕ) → name_answer (not_erased (directory d) m) n ≡ r → (after : List ℕ) → after ≡ cond (eqb r 0) (fold_option m (with_bit m) (find (not_erased (directory d) m) n)) m
-      → OneErased (directory d) m n r after
+  settled : (r : Result (Unit {0}) Reason) → name_answer (not_erased (directory d) m) n ≡ number_or_done r → (after : List ℕ)
+      → after ≡ cond (eqb (number_or_done r) 0) (fold_option m (with_bit m) (find (not_erased (directory d) m) n)) m → OneErased (directory d) m n r after
   unfolding erased_with
   settled r e after p = record { number = sym e; map = rw e p }
 
-  pub settled_12 : askable n ≡ false → OneErased (directory d) m n 12 m
+  pub settled_12 : askable n ≡ false → OneErased {A = Unit {0}} (directory d) m n (Err NameNotUsable) m
   unfolding name_answer
-  settled_12 a = settled 12 (rw a) m refl
+  settled_12 a = settled (Err NameNotUsable) (rw a) m refl
 
   module _ (a : askable n ≡ true) where
-    pub settled_15 : find (not_erased (directory d) m) n ≡ none → OneErased (directory d) m n 15 m
+    pub settled_15 : find (not_erased (directory d) m) n ≡ none → OneErased {A = Unit {0}} (directory d) m n (Err NameNotFound) m
     unfolding name_answer
-    settled_15 e = settled 15 (rw (a, e)) m refl
+    settled_15 e = settled (Err NameNotFound) (rw (a, e)) m refl
 
     module _ (i : ℕ) (e : find (not_erased (directory d) m) n ≡ some i) (s : List ℕ) (p : s ≡ slot_or d i) where
-      pub settled_17 : protected s ≡ true → OneErased (directory d) m n 17 m
+      pub settled_17 : protected s ≡ true → OneErased {A = Unit {0}} (directory d) m n (Err FileProtected) m
       unfolding name_answer erase_answer
-      settled_17 b = settled 17 (rw (a, e, slot-left i e s p, b)) m refl
+      settled_17 b = settled (Err FileProtected) (rw (a, e, slot-left i e s p, b)) m refl
 
       module _ (b : protected s ≡ false) where
-        pub settled_29 : occupied (not_erased (directory d) m) i s ≡ true → OneErased (directory d) m n 29 m
+        pub settled_29 : occupied (not_erased (directory d) m) i s ≡ true → OneErased {A = Unit {0}} (directory d) m n (Err DirectoryNotEmpty) m
         unfolding name_answer erase_answer
-        settled_29 o = settled 29 (rw (a, e, slot-left i e s p, b, o)) m refl
+        settled_29 o = settled (Err DirectoryNotEmpty) (rw (a, e, slot-left i e s p, b, o)) m refl
 
-        pub settled_0 : occupied (not_erased (directory d) m) i s ≡ false → (g : List ℕ) → g ≡ with_bit m i → OneErased (directory d) m n 0 g
+        pub settled_0 : occupied (not_erased (directory d) m) i s ≡ false → (g : List ℕ) → g ≡ with_bit m i → OneErased {A = Unit {0}} (directory d) m n (Ok tt) g
         unfolding name_answer erase_answer
-        settled_0 o g q = settled 0 (rw (a, e, slot-left i e s p, b, o)) g (q ∙ sym (ap (fold_option m (with_bit m)) e))
+        settled_0 o g q = settled (Ok tt) (rw (a, e, slot-left i e s p, b, o)) g (q ∙ sym (ap (fold_option m (with_bit m)) e))
 
 -- the map keeps its length
 one_long : (v : Directory) (m n : List ℕ) → length (erased_with v m n) ≡ length m
@@ -95,12 +97,12 @@ module _ (v : Directory) (ns buf : List ℕ) where
   settling_none m e = record { answers = put-none buf 0 []; map = e }
 
   module _ (k : ℕ) (now m : List ℕ) (s : EraseEachLoop v ns buf k now m) where
-    pub settling_more : (n : List ℕ) → n ≡ part (10 * k) 10 ns → (r : ℕ) (after : List ℕ) → OneErased v m n r after → (g : List ℕ) → g ≡ put now k (r ∷ [])
-        → EraseEachLoop v ns buf (k + 1) g after
+    pub settling_more : (n : List ℕ) → n ≡ part (10 * k) 10 ns → (o : Result (Unit {0}) Reason) (after : List ℕ) → OneErased v m n o after
+        → (r : ℕ) → r ≡ number_or_done o → (g : List ℕ) → g ≡ put now k (r ∷ []) → EraseEachLoop v ns buf (k + 1) g after
     unfolding erased_map erased_map_answer name_at
-    settling_more n q r after t g p =
+    settling_more n q o after t r u g p =
         let f : ℕ → ℕ = erased_map_answer v ns in
-        let x : r ≡ f k = t.number ∙ ap₂ (λ (m n : List ℕ). name_answer (not_erased v m) n) s.map q in
+        let x : r ≡ f k = u ∙ t.number ∙ ap₂ (λ (m n : List ℕ). name_answer (not_erased v m) n) s.map q in
         let z : length (tab k f) ≡ k = length-tab k f in
         record {
           answers =
@@ -118,10 +120,3 @@ module _ (v : Directory) (ns buf : List ℕ) where
 
     pub settling_all : (many : ℕ) → k ≡ many → AllErased v ns many buf now m
     settling_all many e = record { answers = rw e at s.answers; map = rw e at s.map }
-
--- ---- and written
-
-pub written_by : (d ns : List ℕ) (many : ℕ) (abuf buf answers m list new : List ℕ) (r : ℕ) → AllErased (directory d) ns many abuf answers m → PutInFront buf (sectors_with (has m)) list r
-    → new ≡ slots_cleared d (has m) slots → ErasesWritten d ns many abuf buf r new answers list
-written_by d ns many abuf buf answers m list new r s f w =
-    record { answered = s.answers; sectors = rw (← s.map) f; disk = rw (← s.map) w }

@@ -1,7 +1,7 @@
--- A slot by its name, as the loop looks for it along a bucket; and row 29 over the slots that are left.
+-- A slot by its name, as the loop looks for it along a bucket.
 use Prim.Native.Nat.{ℕ, suc, ◌+◌, ◌-◌, ◌≤◌, ◌<◌}
 use mathlib.Core.Path.{◌≡◌, refl, sym, ap, ◌∙◌}
-use mathlib.Core.Bool.{Bool, true, false, cond, not, ◌&&◌, and-false, and-eq-true_iff, true≢false}
+use mathlib.Core.Bool.{Bool, true, false, and-eq-true_iff, true≢false}
 use mathlib.Core.List.{List, append-nil}
 use mathlib.Core.Logic.{⊎_elim}
 use mathlib.Core.Option.{Option, none, some, some-ne-none}
@@ -9,51 +9,21 @@ use native.Mathlib.Omega.{arith}
 use borrow.Author.Tests.{eqb-true}
 use lib.Dec.{eqb}
 use lib.ListN.{length, get_or}
-use Rattle.buffers.specs.Bytes.{any}
 use Rattle.buffers.proofs.Lists.{below_or_not}
-use Rattle.buffers.proofs.Counts.{any_none, none_any}
 use Rattle.maps.specs.Bits.{has}
-use Rattle.slots.specs.Slot.{is_live, is_named, name_of, parent_of}
-use Rattle.names.specs.Name.{same_name, Same, padded, key_of}
+use Rattle.slots.specs.Slot.{is_live, is_named, name_of}
+use Rattle.names.specs.Name.{same_name, Same, padded}
 use Rattle.names.proofs.Keys.{key_same}
 use Rattle.directory.specs.Places.{slots}
-use Rattle.directory.specs.Directory.{fold_option, Directory, directory, slots_read, slot_or}
+use Rattle.directory.specs.Directory.{fold_option, Directory, directory, slot_or}
 use Rattle.directory.specs.Find.{find}
 use Rattle.directory.proofs.Ends.{slot_read}
-use Rattle.directory.proofs.Live.{directory-some, directory-unread}
+use Rattle.directory.proofs.Live.{directory-some}
 use Rattle.directory.proofs.Search.{some-find, none-find}
-use Rattle.nesting.specs.Steps.{in_other}
-use Rattle.nesting.proofs.Others.{other_dead, other-elsewhere}
-use Rattle.erase_many.specs.ErasedMap.{not_erased}
+use Rattle.nesting.specs.Steps.{not_erased}
+use Rattle.nesting.proofs.Others.{left-gone, left_here, left_was}
 use Rattle.erase_calls.specs.Index.{buckets, bucket_of, in_bucket, IndexedFrom}
 use Rattle.erase_calls.proofs.Index.{in_own}
-
--- ---- what is left
-
-module _ (v : Directory) (m : List ℕ) (i : ℕ) where
-  pub left-gone : has m i ≡ true → not_erased v m i ≡ none
-  unfolding not_erased
-  left-gone e = rw e
-
-  pub left_here : has m i ≡ false → not_erased v m i ≡ v i
-  unfolding not_erased
-  left_here e = rw e
-
-  pub left-none : v i ≡ none → not_erased v m i ≡ none
-  unfolding not_erased
-  left-none e = by (has m i)
-    where
-      by : (t : Bool) → cond t none (v i) ≡ none
-      by true = refl
-      by false = e
-
-  pub left_was : (s : List ℕ) → not_erased v m i ≡ some s → v i ≡ some s
-  unfolding not_erased
-  left_was s e = by (has m i) e
-    where
-      by : (t : Bool) → cond t none (v i) ≡ some s → v i ≡ some s
-      by true q = absurd (some-ne-none s (sym q))
-      by false q = q
 
 -- ---- along a bucket
 
@@ -154,26 +124,3 @@ module _ (d m n index : List ℕ) (w : IndexedFrom (directory d) 0 index) where
 
 pub seek_none : (d m n : List ℕ) (c : ℕ) → SeekLoop d m n c → slots ≤ c → length n ≡ 10 → find (not_erased (directory d) m) n ≡ none
 seek_none d m n c s h l = none-find (not_erased (directory d) m) n (λ j p t a b. s.before j (omega arith) t a (rw (padded-ten n l) at b))
-
--- ---- row 29
-
--- a slot in another directory, live or not
-pub left-elsewhere : (d m : List ℕ) (i code j : ℕ) → any j (in_other (not_erased (directory d) m) i code) ≡ false → (s : List ℕ) → s ≡ slot_or d j → (p : ℕ) → p ≡ parent_of s → (p ≡ code → ⊥)
-    → any (j + 1) (in_other (not_erased (directory d) m) i code) ≡ false
-left-elsewhere d m i code j e s q p w n = by (not_erased (directory d) m j) refl
-  where
-    by : (o : Option (List ℕ)) → not_erased (directory d) m j ≡ o → any (j + 1) (in_other (not_erased (directory d) m) i code) ≡ false
-    by none x = other_dead (not_erased (directory d) m) i code j e x
-    by (some t) x =
-        let y = directory-some d j t (left_was (directory d) m j t x) in
-        let z : s ≡ t = q ∙ slot_read d j y.0 ∙ sym y.1 in
-        other-elsewhere (not_erased (directory d) m) i code j e t x p (w ∙ ap parent_of z) n
-
--- past the slots that are read there is none
-
-pub left_end : (d m : List ℕ) (i code j : ℕ) → any j (in_other (not_erased (directory d) m) i code) ≡ false → slots_read d ≤ j → any slots (in_other (not_erased (directory d) m) i code) ≡ false
-unfolding in_other
-left_end d m i code j e h =
-    none_any slots (in_other (not_erased (directory d) m) i code)
-    (λ k l. ⊎_elim (any_none j (in_other (not_erased (directory d) m) i code) e k)
-    (λ (q : j ≤ k). rw (left-none (directory d) m k (directory-unread d k (omega arith))) (and-false (not (eqb k i)))) (below_or_not k j))

@@ -1,6 +1,6 @@
 -- What is refused and what is written is what the definition gives.
 use Prim.Native.Nat.{ℕ, ◌%◌, ◌≤◌, ◌<◌}
-use mathlib.Core.Path.{◌≡◌, refl, sym, ap, ap₂, ◌∙◌}
+use mathlib.Core.Path.{◌≡◌, sym, ap, ap₂, ◌∙◌}
 use mathlib.Core.Bool.{Bool, true, false}
 use mathlib.Core.List.{List}
 use mathlib.Core.Option.{none, some}
@@ -12,13 +12,15 @@ use Rattle.buffers.specs.Bytes.{put}
 use Rattle.maps.specs.Bits.{has}
 use Rattle.refusals.specs.Order.{Refusal, refuse}
 use Rattle.refusals.specs.Answers.{Outcome, done, refused}
+use Rattle.directory.specs.Places.{slots}
 use Rattle.directory.specs.Directory.{directory}
 use Rattle.disk.specs.Check.{check_disk}
 use Rattle.erase_many.specs.EraseMany.{how_many, answers_to, erased_all, sectors_with, sectors_of_all, pairs, many_reply, run_many, erased, erase_many}
-use Rattle.erase_many.specs.ErasedMap.{erased_map}
+use Rattle.erase_many.specs.ErasedMap.{erased_map, slots_cleared}
 use Rattle.erase_many.proofs.Listed.{few-sectors}
 use Rattle.erase_many.proofs.ErasedMap.{answers-same, sectors-same, disk-same}
-use Rattle.erase_calls.specs.Erasing.{ErasesWritten, ErasesAllowed}
+use Rattle.slot_erasing.specs.Listed.{PutInFront}
+use Rattle.erase_calls.specs.Erasing.{AllErased, ErasesAllowed}
 
 -- room for every sector of the directory is room for those that change
 pub never-short : (e : ℕ → Bool) (room : ℕ) → pairs ≤ room → false ≡ ltb room (length (sectors_with e))
@@ -58,9 +60,12 @@ module _ (d ns abuf buf : List ℕ) (w : ErasesAllowed d ns) where
     unfolding erase_many run_many many_reply
     given t = rw (w.accepted, eq-eqb (length ns % 10) 0 w.tens, le-ltb (length abuf) (how_many ns) h, room t)
 
-    pub all_written : r ≡ false → {n : ℕ} {new answers list : List ℕ} → ErasesWritten d ns (how_many ns) abuf buf n new answers list → erased (done n 0) new answers list ≡ erase_many d ns abuf buf
-    all_written t {n} {new} {answers} {list} x =
-        ap₂ (λ (n : ℕ) (new : List ℕ). erased (done n 0) new answers list) (x.sectors.long ∙ ap length (sectors-same d w.accepted ns)) (x.disk ∙ disk-same d w.accepted ns)
+    pub all_written : r ≡ false → {n : ℕ} {new answers list m : List ℕ} → AllErased (directory d) ns (how_many ns) abuf answers m → PutInFront buf (sectors_with (has m)) list n
+        → new ≡ slots_cleared d (has m) slots → erased (done n 0) new answers list ≡ erase_many d ns abuf buf
+    all_written t {n} {new} {answers} {list} {m} x f y =
+        let s : sectors_with (has m) ≡ sectors_of_all d ns = ap (λ (m : List ℕ). sectors_with (has m)) x.map ∙ sectors-same d w.accepted ns in
+        ap₂ (λ (n : ℕ) (new : List ℕ). erased (done n 0) new answers list) (f.long ∙ ap length s)
+        (y ∙ ap (λ (m : List ℕ). slots_cleared d (has m) slots) x.map ∙ disk-same d w.accepted ns)
         ∙ ap₂ (λ (answers list : List ℕ). erased (done (length (sectors_of_all d ns)) 0) (erased_all d ns) answers list)
-        (x.answered ∙ ap (put abuf 0) (answers-same d w.accepted ns)) (x.sectors.numbers ∙ ap (put buf 0) (sectors-same d w.accepted ns))
+        (x.answers ∙ ap (put abuf 0) (answers-same d w.accepted ns)) (f.numbers ∙ ap (put buf 0) s)
         ∙ given t

@@ -1,10 +1,10 @@
 -- A disk with byte 0 of some live slots set to 0: what is seen of it, that it is accepted, and its sectors one by one.
 use Prim.Native.Nat.{ℕ, zero, suc, ◌+◌, ◌-◌, ◌*◌, ◌≤◌, ◌<◌}
-use mathlib.Core.Path.{◌≡◌, refl, sym, ap, ap₂, ◌∙◌}
+use mathlib.Core.Path.{◌≡◌, refl, sym, ap, ◌∙◌}
 use mathlib.Core.Bool.{Bool, true, false, cond, ◌&&◌}
 use mathlib.Core.List.{List, [], ◌∷◌}
 use mathlib.Core.Logic.{⊎_elim}
-use mathlib.Core.Option.{none, some, some-ne-none}
+use mathlib.Core.Option.{none, some}
 use native.Mathlib.Nat.{add-zero}
 use native.Mathlib.Omega.{arith}
 use borrow.Author.Tests.{eqb-true, eqb-false, lt-ltb, le-ltb}
@@ -26,7 +26,7 @@ use Rattle.steps.specs.Steps.{put_all, StepHolds}
 use Rattle.steps.proofs.Steps.{put_other}
 use Rattle.steps.proofs.Sectors.{sectors_ext, length_cut, cut-old, cut-new}
 use Rattle.plans.specs.Plan.{with_slot}
-use Rattle.plans.proofs.Frame.{upd_same, upd_other, entry_dead, LiveFile, holds, holds-long, holds_named, Keeps, reach_read, seen_here, seen_else}
+use Rattle.plans.proofs.Frame.{entry_dead, LiveFile, holds, holds-long, holds_named, Keeps, reach_read, seen_here, seen_else}
 use Rattle.plans.proofs.Kept.{accepted-long, touch_step, erase_does}
 use Rattle.plans.proofs.After.{first_byte}
 use Rattle.erase_many.specs.ErasedMap.{slots_cleared}

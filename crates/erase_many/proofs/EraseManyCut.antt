@@ -1,17 +1,16 @@
 -- What an erase-many's list names, and what a cut of it leaves.
-use Prim.Native.Nat.{ℕ, ◌*◌, ◌%◌, ◌≤◌, ◌<◌}
+use Prim.Native.Nat.{ℕ, ◌*◌, ◌%◌, ◌<◌}
 use mathlib.Core.Path.{◌≡◌, refl, sym, ap, ◌∙◌, subst}
-use mathlib.Core.Bool.{Bool, true, false, cond, ◌&&◌, true≢false}
+use mathlib.Core.Bool.{Bool, true, false, cond, ◌&&◌}
 use mathlib.Core.List.{List}
-use mathlib.Core.Option.{Option, none, some, some-ne-none}
-use native.Mathlib.Omega.{arith}
+use mathlib.Core.Option.{none, some-ne-none}
 use borrow.Author.Tests.{lt-ltb}
 use lib.Dec.{ltb}
 use lib.ListN.{length, take}
 use Rattle.buffers.specs.Bytes.{part}
 use Rattle.buffers.proofs.Tests.{and_both}
 use Rattle.slots.specs.Slot.{is_live}
-use Rattle.chains.specs.File.{File, file_of}
+use Rattle.chains.specs.File.{file_of}
 use Rattle.directory.specs.Places.{slots, slot_bytes, dir_sector}
 use Rattle.directory.specs.Directory.{slots_in, is_read}
 use Rattle.directory.proofs.Ends.{seen-is}
@@ -21,14 +20,13 @@ use Rattle.disk.specs.Check.{check_disk}
 use Rattle.disk.proofs.View.{view-label, view-some}
 use Rattle.disk.proofs.Accepted.{accepted_disk_only}
 use Rattle.steps.specs.Sectors.{sector, is_listed, cut}
-use Rattle.steps.proofs.Sectors.{cut-old, cut_all}
+use Rattle.steps.proofs.Sectors.{cut_all}
 use Rattle.plans.proofs.Frame.{disk-accepted, holds, slot_half}
 use Rattle.erase_many.specs.EraseMany.{how_many, is_erased, sectors_with, erased_all, sectors_of_all}
-use Rattle.erase_many.specs.ErasedMap.{slots_cleared}
 use Rattle.erase_many.specs.EraseManyCut.{NamesChanged, CutLeaves}
 use Rattle.erase_many.proofs.Cleared.{Lives, without, cleared-long, SlotsClearedTo, all_emptied, cleared-sector, cleared-none, cut-cleared}
 use Rattle.erase_many.proofs.Listed.{rises, listed_slot, slot_listed}
-use Rattle.erase_many.proofs.Meaning.{Was, gone_was, gone_lives, Fewer, fewer_left, after_fewer}
+use Rattle.erase_many.proofs.Meaning.{gone_was, gone_lives, Fewer, fewer_left, after_fewer}
 
 module _ (d : List ℕ) (ok : check_disk d ≡ none) (new : List ℕ) (z : Fewer d new) where
   abbrev ss : List ℕ

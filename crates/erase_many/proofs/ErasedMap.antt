@@ -3,15 +3,14 @@ use Prim.Native.Nat.{ℕ, zero, suc, ◌+◌, ◌*◌, ◌/◌, ◌%◌, ◌^◌
 use mathlib.Core.Path.{◌≡◌, refl, sym, ap, ap₂, ◌∙◌, subst, fun_ext}
 use mathlib.Core.Bool.{Bool, true, false, cond, ◌&&◌, ◌||◌, false≢true}
 use mathlib.Core.List.{List, [], ◌∷◌}
-use mathlib.Core.Logic.{⊎_elim}
 use mathlib.Core.Option.{Option, none, some, some-ne-none}
 use native.Mathlib.Nat.{add-zero, zero-div}
 use native.Mathlib.Omega.{arith}
-use borrow.Author.Tests.{eqb-true, eqb-false, ne_eqb, lt-ltb, le-ltb}
+use borrow.Author.Tests.{eqb-true, ne_eqb, lt-ltb}
 use lib.Dec.{eqb, ltb}
 use lib.ListN.{length, get_or, replicate, length-replicate}
 use Rattle.buffers.specs.Bytes.{tab, put}
-use Rattle.buffers.proofs.Lists.{below_or_not, tab_cong}
+use Rattle.buffers.proofs.Lists.{tab_cong}
 use Rattle.maps.specs.Bits.{has, with_bit}
 use Rattle.maps.proofs.Laws.{has_marked, length_marked}
 use Rattle.refusals.specs.Order.{Refusal, refuse}
@@ -29,13 +28,14 @@ use Rattle.disk.proofs.Accepted.{accepted_disk_only}
 use Rattle.files.specs.Calls.{file_at}
 use Rattle.trees.specs.Tree.{occupied}
 use Rattle.steps.specs.Steps.{apply, put_all, numbers}
-use Rattle.plans.specs.Plan.{with_slot, put_steps, Result, refused_result, new_disk, plan_of, run_change}
+use Rattle.plans.specs.Plan.{with_slot, put_steps, refused_result, new_disk, plan_of, run_change}
 use Rattle.plans.specs.Allowed.{NamedSlot}
 use Rattle.plans.proofs.Frame.{disk-accepted, slots-some, holds}
 use Rattle.plans.proofs.Named.{found-file}
 use Rattle.erase_many.specs.EraseMany.{name_at, how_many, single_erase, result_number, disk_or, disk_after_erases, answer_at, answers_to, erased_all, is_erased, sectors_with, sectors_of_all}
-use Rattle.erase_many.specs.ErasedMap.{none_erased, not_erased, erase_answer, name_answer, erased_with, erased_map, erased_map_answer, slots_cleared}
-use Rattle.erase_many.proofs.Cleared.{Lives, without, clear_view, SlotsClearedTo, all_emptied}
+use Rattle.nesting.specs.Steps.{not_erased}
+use Rattle.erase_many.specs.ErasedMap.{none_erased, erase_answer, name_answer, erased_with, erased_map, erased_map_answer, slots_cleared}
+use Rattle.erase_many.proofs.Cleared.{Lives, without, clear_view, all_emptied}
 use Rattle.erase_many.proofs.Listed.{sectors_cong}
 use Rattle.erase_many.proofs.Meaning.{after_fewer}
 

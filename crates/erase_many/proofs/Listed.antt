@@ -5,14 +5,14 @@ use mathlib.Core.Bool.{Bool, true, false, cond, ◌||◌, false≢true}
 use mathlib.Core.List.{List, [], ◌∷◌}
 use mathlib.Core.Logic.{◌⊎◌, inl, inr, ⊎_elim}
 use native.Mathlib.Omega.{arith}
-use borrow.Author.Tests.{eqb-true, eqb-false, eq-eqb, ne_eqb, lt-ltb, le-ltb}
+use borrow.Author.Tests.{eqb-true, eq-eqb, lt-ltb, le-ltb}
 use lib.Dec.{eqb, ltb}
 use lib.ListN.{length, get_or, take}
 use Rattle.buffers.proofs.Lists.{below_or_not}
 use Rattle.buffers.proofs.Tests.{or_either, or_left, or_right}
-use Rattle.directory.specs.Places.{slots, slot_at, dir_sector}
+use Rattle.directory.specs.Places.{slots, dir_sector}
 use Rattle.directory.proofs.Places.{gap_is, slot-sector, slot_within}
-use Rattle.steps.specs.Sectors.{is_listed, Once}
+use Rattle.steps.specs.Sectors.{is_listed}
 use Rattle.plans.proofs.NewFile.{listed_at}
 use Rattle.erase_many.specs.EraseMany.{pairs, touches, sectors_from, sectors_with}
 

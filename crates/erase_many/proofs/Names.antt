@@ -1,22 +1,22 @@
 -- What becomes of the names of an erase-many: the files that they erase, a name that comes again, and every other name.
-use Prim.Native.Nat.{ℕ, zero, suc, ◌+◌, ◌≤◌, ◌<◌}
+use Prim.Native.Nat.{ℕ, zero, suc, ◌≤◌, ◌<◌}
 use mathlib.Core.Path.{◌≡◌, refl, sym, ap, ◌∙◌, subst}
-use mathlib.Core.Bool.{Bool, true, false, cond, ◌||◌, true≢false, false≢true}
+use mathlib.Core.Bool.{Bool, true, false, cond, true≢false}
 use mathlib.Core.List.{List, [], ◌∷◌}
-use mathlib.Core.Logic.{◌⊎◌, ◌↔◌, ⊎_elim}
+use mathlib.Core.Logic.{◌↔◌, ⊎_elim}
 use mathlib.Core.Option.{Option, none, some, some-ne-none, some-injective}
 use native.Mathlib.Nat.{eq-or-lt_of_le, le_of_suc-le-suc}
 use native.Mathlib.Omega.{arith}
-use borrow.Author.Tests.{eqb-true, eqb-false, eq-eqb}
+use borrow.Author.Tests.{eqb-true, eq-eqb}
 use lib.Dec.{eqb}
 use Rattle.buffers.proofs.Tests.{or_either, or_left, or_right}
 use Rattle.refusals.specs.Order.{refuse}
-use Rattle.slots.specs.Slot.{protected, name_of}
-use Rattle.names.specs.Name.{Same, askable, padded}
+use Rattle.slots.specs.Slot.{protected}
+use Rattle.names.specs.Name.{askable}
 use Rattle.chains.specs.File.{File}
 use Rattle.directory.specs.Directory.{fold_option, Directory}
 use Rattle.directory.specs.Find.{find}
-use Rattle.disk.specs.View.{View, view, view_slots}
+use Rattle.disk.specs.View.{View, view}
 use Rattle.disk.specs.Check.{check_disk}
 use Rattle.disk.proofs.View.{view-slots}
 use Rattle.files.proofs.Named.{lookup-none}
@@ -26,14 +26,14 @@ use Rattle.trees.specs.Tree.{occupied}
 use Rattle.steps.specs.Sectors.{is_listed}
 use Rattle.plans.specs.Change.{erase}
 use Rattle.plans.specs.Plan.{with_slot, Result, refused_result, new_disk}
-use Rattle.plans.specs.Allowed.{NamedSlot, NameUnused}
+use Rattle.plans.specs.Allowed.{NameUnused}
 use Rattle.plans.specs.After.{SameAnswers, NotNamed, NameGone}
 use Rattle.plans.proofs.Frame.{disk-accepted, upd_same, upd_other, holds}
 use Rattle.plans.proofs.Named.{fresh-find, found_here, alone as no_other}
 use Rattle.plans.proofs.Refused.{refused_positive}
 use Rattle.plans.proofs.Stays.{stays}
 use Rattle.erase_many.specs.EraseMany.{name_at, how_many, single_erase, result_number, disk_or, disk_after_erases, answer_at, erased_all, is_erased}
-use Rattle.erase_many.specs.ErasedMap.{erase_answer, name_answer, not_erased, erased_map, erased_map_answer}
+use Rattle.erase_many.specs.ErasedMap.{erase_answer, name_answer, erased_map_answer}
 use Rattle.erase_many.specs.EraseManyCut.{ErasedBy}
 use Rattle.erase_many.proofs.Meaning.{gone-never, Empties, empties, grown, after_fewer, after-accepted}
 use Rattle.erase_many.proofs.ErasedMap.{run_15, answer_same}

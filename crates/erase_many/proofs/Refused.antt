@@ -1,21 +1,21 @@
 -- When an erase-many is refused, and when it is accepted: exactly then, and nothing lent changes where it is refused.
-use Prim.Native.Nat.{ℕ, ◌+◌, ◌*◌, ◌/◌, ◌%◌, ◌≤◌, ◌<◌}
+use Prim.Native.Nat.{ℕ, ◌*◌, ◌/◌, ◌%◌, ◌<◌}
 use mathlib.Core.Path.{◌≡◌, refl, sym, ap, ◌∙◌}
-use mathlib.Core.Bool.{Bool, true, false, not, cond}
-use mathlib.Core.List.{List, [], ◌∷◌}
+use mathlib.Core.Bool.{Bool, cond}
+use mathlib.Core.List.{List}
 use mathlib.Core.Logic.{◌≢◌, ◌↔◌, ⊎_elim}
-use mathlib.Core.Option.{none, some, some-ne-none}
+use mathlib.Core.Option.{none, some}
 use native.Mathlib.Omega.{arith}
-use borrow.Author.Tests.{ltb-false, le-ltb, eqb-true, eq-eqb, not-false}
+use borrow.Author.Tests.{ltb-false, le-ltb, eqb-true, eq-eqb}
 use lib.Dec.{eqb, ltb}
 use lib.ListN.{length}
 use Rattle.buffers.specs.Bytes.{put}
 use Rattle.refusals.specs.Order.{Refusal, refuse, Reply, ◌else◌, row}
 use Rattle.refusals.specs.Answers.{done, refused}
-use Rattle.refusals.proofs.First.{else_none, none_else, else_some, first_row, row_else, row_first, first-row}
+use Rattle.refusals.proofs.First.{else_none, else_some, first_row, row_else, row_first, first-row}
 use Rattle.disk.specs.Check.{check_disk}
 use Rattle.disk.proofs.Order.{check_positive}
-use Rattle.files.specs.Refused.{RefusesBy, by_check, by_row}
+use Rattle.files.specs.Refused.{by_check, by_row}
 use Rattle.plans.specs.Plan.{Result, refused_result, new_disk, checked_result}
 use Rattle.plans.proofs.SafeSteps.{row-none, not_none}
 use Rattle.erase_many.specs.EraseMany.{how_many, answers_to, erased_all, sectors_of_all, not_tens, many_reply, many_rows, RefusesMany, run_many, erased, erased_by_result, erase_many}

@@ -1,6 +1,5 @@
 -- Erasing many files at once. The words of document 02 stand above what they define.
 use Rattle.std.specs.Prelude.{ℕ, zero, suc, ◌+◌, ◌*◌, ◌/◌, ◌%◌, Bool, true, false, not, cond, ◌||◌, List, [], ◌∷◌, eqb, ltb, length}
-use Rattle.std.proofs.Math.Option.{none, some}
 use Rattle.buffers.specs.Bytes.{tab, part, put}
 use Rattle.refusals.specs.Order.{Refusal, Reply, ◌else◌, row, SlotRow, row_at}
 use Rattle.refusals.specs.Answers.{Outcome, done, refused}

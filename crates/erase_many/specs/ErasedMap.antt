@@ -1,23 +1,19 @@
 -- The same by a map of the slots erased so far, over the disk as it was: what the code keeps, and what it answers before it writes.
 use Rattle.std.specs.Prelude.{ℕ, zero, suc, Bool, cond, List, [], ◌∷◌, eqb, replicate}
-use Rattle.std.proofs.Math.Option.{none}
 use Rattle.buffers.specs.Bytes.{put}
-use Rattle.maps.specs.Bits.{has, with_bit}
+use Rattle.maps.specs.Bits.{with_bit}
 use Rattle.slots.specs.Slot.{protected}
 use Rattle.names.specs.Name.{askable}
 use Rattle.directory.specs.Places.{slot_at}
 use Rattle.directory.specs.Directory.{fold_option, Directory}
 use Rattle.directory.specs.Find.{find}
 use Rattle.trees.specs.Tree.{occupied}
+use Rattle.nesting.specs.Steps.{not_erased}
 use Rattle.erase_many.specs.EraseMany.{name_at}
 
 -- no slot is erased yet: a bit for each of the 778
 unfoldable pub none_erased : List ℕ
 none_erased = replicate 98 0
-
--- the live slots that are not erased yet
-unfoldable pub not_erased : Directory → List ℕ → Directory
-not_erased v m i = cond (has m i) none (v i)
 
 -- the answer to an erase of slot i, whose bytes are s: 17, then 29, "a directory whose code, not 0, is another live slot's byte 254"
 unfoldable pub erase_answer : Directory → ℕ → List ℕ → ℕ

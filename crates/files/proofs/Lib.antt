@@ -1,4 +1,4 @@
-pub mod Listed
+pub mod Listing
 pub mod Named
 pub mod Starting
 pub mod Reading

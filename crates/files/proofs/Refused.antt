@@ -11,7 +11,7 @@ use borrow.Author.Tests.{ltb-true, ltb-false, le-leb, lt-leb}
 use lib.Dec.{leb, ltb}
 use lib.ListN.{length}
 use Rattle.buffers.proofs.Counts.{any_some, none_any}
-use Rattle.refusals.specs.Order.{Refusal, refuse, Reply, ◌else◌, row, SlotRow, FirstSlotRow, without_slots, rises, LowestRow}
+use Rattle.refusals.specs.Order.{Refusal, refuse, Reply, ◌else◌, row, SlotRow, without_slots, rises, LowestRow}
 use Rattle.refusals.specs.Answers.{Outcome, done, refused, unless, filled}
 use Rattle.refusals.proofs.First.{else_some, first_row, row_else, row_first, first-row}
 use Rattle.refusals.proofs.Lowest.{slot-lowest, slot_positive}
@@ -31,7 +31,7 @@ use Rattle.disk.proofs.Examined.{accepted-size}
 use Rattle.disk.proofs.Order.{check_positive}
 use Rattle.files.specs.Calls.{no_file, file_at, file_named, entries, not_readable, start_out_of_range, list_view, read_reply, read_view, start_reply, start_view, listing, reading, start_address}
 use Rattle.files.specs.Refused.{some_named, slot_named, start_outside, row12, row15, row20, found_row13, found_row14, list_rows, read_rows, start_rows, RefusesBy, by_check, by_row}
-use Rattle.files.proofs.Listed.{entries-long}
+use Rattle.files.proofs.Listing.{entries-long}
 
 -- ---- the tests
 

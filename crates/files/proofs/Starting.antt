@@ -1,7 +1,9 @@
 -- A start address by the tests that lead to it.
-use Prim.Native.Nat.{ℕ, suc, ◌+◌}
+use Prim.Native.Nat.{ℕ, suc, ◌+◌, ◌-◌, ◌*◌, ◌≤◌, ◌<◌}
 use mathlib.Core.Path.{◌≡◌, sym, ap, ap₂, ◌∙◌}
 use mathlib.Core.Bool.{true, false, ◌&&◌}
+use mathlib.Core.Logic.{◌⊎◌, ⊎_elim}
+use borrow.Author.Tests.{le-leb, lt-leb}
 use lib.Dec.{leb}
 use mathlib.Core.List.{List}
 use native.Mathlib.Numerals.{add-one}
@@ -48,10 +50,13 @@ module _ (slot : ℕ) (d s : List ℕ) where
   unfolding start_at file_of
   at_not_carried z a = rw (uncarried_read (kind_of s) a, z)
 
-  pub at_out : carried (kind_of s) ≡ true → (leb 32768 (offset_of s) && leb (offset_of s) 49151) ≡ false → refused (refuse 14 slot) ≡ start_at slot (file_of d s)
-  unfolding start_at file_of
-  at_out a b = rw (carried-read (kind_of s) a, carried_not (kind_of s) a, b)
+  module _ (a : carried (kind_of s) ≡ true) {o : ℕ} (e : o ≡ offset_of s) where
+    pub at_out : (o < 32768) ⊎ ((32768 ≤ o) × (49151 < o)) → refused (refuse 14 slot) ≡ start_at slot (file_of d s)
+    unfolding start_at file_of
+    at_out h =
+        let b : (leb 32768 o && leb o 49151) ≡ false = ⊎_elim (λ k. rw (lt-leb 32768 o k)) (λ k. rw (le-leb 32768 o k.0, lt-leb o 49151 k.1)) h in
+        rw (carried-read (kind_of s) a, carried_not (kind_of s) a, ← e, b)
 
-  pub at_address : carried (kind_of s) ≡ true → (leb 32768 (offset_of s) && leb (offset_of s) 49151) ≡ true → done (address (page_of s) (offset_of s)) 0 ≡ start_at slot (file_of d s)
-  unfolding start_at file_start file_of
-  at_address a b = rw (carried-read (kind_of s) a, carried_not (kind_of s) a, b)
+    pub at_address : 32768 ≤ o → o ≤ 49151 → {p : ℕ} → p ≡ page_of s → done (p * 16384 + o - 16384) 0 ≡ start_at slot (file_of d s)
+    unfolding start_at file_start file_of address
+    at_address h k q = rw (carried-read (kind_of s) a, carried_not (kind_of s) a, ← e, ← q, le-leb 32768 o h, le-leb o 49151 k)

@@ -1,8 +1,9 @@
 -- Listing, reading and start addresses, as functions of the view. The words of documents 01 and 02 stand above what they define.
-use Rattle.std.specs.Prelude.{ℕ, zero, suc, ◌+◌, ◌-◌, ◌*◌, ◌/◌, ◌%◌, cond, not, ◌&&◌, List, [], ◌∷◌, ◌++◌, leb, ltb, length}
+use Rattle.std.specs.Prelude.{ℕ, zero, suc, ◌+◌, ◌-◌, ◌*◌, ◌/◌, ◌%◌, cond, not, ◌&&◌, List, [], ◌∷◌, ◌++◌, leb, ltb, length, Result, Ok, Err}
 use Rattle.std.proofs.Math.Option.{Option, none, some}
 use Rattle.refusals.specs.Order.{Refusal, refuse, Reply, ◌else◌, row}
-use Rattle.refusals.specs.Answers.{Outcome, done, unless, Out, filled, refusal_of}
+use Rattle.refusals.specs.Answers.{Outcome, done, refused, unless, Out, filled, refusal_of}
+use Rattle.refusals.specs.declared.Refused.{Refused}
 use Rattle.slots.specs.Slot.{kind_of, spectrum, readable, page_of, offset_of}
 use Rattle.names.specs.Name.{askable}
 use Rattle.chains.specs.File.{File}
@@ -13,8 +14,7 @@ use Rattle.surveys.specs.Survey.{free}
 use Rattle.directory.specs.Find.{find}
 use Rattle.disk.specs.View.{View, view, view_slots, view_tracks}
 use Rattle.disk.specs.Check.{check_view}
-use Rattle.files.specs.declared.Lookup.{Lookup}
-use Rattle.files.specs.declared.Lookup.TheVariants.{At, Err}
+use Rattle.files.specs.declared.Listed.{Listed}
 
 -- ---- listing
 
@@ -32,6 +32,11 @@ list_view l buf =
     filled (check_view l else row 20 0 (ltb (length buf) (length (entries (view_slots l) slots))))
     -- "It answers how many and the free sectors;"
     (done (live_among (view_slots l) slots) (free (view_tracks l) (view_slots l))) (entries (view_slots l) slots) buf
+
+-- the code's answer
+abbrev pub listed_outcome : Result Listed Refused → Outcome
+listed_outcome (Ok l) = done l.files l.free
+listed_outcome (Err r) = refused (refusal_of r)
 
 -- ---- a file by its name
 
@@ -65,8 +70,8 @@ unfoldable pub lookup : View → List ℕ → SlotLookup
 lookup l n = lookup_by (check_view l else row 12 0 (not (askable n))) (find (view_slots l) n)
 
 -- the code's answer
-abbrev pub lookup_of : Lookup → SlotLookup
-lookup_of (At i) = found_slot i
+abbrev pub lookup_of : Result ℕ Refused → SlotLookup
+lookup_of (Ok i) = found_slot i
 lookup_of (Err r) = refused_lookup (refusal_of r)
 
 -- the kind found cannot be read: it is not carried, nor one of kinds 1 to 4

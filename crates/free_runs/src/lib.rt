@@ -5,46 +5,42 @@ ghost use Rattle.std.specs.Prelude.{◌≡◌};
 ghost use Rattle.directory.specs.Find.{found_at};
 ghost use Rattle.free_runs.specs.Runs.{stretch, lowest_clear};
 
-use directory::Found;
-
 // How many bits of a map from `b` on are surely alike: eight where a byte begins there that is full or empty, else one.
+#[tactic(auto, unfolding(crate::specs::Runs::stretch))]
 fn stretch_at(map: &[u8], b: usize) -> usize
     ensures { result ≡ stretch map.now b }
 {
-    if b % 8 != 0 {
-        return 1;
-    }
     let byte = buffers::byte_at(map, b / 8);
-    if byte == 0 {
-        return 8;
+    if b % 8 == 0 && (byte == 0 || byte == 255) {
+        8
+    } else {
+        1
     }
-    if byte == 255 {
-        return 8;
-    }
-    1
 }
 
 // The first of the lowest `count` clear bits of a map that are consecutive, in one pass: `len` is how many before `b` are clear.
-pub fn find_run(map: &[u8], count: usize) -> Found
+#[tactic(auto, using(crate::proofs::Pass::alike, crate::proofs::Pass::trail_zero, crate::proofs::Pass::trail_start, crate::proofs::Pass::trail_found))]
+pub fn find_run(map: &[u8], count: usize) -> Option<usize>
     ensures { found_at result ≡ lowest_clear map.now count }
 {
     if count == 0 {
-        return Found::At(0);
+        return Some(0);
     }
     let mut len: usize = 0;
     let mut b: usize = 0;
+    // Not `for`: a byte whose bits are alike is passed in one step.
     while b < 1560 {
-        let c = b;
-        let k = stretch_at(map, c);
+        let k = stretch_at(map, b);
+        let is_set = maps::has_bit(map, b);
         b += k;
-        if maps::has_bit(map, c) {
+        if is_set {
             len = 0;
         } else {
             len += k;
             if count <= len {
-                return Found::At(b - len);
+                return Some(b - len);
             }
         }
     }
-    Found::Nothing
+    None
 }

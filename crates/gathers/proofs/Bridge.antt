@@ -7,14 +7,13 @@ use mathlib.Core.Logic.{◌⊎◌, inl, inr, ⊎_elim}
 use mathlib.Core.Option.{Option, none, some}
 use native.Mathlib.Omega.{arith}
 use borrow.Author.Tests.{lt-ltb, le-ltb, eq-eqb}
-use lib.Dec.{ltb}
 use Rattle.buffers.proofs.Lists.{below_or_not, length_part}
 use Rattle.maps.specs.Bits.{has}
 use Rattle.refusals.specs.Order.{scan}
-use Rattle.slots.specs.Slot.{kind_of, directory_kind, is_directory, count_of, map_of, slot_fields}
+use Rattle.slots.specs.Slot.{kind_of, directory_kind, is_directory, map_of, slot_fields}
 use Rattle.slots.specs.Tracks.{data_bit}
 use Rattle.slots.proofs.Tracks.{data_is}
-use Rattle.chains.specs.File.{File, file_of, sectors_of}
+use Rattle.chains.specs.File.{file_of, sectors_of}
 use Rattle.chains.proofs.Whole.{of_whole}
 use Rattle.directory.specs.Places.{slots}
 use Rattle.directory.specs.Directory.{Directory, directory, tracks_of, slot_or}

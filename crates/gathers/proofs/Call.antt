@@ -1,23 +1,24 @@
 -- What a gather comes to, by the tests that lead there.
-use Prim.Native.Nat.{ℕ, suc, ◌+◌, ◌≤◌, ◌<◌}
+use Prim.Native.Nat.{ℕ, ◌+◌, ◌≤◌, ◌<◌}
 use mathlib.Core.Path.{◌≡◌, refl, sym, ap, ap₂, ◌∙◌, subst}
-use mathlib.Core.Bool.{Bool, true, false, cond, not}
+use mathlib.Core.Bool.{Bool, true, false, cond}
 use mathlib.Core.List.{List, [], ◌∷◌, ◌++◌}
 use mathlib.Core.Option.{Option, none, some}
 use native.Mathlib.Numerals.{add-one}
 use native.Mathlib.Omega.{arith}
 use borrow.Author.Tests.{lt-ltb, le-ltb}
+use Rattle.std.specs.Prelude as Prelude
 use lib.Dec.{ltb}
 use lib.ListN.{length}
 use Rattle.buffers.specs.Bytes.{put}
 use Rattle.buffers.proofs.Lists.{put-none}
-use Rattle.refusals.specs.Order.{Refusal, refuse, row}
-use Rattle.refusals.specs.Answers.{Outcome, done, refused, refusal_of, outcome_of}
+use Rattle.refusals.specs.Order.{Refusal, refuse}
+use Rattle.refusals.specs.Answers.{done, refused, refusal_of}
 use Rattle.refusals.specs.declared.Refused.{Refused}
-use Rattle.slots.specs.Slot.{is_directory, count_of}
+use Rattle.slots.specs.Slot.{is_directory}
 use Rattle.names.specs.Name.{askable}
 use Rattle.chains.specs.File.{File, file_of}
-use Rattle.directory.specs.Places.{slots, dir_sector}
+use Rattle.directory.specs.Places.{dir_sector}
 use Rattle.directory.specs.Directory.{fold_option, directory, slot_or}
 use Rattle.directory.specs.Find.{find}
 use Rattle.surveys.specs.declared.UsedMap.{UsedMap}
@@ -30,16 +31,14 @@ use Rattle.steps.specs.Steps.{Step, apply, numbers}
 use Rattle.plans.specs.Change.{gather}
 use Rattle.plans.specs.Gathering.{scattered, up_from, lowest_run}
 use Rattle.plans.specs.Gathered.{run_sectors}
-use Rattle.plans.specs.Plan.{Plan, refused_plan, planned_steps, move_plan, gather_steps, plan_of, plan, Result, refused_result, new_disk, plan_result, checked_result, run_change, Changed, changed, changed_by, change}
+use Rattle.plans.specs.Plan.{Plan, refused_plan, planned_steps, move_plan, gather_steps, plan_of, plan, Result, refused_result, new_disk, plan_result, run_change, Changed, changed, changed_by, change}
 use Rattle.plans.proofs.Moved.{gather-numbers, gather-long}
 use Rattle.changes.proofs.Laws.{by_name}
 use Rattle.allocation.specs.Taken.{unavailable_map}
 use Rattle.free_runs.specs.Runs.{lowest_clear}
 use Rattle.gathers.specs.declared.Move.{Move}
-use Rattle.gathers.specs.declared.Gathered.{Gathered}
-use Rattle.gathers.specs.declared.Gathered.TheVariants.{InPlace, Relocated, Err}
 use Rattle.gathers.specs.Moving.{file_in, count_in, Movable}
-use Rattle.gathers.specs.Call.{moved_sectors, gather_changed, changed_by_result, gather_call, gather_plan_at, gather_at_slot, MoveInRange, GatherFits, LiveSlotOf}
+use Rattle.gathers.specs.Call.{moved_sectors, GatherAnswer, gather_changed, changed_by_result, gather_call, gather_plan_at, gather_at_slot, MoveInRange, GatherFits, LiveSlotOf}
 use Rattle.gathers.proofs.Bridge.{lowest_clear_lem}
 
 -- ---- at the slot that has the name
@@ -141,14 +140,14 @@ gather_held n d u a e i q =
 
 -- ---- a refusal, as the code gives it
 
-pub ends-refused : (g : Gathered) (r : Refused) → g ≡ Err r → (room : ℕ) (d : List ℕ) (x : Changed) → changed (refused (refusal_of r)) d [] ≡ x → (gather_changed g d ≡ x) × GatherFits g room
+pub ends-refused : (g : GatherAnswer) (r : Refused) → g ≡ Prelude.Err r → (room : ℕ) (d : List ℕ) (x : Changed) → changed (refused (refusal_of r)) d [] ≡ x → (gather_changed g d ≡ x) × GatherFits g room
 ends-refused g r e room d x q = rw e (q, tt)
 
 -- ---- the sectors put to a list
 
 -- a list that a result fills, with the numbers as they are or in another form: x is the result, put so by h
 module _ (d buf d' : List ℕ) (form : List ℕ → List ℕ) (none-put : put buf 0 (form []) ≡ buf) (h : Result → Changed) (stops : (r : Refusal) → h (refused_result r) ≡ changed (refused r) d buf)
-    (fills : (new ss : List ℕ) → h (new_disk new ss) ≡ changed (done (length ss) 0) new (put buf 0 (form ss))) (x : Result) (g : Gathered) (w : gather_changed g d' ≡ changed_by_result x d) where
+    (fills : (new ss : List ℕ) → h (new_disk new ss) ≡ changed (done (length ss) 0) new (put buf 0 (form ss))) (x : Result) (g : GatherAnswer) (w : gather_changed g d' ≡ changed_by_result x d) where
   abbrev filled : Changed → Changed
   filled y = changed y.outcome y.image (put buf 0 (form y.list))
 
@@ -156,30 +155,30 @@ module _ (d buf d' : List ℕ) (form : List ℕ → List ℕ) (none-put : put bu
   is-filled (refused_result r) = ap (changed (refused r) d) none-put ∙ sym (stops r)
   is-filled (new_disk new ss) = sym (fills new ss)
 
-  answered : (a : Gathered) → g ≡ a → filled (gather_changed a d') ≡ h x
-  answered a e = ap (λ (g : Gathered). filled (gather_changed g d')) (sym e) ∙ ap filled w ∙ is-filled x
+  answered : (a : GatherAnswer) → g ≡ a → filled (gather_changed a d') ≡ h x
+  answered a e = ap (λ (g : GatherAnswer). filled (gather_changed g d')) (sym e) ∙ ap filled w ∙ is-filled x
 
-  pub reported_refused : (r : Refused) → g ≡ Err r → changed (refused (refusal_of r)) d' buf ≡ h x
-  reported_refused r e = ap (changed (refused (refusal_of r)) d') (sym none-put) ∙ answered (Err r) e
+  pub reported_refused : (r : Refused) → g ≡ Prelude.Err r → changed (refused (refusal_of r)) d' buf ≡ h x
+  reported_refused r e = ap (changed (refused (refusal_of r)) d') (sym none-put) ∙ answered (Prelude.Err r) e
 
-  pub reported_stays : g ≡ InPlace → changed (done 0 0) d' buf ≡ h x
-  reported_stays e = ap (changed (done 0 0) d') (sym none-put) ∙ answered InPlace e
+  pub reported_stays : g ≡ Prelude.Ok Prelude.None → changed (done 0 0) d' buf ≡ h x
+  reported_stays e = ap (changed (done 0 0) d') (sym none-put) ∙ answered (Prelude.Ok Prelude.None) e
 
-  pub reported_went : (m : Move) → g ≡ Relocated m → (buf' : List ℕ) → buf' ≡ put buf 0 (form (moved_sectors m)) → changed (done (m.count + 1) 0) d' buf' ≡ h x
-  reported_went m e buf' q = ap (changed (done (m.count + 1) 0) d') q ∙ answered (Relocated m) e
+  pub reported_went : (m : Move) → g ≡ Prelude.Ok (Prelude.Some m) → (buf' : List ℕ) → buf' ≡ put buf 0 (form (moved_sectors m)) → changed (done (m.count + 1) 0) d' buf' ≡ h x
+  reported_went m e buf' q = ap (changed (done (m.count + 1) 0) d') q ∙ answered (Prelude.Ok (Prelude.Some m)) e
 
-module _ (n d buf d' : List ℕ) (g : Gathered) (w : gather_changed g d' ≡ gather_call n d (length buf)) where
-  pub list-refused : (r : Refused) → g ≡ Err r → changed (refused (refusal_of r)) d' buf ≡ change (gather n) d buf
+module _ (n d buf d' : List ℕ) (g : GatherAnswer) (w : gather_changed g d' ≡ gather_call n d (length buf)) where
+  pub list-refused : (r : Refused) → g ≡ Prelude.Err r → changed (refused (refusal_of r)) d' buf ≡ change (gather n) d buf
   unfolding change gather_call
   list-refused = reported_refused d buf d' (λ ss. ss) (sym (put-none buf 0 [])) (λ x. changed_by x d buf) (λ r. refl) (λ new ss. refl) (run_change (gather n) d (length buf)) g w
 
-  pub list-stays : g ≡ InPlace → changed (done 0 0) d' buf ≡ change (gather n) d buf
+  pub list-stays : g ≡ Prelude.Ok Prelude.None → changed (done 0 0) d' buf ≡ change (gather n) d buf
   unfolding change gather_call
   list-stays = reported_stays d buf d' (λ ss. ss) (sym (put-none buf 0 [])) (λ x. changed_by x d buf) (λ r. refl) (λ new ss. refl) (run_change (gather n) d (length buf)) g w
 
-  pub list_went : (m : Move) → g ≡ Relocated m → (buf' : List ℕ) → buf' ≡ put buf 0 (moved_sectors m) → changed (done (m.count + 1) 0) d' buf' ≡ change (gather n) d buf
+  pub list_went : (m : Move) → g ≡ Prelude.Ok (Prelude.Some m) → (buf' : List ℕ) → buf' ≡ put buf 0 (moved_sectors m) → changed (done (m.count + 1) 0) d' buf' ≡ change (gather n) d buf
   unfolding change gather_call
   list_went = reported_went d buf d' (λ ss. ss) (sym (put-none buf 0 [])) (λ x. changed_by x d buf) (λ r. refl) (λ new ss. refl) (run_change (gather n) d (length buf)) g w
 
-pub went_placed : (g : Gathered) (room : ℕ) → GatherFits g room → (m : Move) → g ≡ Relocated m → MoveInRange m room
-went_placed g room w m e = subst (λ (g : Gathered). GatherFits g room) e w
+pub went_placed : (g : GatherAnswer) (room : ℕ) → GatherFits g room → (m : Move) → g ≡ Prelude.Ok (Prelude.Some m) → MoveInRange m room
+went_placed g room w m e = subst (λ (g : GatherAnswer). GatherFits g room) e w

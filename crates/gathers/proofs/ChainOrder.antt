@@ -1,6 +1,6 @@
 -- The walk that tells whether a chain is scattered: so far it is in order.
 use Prim.Native.Nat.{ℕ, suc, ◌+◌, ◌-◌, ◌≤◌, ◌<◌}
-use mathlib.Core.Path.{◌≡◌, sym, ap, ◌∙◌}
+use mathlib.Core.Path.{◌≡◌, refl, sym, ap, ◌∙◌}
 use mathlib.Core.Bool.{true, false, not}
 use mathlib.Core.List.{List}
 use mathlib.Core.Logic.{⊎_elim}
@@ -12,8 +12,8 @@ use lib.ListN.{get_or}
 use Rattle.buffers.specs.Bytes.{part}
 use Rattle.buffers.proofs.Lists.{below_or_not}
 use Rattle.buffers.proofs.Counts.{any_some}
-use Rattle.geometry.specs.Disk.{image_size, bit_of, place_or_end}
-use Rattle.geometry.proofs.Laws.{place_or_end_lem, place_end, place_inside}
+use Rattle.geometry.specs.Disk.{bit_of, place_or_end}
+use Rattle.geometry.proofs.Laws.{place_or_end_lem}
 use Rattle.maps.specs.Bits.{has}
 use Rattle.slots.specs.Slot.{count_of, first_of, map_of, slot_fields}
 use Rattle.chains.specs.File.{file_of, sectors_of}
@@ -23,16 +23,16 @@ use Rattle.plans.specs.Gathering.{scattered}
 use Rattle.plans.proofs.Runs.{in_order}
 use Rattle.gathers.specs.Moving.{ChainedSlot}
 
--- a map bit's place is in the image or at its end
-pub end_le : (b p : ℕ) → p ≡ place_or_end b → p ≤ image_size
-end_le b p e =
-    ⊎_elim (λ (h : b < 1560). omega (arith, place_or_end_lem b h, place_inside b h)) (λ (h : 1560 ≤ b). omega (arith, place_end b h)) (below_or_not b 1560)
+-- a link, as it is read
+pub link_read : (d : List ℕ) (b p t u x : ℕ) → p ≡ place_or_end b → t ≡ get_or d (p + 510) 0 → u ≡ get_or d (p + 511) 0 → x ≡ bit_of t u
+    → x ≡ linked_bit (part (place_or_end b) 512 d)
+link_read d b p t u x a h g q = q ∙ link_at d p t u h g ∙ ap (λ (p : ℕ). linked_bit (part p 512 d)) a
 
--- the link of a sector of the slot's own map, as it is read from the image e, leads where the file's does
+-- the link of a sector of the slot's own map, where the image e has that sector as it was, leads where the file's does
 pub link_own : (d e s : List ℕ) (b : ℕ) → has (map_of s) b ≡ true → part (place_or_end b) 512 e ≡ part (place_or_end b) 512 d
-    → (p t u x : ℕ) → p ≡ place_or_end b → t ≡ get_or e (p + 510) 0 → u ≡ get_or e (p + 511) 0 → x ≡ bit_of t u → x ≡ linked_bit (sectors_of d s b)
-link_own d e s b o k p t u x a h g q =
-    q ∙ link_at e p t u h g ∙ ap (λ (p : ℕ). linked_bit (part p 512 e)) a ∙ ap linked_bit k
+    → (x : ℕ) → x ≡ linked_bit (part (place_or_end b) 512 e) → x ≡ linked_bit (sectors_of d s b)
+link_own d e s b o k x q =
+    q ∙ ap linked_bit k
     ∙ ap (λ (p : ℕ). linked_bit (part p 512 d)) (place_or_end_lem b (map-small s b o)) ∙ ap linked_bit (sym (sectors-own d s b o))
 
 -- the first k sectors are in order, and bit is the last of them
@@ -67,13 +67,13 @@ module _ (d s : List ℕ) (w : ChainedSlot d s) where
     pub rising-small : bit < 1560
     rising-small = map-small s bit own
 
-    module _ (h : k < count_of s) (p t u x : ℕ) (a : p ≡ place_or_end bit) (b : t ≡ get_or d (p + 510) 0) (c : u ≡ get_or d (p + 511) 0) (e : x ≡ bit_of t u) where
+    module _ (h : k < count_of s) (x : ℕ) (e : x ≡ linked_bit (part (place_or_end bit) 512 d)) where
       -- the link that is read is that of the chain
       next-is : x ≡ chain_bit (sectors_of d s) (first_of s) k
       unfolding chain_bit
       next-is =
           let z : k ≡ suc (k - 1) = omega (arith, r.some) in
-          link_own d d s bit own (ap (λ (p : ℕ). part p 512 d) (omega arith)) p t u x a b c e ∙ ap (λ (b : ℕ). linked_bit (sectors_of d s b)) (sym last-is)
+          link_own d d s bit own refl x e ∙ ap (λ (b : ℕ). linked_bit (sectors_of d s b)) (sym last-is)
           ∙ ap (chain_bit (sectors_of d s) (first_of s)) (sym z)
 
       pub rising-more : x ≡ bit + 1 → InOrderLoop d s x (k + 1)

@@ -7,10 +7,10 @@ use native.Mathlib.Nat.{add-zero}
 use native.Mathlib.Omega.{arith}
 use lib.ListN.{length, set, length-map}
 use Rattle.buffers.specs.Bytes.{put}
-use Rattle.buffers.proofs.Lists.{length-put, put-none, put_next}
+use Rattle.buffers.proofs.Lists.{length-put, put_one, put-none, put_next}
 use Rattle.geometry.specs.Disk.{bit_number, place_or_end}
 use Rattle.geometry.proofs.Laws.{place_or_end_lem, number_small}
-use Rattle.directory.specs.Places.{dir_sector, dir_sector_or}
+use Rattle.directory.specs.Places.{dir_sector_or}
 use Rattle.directory.proofs.Places.{dir_placed}
 use Rattle.plans.specs.Gathering.{up_from}
 use Rattle.plans.specs.Gathered.{run_sectors}
@@ -52,19 +52,18 @@ module _ (l : List ℕ) (n b : ℕ) (l' : List ℕ) (j : ℕ) (w : RunListLoop l
   pub listed_long : length l' ≡ length l
   listed_long = ap length w.is ∙ length-put l 0 (run_sectors j b)
 
-  pub listed_more : j < n → b + n ≤ 1560 → (p : ℕ) → p ≡ place_or_end (b + j) → RunListLoop l n b (set l' j (p / 512)) (j + 1)
-  listed_more h s p e = record {
+  pub listed_more : j < n → (v : ℕ) → v ≡ bit_number (b + j) → RunListLoop l n b (set l' j v) (j + 1)
+  listed_more h v e = record {
     far = omega arith;
     room = w.room;
-    is = put_next l (run_sectors j b) j (p / 512) (length-run_sectors j b) l' w.is
-        ∙ ap (put l 0) (ap (λ (v : ℕ). run_sectors j b ++ (v ∷ [])) (number-place (b + j) p (omega arith) e).0 ∙ sym (run_snoc j b));
+    is = put_next l (run_sectors j b) j v (length-run_sectors j b) l' w.is ∙ ap (put l 0) (ap (λ (v : ℕ). run_sectors j b ++ (v ∷ [])) e ∙ sym (run_snoc j b));
   }
 
   pub listed_all : n ≤ j → l' ≡ put l 0 (run_sectors n b)
   listed_all h = let e : j ≡ n = omega (arith, w.far) in w.is ∙ ap (λ (k : ℕ). put l 0 (run_sectors k b)) e
 
 pub listed_last : (l l' : List ℕ) (m : Move) (room : ℕ) → MoveInRange m room → l' ≡ put l 0 (run_sectors m.count m.bit) → (s : ℕ) → s ≡ dir_sector_or m.slot
-    → set l' m.count s ≡ put l 0 (moved_sectors m)
-listed_last l l' m room w e s q =
-    put_next l (run_sectors m.count m.bit) m.count s (length-run_sectors m.count m.bit) l' e
+    → (l'' : List ℕ) → l'' ≡ put l' m.count (s ∷ []) → l'' ≡ put l 0 (moved_sectors m)
+listed_last l l' m room w e s q l'' r =
+    r ∙ sym (put_one l' m.count s) ∙ put_next l (run_sectors m.count m.bit) m.count s (length-run_sectors m.count m.bit) l' e
     ∙ ap (λ (s : ℕ). put l 0 (run_sectors m.count m.bit ++ (s ∷ []))) (q ∙ dir_placed m.slot w.slot)

@@ -1,24 +1,21 @@
 -- The sectors moved so far, and those that are left; then the slot's bytes.
 use Prim.Native.Nat.{ℕ, zero, suc, ◌+◌, ◌-◌, ◌*◌, ◌≤◌, ◌<◌}
-use mathlib.Core.Path.{◌≡◌, refl, sym, ap, ap₂, ◌∙◌, subst}
+use mathlib.Core.Path.{◌≡◌, refl, sym, ap, ap₂, ◌∙◌}
 use mathlib.Core.Bool.{true}
 use mathlib.Core.List.{List, [], ◌∷◌, ◌++◌}
 use mathlib.Core.Logic.{◌⊎◌, inl, inr, ⊎_elim}
 use native.Mathlib.Numerals.{add-one}
 use native.Mathlib.Nat.{add-zero}
 use native.Mathlib.Omega.{arith}
-use borrow.Author.Tests.{lt-ltb}
 use lib.ListN.{length, get_or, take, set, length-append, length-take, length-set, get_or-append}
 use lib.Seq.{ext_get_or, get_or-append-add}
 use Rattle.buffers.specs.Bytes.{part, put}
 use Rattle.buffers.proofs.Lists.{below_or_not, length-put, part_at, part-long, put-before, put-after, put-none, put-more, put_all_lem, put-append}
-use Rattle.geometry.specs.Disk.{bit_of, bit_place, place_or_end, track_of, sector_of, address_of}
-use Rattle.geometry.specs.declared.Address.TheVariants.{Sector, NoBit}
-use Rattle.geometry.proofs.Laws.{place_or_end_lem, place_inside, places_apart, address-sector, address_data}
-use Rattle.geometry.proofs.Tests.{data_bounds}
+use Rattle.geometry.specs.Disk.{bit_place, place_or_end}
+use Rattle.geometry.proofs.Laws.{place_or_end_lem, place_inside, places_apart}
 use Rattle.maps.specs.Bits.{has, clear_map, with_bit}
-use Rattle.slots.specs.Slot.{count_of, first_of, map_of}
-use Rattle.chains.specs.File.{File, file_of, sector_at, sectors_of}
+use Rattle.slots.specs.Slot.{first_of, map_of}
+use Rattle.chains.specs.File.{file_of, sector_at, sectors_of}
 use Rattle.chains.specs.Chain.{linked_bit, chain_bit}
 use Rattle.chains.proofs.Laws.{sectors-own, map-small}
 use Rattle.directory.specs.Places.{slots, slot_at, slot_place}
@@ -33,34 +30,22 @@ use Rattle.plans.specs.Plan.{file_if_live, slot_step, data_steps, gather_steps}
 use Rattle.plans.proofs.Frame.{sector_else}
 use Rattle.plans.proofs.NewFile.{length_block, block_byte, block_track, block_sector}
 use Rattle.plans.proofs.Moved.{payload_block}
-use Rattle.gathers.specs.declared.Link.{Link}
+use Rattle.sector_writes.specs.declared.Link.{Link}
+use Rattle.sector_writes.specs.Sector.{link_address, link_to_bit}
+use Rattle.sector_writes.proofs.Links.{link_bit}
 use Rattle.gathers.specs.Moving.{file_in, count_in, link_to_run, moved_steps, Movable, DisjointRanges, TwoBits}
 use Rattle.gathers.proofs.ChainOrder.{link_own, chain-own}
 
 -- ---- the link
 
-pub run_link_small : (t s b : ℕ) → address_of b ≡ Sector t s → (t < 208) × (s ≤ 10)
-run_link_small t s b a =
-    let k = address-sector t s b a in
-    let d = data_bounds (track_of b) (sector_of b) (address_data b k.small) in
-    (omega arith, omega arith)
-
-pub link_no_bit : (b : ℕ) → b < 1560 → address_of b ≡ NoBit → ⊥
-unfolding address_of
-link_no_bit b h e =
-    let f : Sector (track_of b) (sector_of b) ≡ NoBit = sym (rw (lt-ltb b 1560 h)) ∙ e in
-    let z : ◌≡◌ {A = ℕ} 0 1 = cc in omega arith
-
-pub run_link_none : (n b : ℕ) (r : Link) → n ≡ 0 → r.track ≡ 0 → r.sector ≡ 0 → r ≡ link_to_run n b
+pub run_link_none : (n b : ℕ) → n ≡ 0 → link_address 0 0 ≡ link_to_run n b
 unfolding link_to_run up_from
-run_link_none n b r h p q = rw h (ap₂ {C = Link} (λ (t s : ℕ). record { track = t; sector = s }) p q)
+run_link_none n b h = rw h
 
-pub run_link_some : (n b : ℕ) (r : Link) → (n ≡ 0 → ⊥) → (t s : ℕ) → address_of b ≡ Sector t s → r.track ≡ t → r.sector ≡ s → r ≡ link_to_run n b
+pub run_link_some : (n b : ℕ) → (n ≡ 0 → ⊥) → b + n ≤ 1560 → (r : Link) → r ≡ link_to_bit b → r ≡ link_to_run n b
 unfolding link_to_run up_from
-run_link_some zero b r h t s a p q = absurd (h refl)
-run_link_some (suc n) b r h t s a p q =
-    let k = address-sector t s b a in
-    ap₂ {C = Link} (λ (t s : ℕ). record { track = t; sector = s }) (p ∙ sym k.track) (q ∙ sym k.sector)
+run_link_some zero b h s r e = absurd (h refl)
+run_link_some (suc n) b h s r e = e ∙ link_bit b (omega arith)
 
 -- ---- a sector copied
 
@@ -202,14 +187,14 @@ module _ (d : List ℕ) (i b : ℕ) (s : Movable d i b) (e : List ℕ) (bit k : 
         (source-kept ∙ ap (λ (p : ℕ). part p 512 d) (place_or_end_lem bit bit-small) ∙ sym (sectors-own d (slot_or d i) bit own) ∙ ap (sectors_of d (slot_or d i)) w.at)
         ∙ sym (payload_block (file_in d i) k t u h)
 
-    pub moving_more : (p t u x : ℕ) → p ≡ place_or_end bit → t ≡ get_or e (p + 510) 0 → u ≡ get_or e (p + 511) 0 → x ≡ bit_of t u
+    pub moving_more : (x : ℕ) → x ≡ linked_bit (part (place_or_end bit) 512 e)
         → (link : Link) → link ≡ link_to_run (count_in d i - (k + 1)) (b + (k + 1)) → (next : List ℕ)
         → next ≡ put e (place_or_end (b + k)) (sector_bytes (part (place_or_end bit) 512 e) 0 link.track link.sector) → MoveLoop d i b next x (k + 1)
     unfolding apply put_all data_steps link_to_run chain_bit up_from
-    moving_more p t u x a c f g link q next r = record {
+    moving_more x g link q next r = record {
       far = omega arith;
       long = ap length is ∙ length-put e (bit_place (b + k)) new ∙ w.long;
-      at = link_own d e (slot_or d i) bit own source-kept p t u x a c f g
+      at = link_own d e (slot_or d i) bit own source-kept x g
           ∙ ap (λ (y : ℕ). linked_bit (sectors_of d (slot_or d i) y)) w.at ∙ ap (chain_bit (sectors_of d (slot_or d i)) (first_of (slot_or d i))) (sym (add-one k));
       kept = λ y m v.
           ap (λ (z : List ℕ). sector_at z y) is
@@ -248,10 +233,10 @@ module _ (d : List ℕ) (i b : ℕ) (s : Movable d i b) (e : List ℕ) (bit k : 
     pub turn_bits : k < m → TwoBits (length e) bit (b + k)
     turn_bits h = two_bits (omega arith)
 
-    pub moving_turn : k < m → (p t u x : ℕ) → p ≡ place_or_end bit → t ≡ get_or e (p + 510) 0 → u ≡ get_or e (p + 511) 0 → x ≡ bit_of t u
+    pub moving_turn : k < m → (x : ℕ) → x ≡ linked_bit (part (place_or_end bit) 512 e)
         → (link : Link) → link ≡ link_to_run (m - (k + 1)) (b + (k + 1)) → (next : List ℕ)
         → next ≡ put e (place_or_end (b + k)) (sector_bytes (part (place_or_end bit) 512 e) 0 link.track link.sector) → MoveLoop d i b next x (k + 1)
-    moving_turn h p t u x a f g q link l = moving_more (omega arith) p t u x a f g q link (l ∙ ap (λ (m : ℕ). link_to_run (m - (k + 1)) (b + (k + 1))) c)
+    moving_turn h x q link l = moving_more (omega arith) x q link (l ∙ ap (λ (m : ℕ). link_to_run (m - (k + 1)) (b + (k + 1))) c)
 
     pub moving_all : m ≤ k → e ≡ apply d (moved_steps d i b)
     unfolding apply data_steps up_from

@@ -12,7 +12,7 @@ use Rattle.steps.specs.Steps.{Step}
 use Rattle.plans.specs.Saving.{next_track, next_sector}
 use Rattle.plans.specs.Gathering.{up_from, payload_of}
 use Rattle.plans.specs.Plan.{data_steps}
-use Rattle.gathers.specs.declared.Link.{Link}
+use Rattle.sector_writes.specs.declared.Link.{Link}
 
 -- the file of slot i, and how many sectors it has
 abbrev pub file_in : List ℕ → ℕ → File

@@ -7,9 +7,8 @@ use Prim.Native.Nat.{ℕ, suc, ◌+◌, ◌-◌, ◌*◌, ◌/◌, ◌%◌, ◌�
 use native.Mathlib.Omega.{arith}
 use borrow.Author.Tests.{lt-ltb, le-ltb, ltb-true}
 use lib.Dec.{ltb}
-use Rattle.geometry.specs.declared.Spot.TheVariants.{At, NoSector}
-use Rattle.geometry.specs.declared.MapBit.TheVariants.{Bit, NotData}
-use Rattle.geometry.specs.declared.Address.TheVariants.{Sector, NoBit}
+use Rattle.std.specs.Prelude.{Option, Some, None}
+use Rattle.geometry.specs.declared.Address.{Address}
 use Rattle.geometry.specs.Disk.{image_size, is_sector, is_data, sector_number, sector_place, track_of, sector_of, bit_of, bit_number, bit_place, place_or_end, spot_of, spot_of_bit, map_bit_of, address_of}
 use Rattle.geometry.proofs.Tests.{true_or_false, split, picked, DataBounds, sector_bounds, data_bounds, bounds_data, data_sector}
 
@@ -201,23 +200,23 @@ pub record SectorAt (t s p : ℕ) : Type 0 where
   pub place : p ≡ sector_place t s
   pub inside : p + 512 ≤ image_size
 
-pub spot_at : (t s p : ℕ) → spot_of t s ≡ At p → SectorAt t s p
+pub spot_at : (t s p : ℕ) → spot_of t s ≡ Some p → SectorAt t s p
 unfolding spot_of
 spot_at t s p e = ⊎_elim yes no (picked (is_sector t s) e)
   where
-    yes : (is_sector t s ≡ true) × (At (sector_place t s) ≡ At p) → SectorAt t s p
+    yes : (is_sector t s ≡ true) × (Some (sector_place t s) ≡ Some p) → SectorAt t s p
     yes h =
         let q : p ≡ sector_place t s = cc in
         record { sector = h.0; place = q; inside = omega (arith, sector-inside t s h.0) }
 
-    no : (is_sector t s ≡ false) × (NoSector ≡ At p) → SectorAt t s p
+    no : (is_sector t s ≡ false) × (None ≡ Some p) → SectorAt t s p
     no h = let z : ◌≡◌ {A = ℕ} 0 1 = cc in absurd (omega arith)
 
-pub spot_none : (t s : ℕ) → spot_of t s ≡ NoSector → is_sector t s ≡ false
+pub spot_none : (t s : ℕ) → spot_of t s ≡ None → is_sector t s ≡ false
 unfolding spot_of
 spot_none t s e = ⊎_elim yes (λ h. h.0) (picked (is_sector t s) e)
   where
-    yes : (is_sector t s ≡ true) × (At (sector_place t s) ≡ NoSector) → is_sector t s ≡ false
+    yes : (is_sector t s ≡ true) × (Some (sector_place t s) ≡ None) → is_sector t s ≡ false
     yes h = let z : ◌≡◌ {A = ℕ} 0 1 = cc in absurd (omega arith)
 
 pub record BitAt (b p : ℕ) : Type 0 where
@@ -225,17 +224,17 @@ pub record BitAt (b p : ℕ) : Type 0 where
   pub place : p ≡ bit_place b
   pub inside : p + 512 ≤ image_size
 
-pub bit_spot_at : (b p : ℕ) → spot_of_bit b ≡ At p → BitAt b p
+pub bit_spot_at : (b p : ℕ) → spot_of_bit b ≡ Some p → BitAt b p
 unfolding spot_of_bit
 bit_spot_at b p e = ⊎_elim yes no (picked (ltb b 1560) e)
   where
-    yes : (ltb b 1560 ≡ true) × (At (bit_place b) ≡ At p) → BitAt b p
+    yes : (ltb b 1560 ≡ true) × (Some (bit_place b) ≡ Some p) → BitAt b p
     yes h =
         let l = ltb-true b 1560 h.0 in
         let q : p ≡ bit_place b = cc in
         record { small = l; place = q; inside = omega (arith, place_inside b l) }
 
-    no : (ltb b 1560 ≡ false) × (NoSector ≡ At p) → BitAt b p
+    no : (ltb b 1560 ≡ false) × (None ≡ Some p) → BitAt b p
     no h = let z : ◌≡◌ {A = ℕ} 0 1 = cc in absurd (omega arith)
 
 -- The table's answer is that of the track and the sector.
@@ -243,43 +242,60 @@ pub bit_spot : (b : ℕ) → b < 1560 → spot_of_bit b ≡ spot_of (track_of b)
 unfolding spot_of_bit spot_of bit_number
 bit_spot b h = rw (lt-ltb b 1560 h, data_sector (track_of b) (sector_of b) (address_data b h))
 
-pub map-bit : (t s b : ℕ) → map_bit_of t s ≡ Bit b → (is_data t s ≡ true) × (bit_of t s ≡ b)
+pub map-bit : (t s b : ℕ) → map_bit_of t s ≡ Some b → (is_data t s ≡ true) × (bit_of t s ≡ b)
 unfolding map_bit_of
 map-bit t s b e = ⊎_elim yes no (picked (is_data t s) e)
   where
-    yes : (is_data t s ≡ true) × (Bit (bit_of t s) ≡ Bit b) → (is_data t s ≡ true) × (bit_of t s ≡ b)
+    yes : (is_data t s ≡ true) × (Some (bit_of t s) ≡ Some b) → (is_data t s ≡ true) × (bit_of t s ≡ b)
     yes h = (h.0, cc)
 
-    no : (is_data t s ≡ false) × (NotData ≡ Bit b) → (is_data t s ≡ true) × (bit_of t s ≡ b)
+    no : (is_data t s ≡ false) × (None ≡ Some b) → (is_data t s ≡ true) × (bit_of t s ≡ b)
     no h = let z : ◌≡◌ {A = ℕ} 0 1 = cc in absurd (omega arith)
 
-pub map_bit_none : (t s : ℕ) → map_bit_of t s ≡ NotData → is_data t s ≡ false
+pub map_bit_none : (t s : ℕ) → map_bit_of t s ≡ None → is_data t s ≡ false
 unfolding map_bit_of
 map_bit_none t s e = ⊎_elim yes (λ h. h.0) (picked (is_data t s) e)
   where
-    yes : (is_data t s ≡ true) × (Bit (bit_of t s) ≡ NotData) → is_data t s ≡ false
+    yes : (is_data t s ≡ true) × (Some (bit_of t s) ≡ None) → is_data t s ≡ false
     yes h = let z : ◌≡◌ {A = ℕ} 0 1 = cc in absurd (omega arith)
 
-pub address-sector : (t s b : ℕ) → address_of b ≡ Sector t s → HasBit t s b
+pub address-sector : (t s b : ℕ) → address_of b ≡ Some (record { track = t; sector = s }) → HasBit t s b
 unfolding address_of
 address-sector t s b e = ⊎_elim yes no (picked (ltb b 1560) e)
   where
-    yes : (ltb b 1560 ≡ true) × (Sector (track_of b) (sector_of b) ≡ Sector t s) → HasBit t s b
-    yes h = record { small = ltb-true b 1560 h.0; track = cc; sector = cc }
+    spoken : Address
+    spoken = record { track = track_of b; sector = sector_of b }
 
-    no : (ltb b 1560 ≡ false) × (NoBit ≡ Sector t s) → HasBit t s b
+    asked : Address
+    asked = record { track = t; sector = s }
+
+    yes : (ltb b 1560 ≡ true) × (Some spoken ≡ Some asked) → HasBit t s b
+    yes h =
+        let z : spoken ≡ asked = cc in
+        record { small = ltb-true b 1560 h.0; track = ap (λ (a : Address). a.track) z; sector = ap (λ (a : Address). a.sector) z }
+
+    no : (ltb b 1560 ≡ false) × (◌≡◌ {A = Option Address} None (Some asked)) → HasBit t s b
     no h = let z : ◌≡◌ {A = ℕ} 0 1 = cc in absurd (omega arith)
 
 -- The answers on map bits and on addresses are inverse.
-pub map_bit_address : (t s b : ℕ) → map_bit_of t s ≡ Bit b → address_of b ≡ Sector t s
+pub map_bit_address : (t s b : ℕ) → map_bit_of t s ≡ Some b → address_of b ≡ Some (record { track = t; sector = s })
 unfolding address_of
 map_bit_address t s b e =
     let m = map-bit t s b e in
     let h = rw m.1 at (data_bit_lem t s m.0) in
     rw (lt-ltb b 1560 h.small) (cc (h.track, h.sector))
 
-pub address_map_bit : (t s b : ℕ) → address_of b ≡ Sector t s → map_bit_of t s ≡ Bit b
+pub address_map_bit : (t s b : ℕ) → address_of b ≡ Some (record { track = t; sector = s }) → map_bit_of t s ≡ Some b
 unfolding map_bit_of
 address_map_bit t s b e =
     let h = address-sector t s b e in
-    rw (← h.track, ← h.sector, address_data b h.small) (ap Bit (address-bit b h.small))
+    rw (← h.track, ← h.sector, address_data b h.small) (ap Some (address-bit b h.small))
+
+-- what each function's proof cites
+pub ruleset bits = (data_bounds, bit-first, bit-second, bit-none, bit-small)
+
+pub ruleset bit_tests = (bit_data, bit_not_data)
+
+pub ruleset bit_places = (number-first, number-second, place_or_end_lem, place_end)
+
+pub ruleset data_places = (data_bounds, data_or_end, none_or_end)

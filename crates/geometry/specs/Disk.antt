@@ -1,13 +1,8 @@
 -- The disk: which track and sector numbers are sectors, where a sector stands in the image, and which sector a map bit is.
 -- The words of document 01 stand above what they define.
 -- Assumes nothing.
-use Rattle.std.specs.Prelude.{ℕ, ◌+◌, ◌-◌, ◌*◌, ◌/◌, ◌%◌, Bool, cond, ◌&&◌, ◌||◌, ltb, leb}
-use Rattle.geometry.specs.declared.Spot.{Spot}
-use Rattle.geometry.specs.declared.Spot.TheVariants.{At, NoSector}
-use Rattle.geometry.specs.declared.MapBit.{MapBit}
-use Rattle.geometry.specs.declared.MapBit.TheVariants.{Bit, NotData}
+use Rattle.std.specs.Prelude.{ℕ, ◌+◌, ◌-◌, ◌*◌, ◌/◌, ◌%◌, Bool, cond, Option, Some, None, ◌&&◌, ◌||◌, ltb, leb}
 use Rattle.geometry.specs.declared.Address.{Address}
-use Rattle.geometry.specs.declared.Address.TheVariants.{Sector, NoBit}
 
 -- "819,200 bytes."
 abbrev pub image_size : ℕ
@@ -55,14 +50,14 @@ unfoldable pub place_or_end : ℕ → ℕ
 place_or_end b = cond (ltb b 1560) (bit_place b) image_size
 
 -- What `place`, `place_of_bit`, `bit_of` and `address_of` answer.
-unfoldable pub spot_of : ℕ → ℕ → Spot
-spot_of t s = cond (is_sector t s) (At (sector_place t s)) NoSector
+unfoldable pub spot_of : ℕ → ℕ → Option ℕ
+spot_of t s = cond (is_sector t s) (Some (sector_place t s)) None
 
-unfoldable pub spot_of_bit : ℕ → Spot
-spot_of_bit b = cond (ltb b 1560) (At (bit_place b)) NoSector
+unfoldable pub spot_of_bit : ℕ → Option ℕ
+spot_of_bit b = cond (ltb b 1560) (Some (bit_place b)) None
 
-unfoldable pub map_bit_of : ℕ → ℕ → MapBit
-map_bit_of t s = cond (is_data t s) (Bit (bit_of t s)) NotData
+unfoldable pub map_bit_of : ℕ → ℕ → Option ℕ
+map_bit_of t s = cond (is_data t s) (Some (bit_of t s)) None
 
-unfoldable pub address_of : ℕ → Address
-address_of b = cond (ltb b 1560) (Sector (track_of b) (sector_of b)) NoBit
+unfoldable pub address_of : ℕ → Option Address
+address_of b = cond (ltb b 1560) (Some (record { track = track_of b; sector = sector_of b })) None

@@ -1,62 +1,51 @@
 // What a file's first sector says: rows 11 and 25 of the table at one slot, after row 10, and the length of the file's body.
 #![tactic(auto)]
 
-ghost use Rattle.std.specs.Prelude.{◌≡◌, true, ◌≤◌, ◌<◌};
+ghost use Rattle.std.specs.Prelude.{◌≡◌, ◌≤◌, ◌<◌};
 ghost use Rattle.refusals.specs.Answers.{reply_of};
-ghost use Rattle.maps.specs.Bits.{has};
-ghost use Rattle.slots.specs.Slot.{first_of, map_of, slot_fields};
+ghost use Rattle.slots.specs.Slot.{slot_fields};
 ghost use Rattle.chains.specs.File.{file_of};
 ghost use Rattle.headers.specs.Header.{first_sector, header_differs, header_length, header_start, chain_reply, chain_pass_reply, file_length};
 
-use refusals::{Reason, Verdict};
-
-// The first sector of a slot's file, where the slot's own map has it.
-fn own_first<'a>(image: &'a [u8], s: &[u8]) -> &'a [u8]
-    requires { has (map_of s.now) (first_of s.now) ≡ true }
-    ensures { result.now ≡ first_sector (file_of image.now s.now) }
-{
-    buffers::part_at(image, chains::first_place(s), 512)
-}
+use refusals::{Reason, Refused, refuse};
 
 // The first sector of a slot's file, uncopied; an empty part where the slot's own map lacks it.
+#[tactic(auto, using(crate::proofs::Rows::first_own), unfolding(chains::specs::File::file_of, chains::specs::File::sectors_of, slots::specs::Slot::slot_fields))]
 pub fn first_sector<'a>(image: &'a [u8], s: &[u8]) -> &'a [u8]
     ensures { result.now ≡ first_sector (file_of image.now s.now) }
 {
     if !maps::has_bit(slots::map_of(s), slots::first_of(s)) {
-        return buffers::part_at(image, 0, 0);
+        return &[];
     }
-    own_first(image, s)
+    buffers::part_at(image, chains::first_place(s), 512)
 }
 
 // Row 11's test of the nine header bytes that a file's first sector begins with.
+#[tactic(auto, unfolding(crate::specs::Header::header_differs, slots::specs::Slot::slot_fields))]
 fn header_differs(sector: &[u8], s: &[u8]) -> bool
     ensures { result ≡ header_differs (slot_fields s.now) sector.now }
 {
-    if buffers::num_at(sector, 0) != slots::kind_of(s) {
-        return true;
-    }
-    let remainder = (buffers::num_at(sector, 1) + 256 * buffers::num_at(sector, 2)) % 16384;
-    if remainder != slots::remainder_of(s) {
-        return true;
-    }
-    buffers::num_at(sector, 7) != slots::pages_of(s)
+    buffers::num_at(sector, 0) != slots::kind_of(s)
+        || slots::two_at(sector, 1) % 16384 != slots::remainder_of(s)
+        || buffers::num_at(sector, 7) != slots::pages_of(s)
 }
 
 // The length that the header of a Spectrum's file has.
 pub fn header_length(sector: &[u8]) -> usize
     ensures { (result ≡ header_length sector.now) × (result ≤ 65535) }
 {
-    buffers::num_at(sector, 1) + 256 * buffers::num_at(sector, 2)
+    slots::two_at(sector, 1)
 }
 
 // The start that it has.
 pub fn header_start(sector: &[u8]) -> usize
     ensures { (result ≡ header_start sector.now) × (result ≤ 65535) }
 {
-    buffers::num_at(sector, 3) + 256 * buffers::num_at(sector, 4)
+    slots::two_at(sector, 3)
 }
 
 // The length of a file's body: a Spectrum's header has it, and of any other kind the slot.
+#[tactic(auto, unfolding(crate::specs::Header::file_length, chains::specs::File::file_of))]
 pub fn file_length(image: &[u8], s: &[u8]) -> usize
     ensures { (result ≡ file_length (file_of image.now s.now)) × (result < 4194304) }
 {
@@ -67,33 +56,31 @@ pub fn file_length(image: &[u8], s: &[u8]) -> usize
 }
 
 // Rows 10, 11 and 25 at the slot of a file with sectors.
-fn chain_rows(image: &[u8], s: &[u8], slot: usize) -> Verdict
+#[tactic(auto, unfolding(crate::specs::Header::chain_reply, chains::specs::File::file_of, slots::specs::Slot::slot_fields))]
+fn chain_rows(image: &[u8], s: &[u8], slot: usize) -> Result<(), Refused>
     ensures { reply_of result ≡ chain_reply slot (file_of image.now s.now) }
 {
     if chains::chain_broken(image, s) {
-        return refusals::refused_verdict(Reason::ChainBroken, slot);
+        return refuse(Reason::ChainBroken, slot);
     }
     let kind = slots::kind_of(s);
-    if slots::is_carried(kind) {
-        if header_differs(own_first(image, s), s) {
-            return refusals::refused_verdict(Reason::HeaderDiffers, slot);
-        }
-        return Verdict::Accepted;
+    let first = first_sector(image, s);
+    if slots::is_carried(kind) && header_differs(first, s) {
+        return refuse(Reason::HeaderDiffers, slot);
     }
-    if slots::is_spectrum(kind) {
-        if 510 * slots::count_of(s) < 9 + header_length(own_first(image, s)) {
-            return refusals::refused_verdict(Reason::BodyTooLong, slot);
-        }
+    if slots::is_spectrum(kind) && 510 * slots::count_of(s) < 9 + header_length(first) {
+        return refuse(Reason::BodyTooLong, slot);
     }
-    Verdict::Accepted
+    Ok(())
 }
 
 // Rows 10, 11 and 25 at one slot.
-pub fn chain_pass_rows(image: &[u8], s: &[u8], slot: usize) -> Verdict
+#[tactic(auto, unfolding(crate::specs::Header::chain_reply, crate::specs::Header::chain_pass_reply, chains::specs::File::file_of, slots::specs::Slot::slot_fields, slots::specs::Slot::is_directory))]
+pub fn chain_pass_rows(image: &[u8], s: &[u8], slot: usize) -> Result<(), Refused>
     ensures { reply_of result ≡ chain_pass_reply slot (file_of image.now s.now) }
 {
     if slots::is_directory(s) {
-        return Verdict::Accepted;
+        return Ok(());
     }
     chain_rows(image, s, slot)
 }

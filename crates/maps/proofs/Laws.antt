@@ -1,21 +1,22 @@
 -- Laws of maps: the bits of a byte, of a join and of a marked map, how many are set, and which two maps share.
 use Prim.Native.Nat.{ℕ, zero, suc, ◌+◌, ◌-◌, ◌*◌, ◌/◌, ◌%◌, ◌^◌, ◌≤◌, ◌<◌, min}
 use mathlib.Core.Path.{◌≡◌, refl, sym, ap, ap₂, ◌∙◌}
-use mathlib.Core.List.{List}
+use mathlib.Core.List.{List, []}
 use mathlib.Core.Bool.{Bool, true, false, cond, not, ◌&&◌, ◌||◌, and_comm, and-or_distrib_right, and-false, or_assoc, or-false, or-true, true≢false}
 use mathlib.Core.Logic.{⊎_elim}
 use native.Mathlib.Decide.{ℕ_discrete}
 use native.Mathlib.Nat.{add-zero, zero-add, zero-mul, zero-div, div-one, div-eq_of_lt, div-div-eq-div-mul, mul-div-mul_right, mod-eq_of_lt, pow-suc, add-suc}
 use native.Mathlib.Omega.{arith}
-use borrow.Author.Tests.{eq-eqb, ne_eqb, eqb-false, le-leb, lt-leb}
+use borrow.Author.Tests.{eq-eqb, ne_eqb, eqb-false}
 use lib.Bits.{bit_or, bit_and, or_shr, or_mod, and_shr, and_mod, or_zero_r}
 use lib.Count.{ones, ones_step}
 use lib.Dec.{eqb, lit<, eqb-suc-zero, eqb-zero-suc, eqb-suc-suc}
-use lib.ListN.{length, get_or, set, take, replicate, length-set, length-take}
+use lib.ListN.{length, get_or, set, take, drop, replicate, length-set, length-take, length-drop}
 use lib.Pow.{pow_pos, mod-pow-add}
-use lib.Seq.{get_or-set_same, get_or-set_other, get_or-take}
-use Rattle.buffers.specs.Bytes.{count, any, word}
-use Rattle.buffers.proofs.Lists.{below_or_not, past_end, length-tab, get_or-tab, tab_of}
+use lib.Seq.{get_or-set_same, get_or-set_other, get_or-take, get_or-drop, drop-drop}
+use Rattle.std.specs.Simd.{first_chunks}
+use Rattle.buffers.specs.Bytes.{part, count, any, word}
+use Rattle.buffers.proofs.Lists.{below_or_not, past_end, length-tab, get_or-tab, tab_of, part-part, word_in}
 use Rattle.buffers.proofs.Counts.{count_cong, count_le, count_add, count_none, any_cong, any_none, none_any}
 use Rattle.maps.specs.Bits.{has, bits_of, share, clear_map, join, with_bit}
 
@@ -221,6 +222,37 @@ words_more m h i s x y p q r =
     let b : 8 * (8 * i + 0) ≡ 64 * i = omega arith in
     let e : y ≡ ones (word 8 m (8 * i) 0) = r ∙ ap ones q in
     sym (ap (λ (n : ℕ). count n (has m)) (sym a) ∙ word_more m (8 * i) h 8 0 ∙ ap₂ ◌+◌ (ap (λ (n : ℕ). count n (has m)) b ∙ sym p) (sym e))
+
+-- the chunks of eight bytes that a list begins with
+chunk_at : (k : ℕ) (m : List ℕ) (i : ℕ) → i < k → get_or (first_chunks 8 k m) i [] ≡ part (8 * i) 8 m
+unfolding part
+chunk_at zero m i h = absurd (omega arith)
+chunk_at (suc k) m zero h = refl
+chunk_at (suc k) m (suc i) h =
+    let e : 8 + 8 * i ≡ 8 * suc i = omega arith in
+    chunk_at k (drop 8 m) i (omega arith) ∙ ap (take 8) (drop-drop (8 * i) 8 m ∙ ap (λ (x : ℕ). drop x m) e)
+
+-- eight bytes more, where they are one of the chunks that the first n bytes begin with
+pub chunk_more : (m : List ℕ) → ((b : ℕ) → get_or m b 0 < 256) → (n i s x : ℕ) (w : List (List ℕ)) → w ≡ first_chunks 8 (length (take n m) / 8) (take n m) → i < length (take n m) / 8
+    → s ≡ count (64 * i) (has m) → x ≡ word 8 (get_or w i []) 0 0 → s + ones x ≡ count (64 * (i + 1)) (has m)
+unfolding part
+chunk_more m bytes n i s x w e h p q =
+    let t : 8 * i + 8 ≤ n = omega (arith, length-take n m) in
+    let z : 0 + 8 * i ≡ 8 * i = omega arith in
+    let c : get_or w i [] ≡ part (8 * i) 8 m =
+    ap (λ (y : List (List ℕ)). get_or y i []) e ∙ chunk_at (length (take n m) / 8) (take n m) i h ∙ part-part 0 n (8 * i) 8 m t ∙ ap (λ (a : ℕ). part a 8 m) z
+    in
+    words_more m bytes i s x (ones x) p (q ∙ ap (λ (l : List ℕ). word 8 l 0 0) c ∙ word_in 8 (8 * i) 8 m 0 (omega arith)) refl
+
+-- one byte more of those that come after k chunks
+pub rest_more : (m : List ℕ) → ((b : ℕ) → get_or m b 0 < 256) → (n k j s : ℕ) (r : List ℕ) → r ≡ drop (k * 8) (take n m) → j < length r → s ≡ count (8 * (8 * k + j)) (has m)
+    → s + ones (get_or r j 0) ≡ count (8 * (8 * k + (j + 1))) (has m)
+rest_more m bytes n k j s r e h p =
+    let l : k * 8 + j < n = omega (arith, ap length e, length-drop (k * 8) (take n m), length-take n m) in
+    let b : get_or r j 0 ≡ get_or m (8 * k + j) 0 =
+    ap (λ (y : List ℕ). get_or y j 0) e ∙ get_or-drop (k * 8) (take n m) j 0 ∙ get_or-take n m (k * 8 + j) 0 l ∙ ap (λ (x : ℕ). get_or m x 0) (omega arith)
+    in
+    ap₂ (λ (x y : ℕ). x + ones y) p b ∙ sym (bits-more m (8 * k + j) (bytes (8 * k + j))) ∙ ap (λ (x : ℕ). count (8 * x) (has m)) (omega arith)
 
 -- the bytes that a map has, of 195, hold all its bits
 pub bits_all : (m : List ℕ) (n : ℕ) → n ≡ min 195 (length m) → count (8 * n) (has m) ≡ bits_of m

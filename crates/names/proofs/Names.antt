@@ -1,13 +1,15 @@
 -- Laws of names: when two are the same, as bytes and as names, and names filled to ten bytes.
 use Prim.Native.Nat.{ℕ, zero, suc, ◌+◌, ◌-◌, ◌≤◌, ◌<◌}
 use mathlib.Core.Path.{◌≡◌, refl, sym, ap, ap₂, ◌∙◌}
-use mathlib.Core.Bool.{Bool, true, false, false≢true}
+use mathlib.Core.Bool.{Bool, true, false, ◌&&◌, false≢true}
 use mathlib.Core.List.{List, [], ◌∷◌, ◌++◌}
 use mathlib.Core.Logic.{⊎_elim}
 use native.Mathlib.Numerals.{add-one}
 use native.Mathlib.Omega.{arith}
 use borrow.Author.Tests.{eq-eqb, ne_eqb, eqb-true}
 use lib.Dec.{eqb}
+use lib.Pointwise.{pointwise}
+use Rattle.std.specs.Prelude.{nat_eq}
 use lib.ListN.{length, get_or, drop, replicate, length-append, length-replicate, get_or-replicate, drop_of_length-le, get_or-append}
 use lib.Seq.{drop-cons, get_or-append-add, ext_get_or, take_all}
 use Rattle.buffers.specs.Bytes.{part, put}
@@ -41,8 +43,13 @@ not_bytes xs ys h = by (same_bytes xs ys) refl
     by true e = absurd (h (bytes_are xs ys e))
     by false e = refl
 
-pub bytes_lengths : (xs ys : List ℕ) → (length xs ≡ length ys → ⊥) → false ≡ same_bytes xs ys
-bytes_lengths xs ys h = sym (not_bytes xs ys (λ e. h (ap length e)))
+-- as slices are compared
+pub pointwise_bytes : (xs ys : List ℕ) → pointwise nat_eq xs ys ≡ same_bytes xs ys
+unfolding same_bytes
+pointwise_bytes [] [] = refl
+pointwise_bytes [] (y ∷ ys) = refl
+pointwise_bytes (x ∷ xs) [] = refl
+pointwise_bytes (x ∷ xs) (y ∷ ys) = ap (λ (t : Bool). eqb x y && t) (pointwise_bytes xs ys)
 
 -- as a loop compares them, from i on
 pub bytes-more : (xs ys : List ℕ) (i : ℕ) → i < length xs → i < length ys → get_or xs i 0 ≡ get_or ys i 0

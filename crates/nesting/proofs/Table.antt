@@ -1,10 +1,9 @@
 -- The table of the directories by their codes: what it holds after i slots, and what goes by it.
 use Prim.Native.Nat.{ℕ, zero, suc, ◌+◌, ◌-◌, ◌≤◌, ◌<◌}
 use mathlib.Core.Path.{◌≡◌, refl, sym, ap, ap₂, ◌∙◌, subst}
-use mathlib.Core.Bool.{Bool, true, false, not, cond, ◌&&◌, ◌||◌, true≢false, false≢true}
+use mathlib.Core.Bool.{Bool, true, false, not, cond, ◌&&◌, ◌||◌, true≢false}
 use mathlib.Core.List.{List, [], ◌∷◌}
-use mathlib.Core.Logic.{⊎_elim}
-use mathlib.Core.Option.{Option, none, some, some-ne-none}
+use mathlib.Core.Option.{Option, none, some}
 use native.Mathlib.Nat.{add-zero, add_assoc}
 use native.Mathlib.Numerals.{add-one}
 use native.Mathlib.Omega.{arith}
@@ -14,7 +13,7 @@ use lib.ListN.{length, get_or, set, replicate, length-set}
 use lib.Seq.{get_or-set_same, get_or-set_other}
 use Rattle.buffers.specs.Bytes.{count, any}
 use Rattle.buffers.proofs.Counts.{count-more, count_le, any-more, any_some, any_cong}
-use Rattle.refusals.specs.Order.{Refusal, refuse, Reply, ◌when◌, row, rows, scan_from, scan}
+use Rattle.refusals.specs.Order.{refuse, ◌when◌, row, rows, scan_from, scan}
 use Rattle.refusals.proofs.First.{scan_start, scan_skip, scan_stop, scan_end}
 use Rattle.slots.specs.Slot.{is_directory, code_of, parent_of}
 use Rattle.directory.specs.Places.{slots}
@@ -179,10 +178,6 @@ module _ (v : Directory) where
 
   pub tabling_clean : (above : List ℕ) (number : ℕ) → TableLoop v above number slots → scan slots (code_at v) ≡ none
   tabling_clean above number t = t.rest ∙ scan_end (slots - slots) slots (code_at v) (omega arith)
-
--- a refusal leaves no table to speak of
-pub no_table : {A : Type 0} {x : Refusal} {o : Reply} → o ≡ some x → o ≡ none → A
-no_table {x = x} p q = absurd (some-ne-none x (sym p ∙ q))
 
 -- ---- going up by the table
 

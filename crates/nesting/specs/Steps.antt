@@ -1,16 +1,16 @@
 -- What the passes keep: a table of the directories by their codes, and what goes by it alone.
-use Rattle.std.specs.Prelude.{ℕ, zero, suc, ◌-◌, ◌≡◌, Bool, false, not, cond, ◌&&◌, List, [], ◌∷◌, eqb, length, get_or}
-use Rattle.std.proofs.Math.Option.{none, some}
+use Rattle.std.specs.Prelude.{ℕ, zero, suc, ◌-◌, ◌≡◌, Bool, false, not, cond, ◌&&◌, List, [], ◌∷◌, Result, eqb, length, get_or, IfOk}
+use Rattle.std.proofs.Math.Option.{none}
 use Rattle.buffers.specs.Bytes.{any}
-use Rattle.refusals.specs.Order.{Row, ◌when◌, Reply, scan}
+use Rattle.maps.specs.Bits.{has}
+use Rattle.refusals.specs.Order.{Row, ◌when◌, scan}
 use Rattle.refusals.specs.Answers.{reply_of}
+use Rattle.refusals.specs.declared.Refused.{Refused}
 use Rattle.slots.specs.Slot.{is_directory, code_of, parent_of}
 use Rattle.directory.specs.Places.{slots}
 use Rattle.directory.specs.Directory.{fold_option, Directory, directory}
 use Rattle.surveys.specs.Survey.{earlier}
 use Rattle.trees.specs.Tree.{coded, directories, parent_code_among, code_at, tree_reply}
-use Rattle.nesting.specs.declared.Codes.{Codes}
-use Rattle.nesting.specs.declared.Nesting.{Nesting}
 
 -- the table's entry for a code after k slots: 0 where no directory has it, else one more than the code of the directory above
 unfoldable pub entry_among : Directory → ℕ → ℕ → ℕ
@@ -46,20 +46,19 @@ nesting_rows_by above m s =
     ∷ (28 when is_directory s && back_by above m (code_of s))
     ∷ []
 
--- what the pass over 26 gives
-pub record Tables (d : List ℕ) (r : Codes) : Type 0 where
-  pub reply : reply_of r.verdict ≡ scan slots (code_at (directory d))
-  pub table : scan slots (code_at (directory d)) ≡ none → Tabled (directory d) r.above r.number
+-- what the pass over 26 gives: its reply, and the table and the number where there is none
+pub record Tables (d : List ℕ) (r : Result ℕ Refused) (above : List ℕ) : Type 0 where
+  pub reply : reply_of r ≡ scan slots (code_at (directory d))
+  pub table : IfOk r (λ (n : ℕ). Tabled (directory d) above n)
 
--- how many directories there are where no row of 26 to 28 holds; 0 of another disk
-abbrev pub number_or : Reply → Directory → ℕ
-number_or none v = directories v
-number_or (some r) v = 0
+-- what both passes give: their reply, and how many directories there are where there is none
+pub record Nests (d : List ℕ) (r : Result ℕ Refused) : Type 0 where
+  pub reply : reply_of r ≡ tree_reply (directory d)
+  pub number : IfOk r (λ (n : ℕ). n ≡ directories (directory d))
 
--- what both passes give
-pub record Nests (d : List ℕ) (r : Nesting) : Type 0 where
-  pub reply : reply_of r.verdict ≡ tree_reply (directory d)
-  pub number : r.number ≡ number_or (tree_reply (directory d)) (directory d)
+-- the live slots that are not erased yet: a map has a bit for each that is
+unfoldable pub not_erased : Directory → List ℕ → Directory
+not_erased v m i = cond (has m i) none (v i)
 
 -- slot j is live, not slot i, and in the directory with the code
 unfoldable pub in_other : Directory → ℕ → ℕ → ℕ → Bool

@@ -1,11 +1,8 @@
 -- An answer that fits is its four parts, and each can be read back from it.
 use Prim.Native.Nat.{ℕ, ◌+◌, ◌*◌, ◌/◌, ◌%◌, ◌^◌, ◌<◌}
-use mathlib.Core.Path.{◌≡◌, refl, sym, ap, ◌∙◌}
+use mathlib.Core.Path.{◌≡◌, refl}
 use native.Mathlib.Omega.{arith}
-use Rattle.refusals.specs.Answers.{Outcome, done, refused, outcome_of, refusal_number}
-use Rattle.refusals.specs.declared.Refused.{Refused}
-use Rattle.refusals.specs.declared.Answer.{Answer}
-use Rattle.refusals.specs.declared.Answer.TheVariants.{Done, Err}
+use Rattle.refusals.specs.Answers.{Outcome, done, refused}
 use Rattle.packing.specs.Packed.{packed, clipped, packed_at, clipped_at, outcome_refusal, outcome_slot, outcome_value, outcome_free, Within, FitsAnswer, PlaceFitsAnswer, Unpacked, UnpackedAt}
 
 pub packed-is : (o : Outcome) → packed o ≡ outcome_refusal o + 256 * outcome_slot o + 2 ^ 24 * outcome_value o + 2 ^ 48 * outcome_free o
@@ -48,14 +45,3 @@ clipped_at-is sector value offset w =
     let b : value % 2 ^ 24 ≡ value = omega (arith, w.value-small) in
     let c : offset % 2 ^ 16 ≡ offset = omega (arith, w.offset-small) in
     rw (a, b, c) refl
-
--- ---- the code's answer, by its case
-
-module _ (a : Answer) where
-  pub clipped-done : (v f : ℕ) → a ≡ Done v f → 16777216 * (v % 16777216) + 281474976710656 * (f % 65536) ≡ clipped (outcome_of a)
-  unfolding clipped
-  clipped-done v f e = ap (λ (a : Answer). clipped (outcome_of a)) (sym e)
-
-  pub clipped_no : (r : Refused) → a ≡ Err r → (n : ℕ) → n ≡ refusal_number r.reason → n + 256 * (r.slot % 65536) ≡ clipped (outcome_of a)
-  unfolding clipped
-  clipped_no r e n p = ap (λ (n : ℕ). n + 256 * (r.slot % 65536)) p ∙ ap (λ (a : Answer). clipped (outcome_of a)) (sym e)

@@ -1,11 +1,11 @@
-// The disks that the programs of document 01 try. They are built from the document's own numbers, and not by the arithmetic
-// that they try; only the 1,560 links of the full disk are the library's.
+// The disks that the programs try. Those of document 01 are built from the document's own numbers, and not by the arithmetic that
+// they try; only the links of a chain, and the slots and the sectors of many files, are the library's.
 ghost use Rattle.std.specs.Prelude.{◌<◌};
 
 use geometry::Address;
 
 // A slot's first bytes: kind, name, and then the count, the first address and the map's first byte.
-fn entry(image: &mut [u8], at: usize, kind: u8, name: &[u8], rest: &[u8])
+pub fn entry(image: &mut [u8], at: usize, kind: u8, name: &[u8], rest: &[u8])
     requires { at < 40960 }
 {
     crate::set(image, at, kind);
@@ -53,10 +53,8 @@ pub fn file_b(image: &mut [u8]) {
 
 // A first name byte in slots 3 to 20, which are erased: the directory goes on there.
 fn names_to_20(image: &mut [u8]) {
-    let mut at: usize = 513;
-    while at < 5120 {
-        crate::set(image, at, b'-');
-        at += 256;
+    for i in 2..20 {
+        crate::set(image, 256 * i + 1, b'-');
     }
 }
 
@@ -75,16 +73,27 @@ pub fn rubbish(image: &mut [u8]) {
     buffers::copy_into(image, 513, &bytes);
 }
 
-// Every data sector linked to that of the next map bit, and the last to none.
-fn link_all(image: &mut [u8]) {
-    let mut bit: usize = 0;
-    while bit < 1560 {
-        let at = geometry::bit_place(bit);
-        bit += 1;
-        match geometry::address_of(bit) {
-            Address::Sector(track, sector) => crate::link(image, at, track, sector),
-            Address::NoBit => crate::link(image, at, 0, 0),
-        }
+// The link of the sector at a place.
+fn link(image: &mut [u8], at: usize, to: Address) {
+    if at < image.len() {
+        let bytes = [crate::low(to.track), crate::low(to.sector)];
+        buffers::copy_into(image, at + 510, &bytes);
+    }
+}
+
+// Every data sector linked to that of the next map bit; the last, and that before bit `count`, to none.
+pub fn chain(image: &mut [u8], count: usize) {
+    for bit in 0..1560 {
+        let next = if bit + 1 == count {
+            None
+        } else {
+            geometry::address_of(bit + 1)
+        };
+        let to = next.unwrap_or(Address {
+            track: 0,
+            sector: 0,
+        });
+        link(image, geometry::bit_place(bit), to);
     }
 }
 
@@ -100,5 +109,38 @@ pub fn full(image: &mut [u8]) {
     buffers::copy_into(image, 236, &length);
     let header = [19, 199, 35, 0, 128, 0, 0, 48, 0];
     buffers::copy_into(image, 40960, &header);
-    link_all(image);
+    chain(image, 1560);
+}
+
+// A file of kind 5 in slot `i`, counted from 0: one sector, that of map bit `bit`, and a name of these letters.
+pub fn small_file(image: &mut [u8], i: usize, bit: usize, letters: &[u8]) {
+    let at = directory::slot_place(i);
+    let mut map = [0u8; 195];
+    maps::set_bit(&mut map, bit);
+    buffers::copy_into(image, at, b"\x05          \x00\x01");
+    buffers::copy_into(image, at + 1, letters);
+    buffers::copy_into(image, at + 15, &map);
+    if let Some(first) = geometry::address_of(bit) {
+        crate::set(image, at + 13, crate::low(first.track));
+        crate::set(image, at + 14, crate::low(first.sector));
+    }
+}
+
+// The same with a name of three letters, AAA in slot 0.
+pub fn lettered_file(image: &mut [u8], i: usize, bit: usize)
+    requires { i < 778 }
+{
+    let letters = [
+        b'A' + (i / 100) as u8,
+        b'A' + (i / 10 % 10) as u8,
+        b'A' + (i % 10) as u8,
+    ];
+    small_file(image, i, bit, &letters);
+}
+
+// Such files in all slots before slot `to`, at the map bits from 350 on.
+pub fn many_files(image: &mut [u8], to: usize) {
+    for i in 0..to.min(778) {
+        lettered_file(image, i, 350 + i);
+    }
 }

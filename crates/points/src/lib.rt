@@ -2,14 +2,16 @@
 // empty disk. No contract can say what is written, so one that only writes states nothing.
 #![tactic(auto)]
 
-ghost use Rattle.std.specs.Prelude.{◌≡◌, length, get_or, replicate};
+ghost use Rattle.std.specs.Prelude.{◌≡◌, ◌<◌, length, get_or, replicate};
 ghost use Rattle.files.specs.Calls.{listing, reading};
 
-use refusals::{Answer, Refused, Verdict};
+use files::Listed;
+use refusals::Refused;
 
-pub mod disks; // disks of few files, and a full one
+mod calls; // the calls that change a disk, each with its line
+pub mod disks; // disks of few files, and full ones
 
-pub const LARGEST: usize = 18446744073709551615;
+pub use calls::{BASIC, CODE, erased, erased_as, marked, renamed, saved, saved_as};
 
 // An empty disk.
 pub fn blank() -> [u8; 819200]
@@ -27,15 +29,22 @@ pub fn set(bytes: &mut [u8], at: usize, b: u8) {
 }
 
 pub fn low(n: usize) -> u8 {
-    (n % 256) as u8
+    n.to_le_bytes()[0]
 }
 
-// The link of the sector at a place.
-pub fn link(image: &mut [u8], at: usize, track: usize, sector: usize) {
-    if at < 819200 {
-        set(image, at + 510, low(track));
-        set(image, at + 511, low(sector));
-    }
+// Two bytes at a place, and those that were there.
+pub fn exchange(bytes: &mut [u8], at: usize, new: [u8; 2]) -> [u8; 2]
+    requires { at < 819200 }
+{
+    let old = [buffers::byte_at(bytes, at), buffers::byte_at(bytes, at + 1)];
+    buffers::copy_into(bytes, at, &new);
+    old
+}
+
+// A body, whose first four bytes and whose seven where its second sector's begin can be told.
+pub fn mark_body(body: &mut [u8], first: &[u8], second: &[u8]) {
+    buffers::copy_into(body, 0, first);
+    buffers::copy_into(body, 501, second);
 }
 
 pub fn say(text: &[u8]) {
@@ -47,11 +56,14 @@ pub fn number(before: &[u8], n: usize) {
     io::print_decimal(1, n as u64);
 }
 
-pub fn refused(r: Refused) {
-    let reason = r.reason;
-    number(b"refused ", refusals::refusal_number(reason));
-    number(b" slot ", r.slot);
+pub fn line(before: &[u8], n: usize) {
+    number(before, n);
     say(b"\n");
+}
+
+pub fn refused(r: Refused) {
+    number(b"refused ", r.reason.number());
+    line(b" slot ", r.slot);
 }
 
 pub fn title(call: &[u8], what: &[u8]) {
@@ -60,31 +72,39 @@ pub fn title(call: &[u8], what: &[u8]) {
     say(b": ");
 }
 
-fn verdict(found: Verdict) {
-    match found {
-        Verdict::Accepted => say(b"accepted\n"),
-        Verdict::Err(r) => refused(r),
+// Whether a call was refused, and nothing of its answer else.
+pub fn accepted<T: Drop>(answer: Result<T, Refused>) {
+    match answer {
+        Ok(_) => say(b"accepted\n"),
+        Err(r) => refused(r),
+    }
+}
+
+// What a call answers, after a word for it.
+pub fn counted(before: &[u8], answer: Result<usize, Refused>) {
+    match answer {
+        Ok(n) => line(before, n),
+        Err(r) => refused(r),
     }
 }
 
 pub fn checked(what: &[u8], image: &[u8]) {
     title(b"check of ", what);
-    verdict(disk::check(image));
+    accepted(disk::check(image));
 }
 
 pub fn released(what: &[u8], image: &[u8]) {
     title(b"release check of ", what);
-    verdict(disk::check_release(image));
+    accepted(disk::check_release(image));
 }
 
-fn files_and_free(answer: Answer) {
+fn files_and_free(answer: Result<Listed, Refused>) {
     match answer {
-        Answer::Done(n, free) => {
-            number(b"files ", n);
-            number(b", free ", free);
-            say(b"\n");
+        Ok(found) => {
+            number(b"files ", found.files);
+            line(b", free ", found.free);
         }
-        Answer::Err(r) => refused(r),
+        Err(r) => refused(r),
     }
 }
 
@@ -98,19 +118,13 @@ pub fn listed(what: &[u8], image: &[u8], buf: &mut [u8])
 
 pub fn started(what: &[u8], image: &[u8], name: &[u8]) {
     title(b"start of ", what);
-    match files::start(image, name) {
-        Answer::Done(address, _) => {
-            number(b"", address);
-            say(b"\n");
-        }
-        Answer::Err(r) => refused(r),
-    }
+    counted(b"", files::start(image, name));
 }
 
 // Four bytes of the body's front, and at 501, where the second sector's bytes begin, seven.
-fn length_and_body(answer: Answer, buf: &[u8]) {
+fn length_and_body(answer: Result<usize, Refused>, buf: &[u8]) {
     match answer {
-        Answer::Done(len, _) => {
+        Ok(len) => {
             number(b"length ", len);
             say(b", from 0 ");
             say(buffers::part_at(buf, 0, 4));
@@ -118,7 +132,7 @@ fn length_and_body(answer: Answer, buf: &[u8]) {
             say(buffers::part_at(buf, 501, 7));
             say(b"\n");
         }
-        Answer::Err(r) => refused(r),
+        Err(r) => refused(r),
     }
 }
 
@@ -126,23 +140,19 @@ fn length_and_body(answer: Answer, buf: &[u8]) {
 pub fn listed_at(list: &[u16], k: usize) -> usize
     ensures { result ≡ get_or list.now k 0 }
 {
-    if k < list.len() {
-        return list[k] as usize;
-    }
-    0
+    usize::from(list.get(k).copied().unwrap_or(0))
 }
 
 pub fn three(before: &[u8], one: usize, two: usize, three: usize) {
     number(before, one);
     number(b" ", two);
-    number(b" ", three);
-    say(b"\n");
+    line(b" ", three);
 }
 
 // How many sectors a change names, and the front of its list as it then is.
-pub fn print_change(answer: Answer, list: &[u16]) {
+pub fn print_change(answer: Result<usize, Refused>, list: &[u16]) {
     match answer {
-        Answer::Done(n, _) => {
+        Ok(n) => {
             number(b"sectors ", n);
             three(
                 b", list ",
@@ -151,7 +161,7 @@ pub fn print_change(answer: Answer, list: &[u16]) {
                 listed_at(list, 2),
             );
         }
-        Answer::Err(r) => refused(r),
+        Err(r) => refused(r),
     }
 }
 
@@ -161,4 +171,10 @@ pub fn read(what: &[u8], image: &[u8], name: &[u8], buf: &mut [u8])
     title(b"read of ", what);
     let answer = files::read(image, name, buf);
     length_and_body(answer, buf);
+}
+
+// A read into a buffer of dots, with room for more than two sectors.
+pub fn read_dots(what: &[u8], image: &[u8], name: &[u8]) {
+    let mut buf = [b'.'; 1100];
+    read(what, image, name, &mut buf);
 }

@@ -1,58 +1,17 @@
 // Points of document 01: erase, rename and the marks, and what a save takes of an erased file.
 #![tactic(auto)]
 
-fn saved(what: &[u8], image: &mut [u8], name: &[u8], body: &[u8], list: &mut [u16]) {
-    points::title(b"save of ", what);
-    let answer = saves::save(image, 19, name, 29, 32768, b"", b"", body, list);
-    points::print_change(answer, list);
-}
-
-fn erased(image: &mut [u8], name: &[u8], list: &mut [u16]) {
-    points::title(b"erase of ", name);
-    let answer = changes::erase(image, name, list);
-    points::print_change(answer, list);
-}
-
-fn renamed(image: &mut [u8], name: &[u8], new: &[u8], list: &mut [u16]) {
-    points::title(b"rename of ", name);
-    points::title(b"to ", new);
-    let answer = changes::rename(image, name, new, list);
-    points::print_change(answer, list);
-}
-
-fn protected(image: &mut [u8], name: &[u8], list: &mut [u16]) {
-    points::title(b"protect of ", name);
-    let answer = changes::protect(image, name, list);
-    points::print_change(answer, list);
-}
-
-fn released(image: &mut [u8], name: &[u8], list: &mut [u16]) {
-    points::title(b"release of ", name);
-    let answer = changes::release(image, name, list);
-    points::print_change(answer, list);
-}
-
-fn hidden(image: &mut [u8], name: &[u8], list: &mut [u16]) {
-    points::title(b"hide of ", name);
-    let answer = changes::hide(image, name, list);
-    points::print_change(answer, list);
-}
-
-fn shown(image: &mut [u8], name: &[u8], list: &mut [u16]) {
-    points::title(b"show of ", name);
-    let answer = changes::show(image, name, list);
-    points::print_change(answer, list);
-}
+use changes::Marking;
 
 fn small(image: &mut [u8], body: &[u8], list: &mut [u16]) {
-    saved(
+    points::saved(
         b"501 bytes",
         image,
         b"FILE A",
         buffers::part_at(body, 0, 501),
         list,
     );
-    saved(
+    points::saved(
         b"502 bytes",
         image,
         b"FILE B",
@@ -63,31 +22,31 @@ fn small(image: &mut [u8], body: &[u8], list: &mut [u16]) {
 }
 
 fn taken(image: &mut [u8], list: &mut [u16]) {
-    renamed(image, b"FILE A", b" FILE C", list);
-    renamed(image, b"FILE A", b"FILE C", list);
-    renamed(image, b"FILE A", b"FILE B", list);
-    renamed(image, b"FILE B", b"FILE B", list);
+    points::renamed(image, b"FILE A", b" FILE C", list);
+    points::renamed(image, b"FILE A", b"FILE C", list);
+    points::renamed(image, b"FILE A", b"FILE B", list);
+    points::renamed(image, b"FILE B", b"FILE B", list);
 }
 
 fn kept(image: &mut [u8], list: &mut [u16]) {
-    protected(image, b"FILE A", list);
-    erased(image, b"FILE A", list);
+    points::marked(b"protect of ", image, b"FILE A", Marking::Protect, list);
+    points::erased(image, b"FILE A", list);
     taken(image, list);
 }
 
 fn marks(image: &mut [u8], list: &mut [u16]) {
-    protected(image, b"FILE A", list);
-    released(image, b"FILE A", list);
-    hidden(image, b"FILE B", list);
-    shown(image, b"FILE B", list);
+    points::marked(b"protect of ", image, b"FILE A", Marking::Protect, list);
+    points::marked(b"release of ", image, b"FILE A", Marking::Release, list);
+    points::marked(b"hide of ", image, b"FILE B", Marking::Hide, list);
+    points::marked(b"show of ", image, b"FILE B", Marking::Show, list);
 }
 
 // What an erased file held is used again: its slot, and its sector before the next that is free.
 fn used_again(image: &mut [u8], body: &[u8], list: &mut [u16]) {
-    renamed(image, b"FILE A", b"FILE C", list);
-    erased(image, b"FILE A", list);
-    erased(image, b"FILE C", list);
-    saved(
+    points::renamed(image, b"FILE A", b"FILE C", list);
+    points::erased(image, b"FILE A", list);
+    points::erased(image, b"FILE C", list);
+    points::saved(
         b"502 bytes",
         image,
         b"FILE D",
@@ -98,18 +57,16 @@ fn used_again(image: &mut [u8], body: &[u8], list: &mut [u16]) {
 
 // A file in every slot that is free, the names AA to HJ.
 fn fill(image: &mut [u8], list: &mut [u16]) {
-    let mut i: u8 = 0;
-    while i < 80 {
-        let name = [65 + i / 10, 65 + i % 10];
-        saves::save(image, 16, &name, 0, 32768, b"", b"", b"", list);
-        i += 1;
+    for i in 0..80 {
+        let name = [b'A' + i / 10, b'A' + i % 10];
+        let _ = saves::save(image, 16, &name, 0, 32768, b"", b"", b"", list);
     }
 }
 
 fn every_slot(image: &mut [u8], buf: &mut [u8], list: &mut [u16]) {
     fill(image, list);
     points::listed(b"a disk of 80 files", image, buf);
-    saved(b"one file more", image, b"FILE X", b"", list);
+    points::saved(b"one file more", image, b"FILE X", b"", list);
 }
 
 fn files_saved(image: &mut [u8], body: &[u8]) {
@@ -130,8 +87,7 @@ fn main() {
     let mut image = points::blank();
     let mut body = points::blank();
     let mut buf = points::blank();
-    buffers::copy_into(&mut body, 0, b"HEAD");
-    buffers::copy_into(&mut body, 501, b"MIDDLE!");
+    points::mark_body(&mut body, b"HEAD", b"MIDDLE!");
     buffers::copy_into(&mut buf, 501, b".......");
     files_saved(&mut image, &body);
     changes_made(&mut image, &body, &mut buf);

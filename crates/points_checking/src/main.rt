@@ -7,13 +7,9 @@ ghost use Rattle.std.specs.Prelude.{◌<◌};
 fn changed(what: &[u8], image: &mut [u8], at: usize, one: u8, two: u8)
     requires { at < 819200 }
 {
-    let was_one = buffers::byte_at(image, at);
-    let was_two = buffers::byte_at(image, at + 1);
-    points::set(image, at, one);
-    points::set(image, at + 1, two);
+    let old = points::exchange(image, at, [one, two]);
     points::checked(what, image);
-    points::set(image, at, was_one);
-    points::set(image, at + 1, was_two);
+    points::exchange(image, at, old);
 }
 
 fn kinds(image: &mut [u8]) {

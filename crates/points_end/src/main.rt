@@ -4,73 +4,30 @@
 
 ghost use Rattle.std.specs.Prelude.{◌<◌};
 
-use geometry::Address;
-
-fn put(image: &mut [u8], at: usize, b: u8) {
-    let one = [b];
-    buffers::copy_into(image, at, &one);
-}
-
-// A file of kind 5 in slot `i`, counted from 0: one sector, that of map bit 100 + i, and a name of two letters.
+// A file in slot `i`, counted from 0: its sector is that of map bit 100 + i, and its name has two letters.
 fn file(image: &mut [u8], i: usize)
     requires { i < 80 }
 {
-    let at = directory::slot_place(i);
-    let front = [
-        5,
-        b'A' + (i / 10) as u8,
-        b'A' + (i % 10) as u8,
-        b' ',
-        b' ',
-        b' ',
-        b' ',
-        b' ',
-        b' ',
-        b' ',
-        b' ',
-        0,
-        1,
-    ];
-    buffers::copy_into(image, at, &front);
-    let mut map = [0u8; 195];
-    maps::set_bit(&mut map, 100 + i);
-    buffers::copy_into(image, at + 15, &map);
-    match geometry::address_of(100 + i) {
-        Address::Sector(track, sector) => {
-            put(image, at + 13, (track % 256) as u8);
-            put(image, at + 14, (sector % 256) as u8);
-        }
-        Address::NoBit => {}
-    }
+    let letters = [b'A' + (i / 10) as u8, b'A' + (i % 10) as u8];
+    points::disks::small_file(image, i, 100 + i, &letters);
 }
 
 // Such files from one slot up to another.
 fn files(image: &mut [u8], from: usize, to: usize) {
-    let mut i = from;
-    while i < 80 {
-        if to <= i {
-            return;
-        }
+    for i in from..to.min(80) {
         file(image, i);
-        i += 1;
     }
 }
 
 // Kind 63, which is not known, and a name in every slot.
 fn rubbish_everywhere(image: &mut [u8]) {
-    let mut i: usize = 0;
-    while i < 80 {
-        let at = directory::slot_place(i);
-        put(image, at, 63);
-        put(image, at + 1, b'-');
-        i += 1;
+    for i in 0..80 {
+        rubbish(image, directory::slot_place(i));
     }
 }
 
 fn saved(what: &[u8], image: &mut [u8], name: &[u8], list: &mut [u16]) {
-    points::title(b"save of ", what);
-    let answer = saves::save(image, 16, name, 0, 32768, b"", b"", b"", list);
-    points::print_change(answer, list);
+    points::saved_as(what, image, points::BASIC, name, b"", list);
 }
 
 // The first bytes of slot `i`, counted from 0. Where 81 would be lies the data sector of NEW 2, at track 4 sector 2.
@@ -90,7 +47,7 @@ fn end_at(what: &[u8], image: &mut [u8], i: usize, name: &[u8], buf: &mut [u8])
 {
     let mut list = [0u16; 3];
     points::checked(what, image);
-    put(image, directory::slot_place(i) + 1, 0);
+    points::set(image, directory::slot_place(i) + 1, 0);
     points::say(b"with no name there: ");
     points::checked(what, image);
     points::listed(what, image, buf);
@@ -101,11 +58,8 @@ fn end_at(what: &[u8], image: &mut [u8], i: usize, name: &[u8], buf: &mut [u8])
 }
 
 // A name and rubbish in the slot at that place again.
-fn rubbish(image: &mut [u8], at: usize)
-    requires { at < 40960 }
-{
-    put(image, at, 63);
-    put(image, at + 1, b'-');
+fn rubbish(image: &mut [u8], at: usize) {
+    buffers::copy_into(image, at, b"\x3f-");
 }
 
 fn first_ends(image: &mut [u8], buf: &mut [u8]) {
@@ -130,7 +84,7 @@ fn last_end(image: &mut [u8], buf: &mut [u8]) {
 fn no_end(image: &mut [u8]) {
     let mut list = [0u16; 3];
     saved(b"one file more", image, b"NEW 81", &mut list);
-    put(image, 1024, 0);
+    points::set(image, 1024, 0);
     saved(b"one file more, slot 5 erased", image, b"NEW 81", &mut list);
 }
 
@@ -144,22 +98,22 @@ fn short_list(image: &mut [u8]) {
 
 // Slot 2 is the end, and slot 3 has no name either: it is left as it is.
 fn no_name_behind(image: &mut [u8], list: &mut [u16]) {
-    put(image, 512, 255);
-    put(image, 514, 255);
+    points::set(image, 512, 255);
+    points::set(image, 514, 255);
     saved(b"a file before a slot with no name", image, b"NEW", list);
     slot_bytes(image, 2);
 }
 
 // Slot 3 is the end, with a name behind it, and slot 1 is erased.
 fn erased_before_the_end(image: &mut [u8], list: &mut [u16]) {
-    put(image, 0, 0);
-    put(image, 769, b'-');
+    points::set(image, 0, 0);
+    points::set(image, 769, b'-');
     saved(b"a file into an erased slot", image, b"NEW 2", list);
     slot_bytes(image, 3);
 }
 
 fn third(image: &mut [u8], kind: u8, name: &[u8], rest: &[u8]) {
-    put(image, 512, kind);
+    points::set(image, 512, kind);
     buffers::copy_into(image, 513, name);
     buffers::copy_into(image, 523, rest);
 }
@@ -169,10 +123,10 @@ fn behind(what: &[u8], image: &mut [u8], kind: u8, name: &[u8], rest: &[u8]) {
     third(image, kind, name, rest);
     points::say(b"behind the end: ");
     points::checked(what, image);
-    put(image, 257, b'-');
+    points::set(image, 257, b'-');
     points::say(b"before it: ");
     points::checked(what, image);
-    put(image, 257, 0);
+    points::set(image, 257, 0);
 }
 
 // The same under the release check: a carried file with a sector more than its length needs.
@@ -180,10 +134,10 @@ fn waste(image: &mut [u8]) {
     third(image, 19, b"RUBBISH   ", b"\x00\x02\x04\x05\x30");
     points::say(b"behind the end: ");
     points::released(b"246 bytes in 2 sectors", image);
-    put(image, 257, b'-');
+    points::set(image, 257, b'-');
     points::say(b"before it: ");
     points::released(b"246 bytes in 2 sectors", image);
-    put(image, 257, 0);
+    points::set(image, 257, 0);
 }
 
 // Each fault of a slot in turn: count, first address and the first map bytes. Bit 4 is track 4 sector 5.
@@ -213,8 +167,8 @@ fn faults_of_a_slot(image: &mut [u8]) {
 }
 
 fn faults_of_files(image: &mut [u8]) {
-    put(image, 752, 246);
-    put(image, 753, 1);
+    points::set(image, 752, 246);
+    points::set(image, 753, 1);
     behind(
         b"length 502 in 1 sector",
         image,
@@ -222,7 +176,7 @@ fn faults_of_files(image: &mut [u8]) {
         b"RUBBISH   ",
         b"\x00\x01\x04\x05\x10",
     );
-    put(image, 753, 0);
+    points::set(image, 753, 0);
     behind(
         b"the sector of slot 1",
         image,
@@ -247,8 +201,8 @@ fn faults_of_chains(image: &mut [u8]) {
         b"RUBBISH   ",
         b"\x00\x01\x04\x05\x10",
     );
-    put(image, 43009, 246);
-    put(image, 43010, 1);
+    points::set(image, 43009, 246);
+    points::set(image, 43010, 1);
     behind(
         b"length 502 of kind 4 in 1 sector",
         image,
@@ -256,7 +210,7 @@ fn faults_of_chains(image: &mut [u8]) {
         b"RUBBISH   ",
         b"\x00\x01\x04\x05\x10",
     );
-    put(image, 43518, 9);
+    points::set(image, 43518, 9);
     behind(
         b"a last link 9 0",
         image,
@@ -288,7 +242,7 @@ fn every_end() {
 fn short_lists() {
     let mut image = points::blank();
     file(&mut image, 0);
-    put(&mut image, 513, b'-');
+    points::set(&mut image, 513, b'-');
     short_list(&mut image);
 }
 

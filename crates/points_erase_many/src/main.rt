@@ -2,72 +2,24 @@
 // are refused, whole calls that are, and a cut between a file and the directory that it was in.
 #![tactic(auto)]
 
-ghost use Rattle.std.specs.Prelude.{◌<◌};
-
-use geometry::Address;
-use refusals::Answer;
-
-fn put(image: &mut [u8], at: usize, b: u8) {
-    let one = [b];
-    buffers::copy_into(image, at, &one);
-}
-
-// A file of kind 5 in slot `i`, counted from 0: one sector, that of map bit `bit`, and a name of three letters.
-fn file(image: &mut [u8], i: usize, bit: usize)
-    requires { i < 778 }
-{
-    let at = directory::slot_place(i);
-    let front = [
-        5,
-        b'A' + (i / 100) as u8,
-        b'A' + (i / 10 % 10) as u8,
-        b'A' + (i % 10) as u8,
-        b' ',
-        b' ',
-        b' ',
-        b' ',
-        b' ',
-        b' ',
-        b' ',
-        0,
-        1,
-    ];
-    buffers::copy_into(image, at, &front);
-    let mut map = [0u8; 195];
-    maps::set_bit(&mut map, bit);
-    buffers::copy_into(image, at + 15, &map);
-    match geometry::address_of(bit) {
-        Address::Sector(track, sector) => {
-            put(image, at + 13, (track % 256) as u8);
-            put(image, at + 14, (sector % 256) as u8);
-        }
-        Address::NoBit => {}
-    }
-}
-
-// Such files in all slots before slot `to`, at the map bits from 350 on, and their names end to end.
+// Files in all slots before slot `to`, and their names end to end.
 fn files(image: &mut [u8], names: &mut [u8], to: usize) {
-    let mut i: usize = 0;
-    while i < 778 {
-        if to <= i {
-            return;
-        }
-        file(image, i, 350 + i);
+    points::disks::many_files(image, to);
+    for i in 0..to.min(778) {
         buffers::copy_into(names, 10 * i, slots::name_of(directory::slot_at(image, i)));
-        i += 1;
     }
 }
 
 // A directory in slot 1 and three files behind it, of which the one in slot `i`, counted from 0, is in it.
 fn nested(image: &mut [u8], i: usize) {
     buffers::copy_into(image, 0, b"\x15FOLDER    ");
-    put(image, 250, 9);
-    file(image, 1, 1);
-    file(image, 2, 2);
-    file(image, 3, 3);
-    put(image, 510, 0);
-    put(image, 1022, 0);
-    put(image, 256 * (i % 4) + 254, 9);
+    points::set(image, 250, 9);
+    points::disks::lettered_file(image, 1, 1);
+    points::disks::lettered_file(image, 2, 2);
+    points::disks::lettered_file(image, 3, 3);
+    points::set(image, 510, 0);
+    points::set(image, 1022, 0);
+    points::set(image, 256 * (i % 4) + 254, 9);
 }
 
 // How many sectors, and the fronts of list and answers as they then are.
@@ -130,13 +82,13 @@ fn refused(image: &mut [u8]) {
     );
     one_answer(image);
     one_number(image);
-    put(image, 0, 63);
+    points::set(image, 0, 63);
     erased(
         b"nine bytes, of a disk that is refused",
         image,
         b"AAA      ",
     );
-    put(image, 0, 5);
+    points::set(image, 0, 5);
     points::checked(b"the disk", image);
 }
 
@@ -162,7 +114,7 @@ fn few(image: &mut [u8]) {
 }
 
 fn protected(image: &mut [u8]) {
-    put(image, directory::slot_place(6), 69);
+    points::set(image, directory::slot_place(6), 69);
     erased(
         b"a protected file among others",
         image,
@@ -207,7 +159,7 @@ fn most() {
     let mut image = points::blank();
     let mut names = [0u8; 7780];
     files(&mut image, &mut names, 778);
-    put(&mut image, 255, 35);
+    points::set(&mut image, 255, 35);
     erased(
         b"three files beside the gap",
         &mut image,
@@ -221,13 +173,7 @@ fn most() {
 fn treed(what: &[u8], image: &[u8]) {
     let mut slots = [0u16; 4];
     points::title(b"tree of ", what);
-    match tree_lists::list_tree(image, b"", &mut slots) {
-        Answer::Done(n, _) => {
-            points::number(b"slots ", n);
-            points::say(b"\n");
-        }
-        Answer::Err(r) => points::refused(r),
-    }
+    points::counted(b"slots ", tree_lists::list_tree(image, b"", &mut slots));
 }
 
 // The first of the sectors written, and the second not.

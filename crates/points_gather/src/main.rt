@@ -2,19 +2,6 @@
 // bit short, a hole that is large enough only with the file's own sectors, files that are left, and short lists.
 #![tactic(auto)]
 
-fn saved(image: &mut [u8], name: &[u8], body: &[u8], len: usize, list: &mut [u16]) {
-    points::title(b"save of ", name);
-    let bytes = buffers::part_at(body, 0, len);
-    let answer = saves::save(image, 19, name, 29, 32768, b"", b"", bytes, list);
-    points::print_change(answer, list);
-}
-
-fn erased(image: &mut [u8], name: &[u8], list: &mut [u16]) {
-    points::title(b"erase of ", name);
-    let answer = changes::erase(image, name, list);
-    points::print_change(answer, list);
-}
-
 fn gathered(what: &[u8], image: &mut [u8], name: &[u8], list: &mut [u16]) {
     points::title(b"gather of ", what);
     let answer = gathers::gather(image, name, list);
@@ -25,8 +12,7 @@ fn gathered(what: &[u8], image: &mut [u8], name: &[u8], list: &mut [u16]) {
 fn short_lists(image: &mut [u8]) {
     let mut list = [7u16; 2];
     gathered(b"it with a list of 2", image, b"FILE B", &mut list);
-    points::number(b"the list: ", points::listed_at(&list, 0));
-    points::say(b"\n");
+    points::line(b"the list: ", points::listed_at(&list, 0));
     let mut none = [7u16; 1];
     gathered(b"FILE A with no list", image, b"FILE A", &mut none[..0]);
 }
@@ -60,21 +46,39 @@ fn refused(image: &mut [u8], list: &mut [u16]) {
 
 // A file of one sector among others, and one on bits 0 and 2, which erased files left.
 fn of_one_sector(image: &mut [u8], body: &[u8], list: &mut [u16]) {
-    saved(image, b"ONE", body, 501, list);
-    saved(image, b"TWO", body, 501, list);
-    saved(image, b"THREE", body, 501, list);
+    points::saved(b"ONE", image, b"ONE", buffers::part_at(body, 0, 501), list);
+    points::saved(b"TWO", image, b"TWO", buffers::part_at(body, 0, 501), list);
+    points::saved(
+        b"THREE",
+        image,
+        b"THREE",
+        buffers::part_at(body, 0, 501),
+        list,
+    );
     gathered(b"a file of one sector", image, b"TWO", list);
 }
 
 fn scattered(image: &mut [u8], body: &[u8], list: &mut [u16]) {
-    erased(image, b"ONE", list);
-    erased(image, b"THREE", list);
-    saved(image, b"WIDE", body, 1011, list);
+    points::erased(image, b"ONE", list);
+    points::erased(image, b"THREE", list);
+    points::saved(
+        b"WIDE",
+        image,
+        b"WIDE",
+        buffers::part_at(body, 0, 1011),
+        list,
+    );
 }
 
 // All bits are taken but those from 759 on: the run goes from the first side to the second.
 fn middle(image: &mut [u8], body: &[u8], buf: &mut [u8], list: &mut [u16]) {
-    saved(image, b"FIRST SIDE", body, 385551, list);
+    points::saved(
+        b"FIRST SIDE",
+        image,
+        b"FIRST SIDE",
+        buffers::part_at(body, 0, 385551),
+        list,
+    );
     points::read(b"WIDE", image, b"WIDE", buf);
     gathered(b"WIDE", image, b"WIDE", list);
     points::read(b"WIDE", image, b"WIDE", buf);
@@ -83,15 +87,33 @@ fn middle(image: &mut [u8], body: &[u8], buf: &mut [u8], list: &mut [u16]) {
 
 // Another file on bits 0 and 2, and only the last bit is free.
 fn one_bit_short(image: &mut [u8], body: &[u8], list: &mut [u16]) {
-    saved(image, b"AGAIN", body, 1011, list);
-    saved(image, b"SIDE 2", body, 406461, list);
-    saved(image, b"LAST BUT 1", body, 501, list);
+    points::saved(
+        b"AGAIN",
+        image,
+        b"AGAIN",
+        buffers::part_at(body, 0, 1011),
+        list,
+    );
+    points::saved(
+        b"SIDE 2",
+        image,
+        b"SIDE 2",
+        buffers::part_at(body, 0, 406461),
+        list,
+    );
+    points::saved(
+        b"LAST BUT 1",
+        image,
+        b"LAST BUT 1",
+        buffers::part_at(body, 0, 501),
+        list,
+    );
     gathered(b"AGAIN, one bit short", image, b"AGAIN", list);
 }
 
 // Then the last two are.
 fn end(image: &mut [u8], buf: &mut [u8], list: &mut [u16]) {
-    erased(image, b"LAST BUT 1", list);
+    points::erased(image, b"LAST BUT 1", list);
     gathered(b"AGAIN", image, b"AGAIN", list);
     points::read(b"AGAIN", image, b"AGAIN", buf);
     points::checked(b"the disk", image);
@@ -99,8 +121,14 @@ fn end(image: &mut [u8], buf: &mut [u8], list: &mut [u16]) {
 
 // A third on bits 0 and 2, on a disk that is full but for bit 1 between them.
 fn own_sectors(image: &mut [u8], body: &[u8], buf: &mut [u8], list: &mut [u16]) {
-    saved(image, b"THIRD", body, 1011, list);
-    erased(image, b"TWO", list);
+    points::saved(
+        b"THIRD",
+        image,
+        b"THIRD",
+        buffers::part_at(body, 0, 1011),
+        list,
+    );
+    points::erased(image, b"TWO", list);
     gathered(b"THIRD, around its own hole", image, b"THIRD", list);
     points::listed(b"the disk", image, buf);
 }
@@ -136,8 +164,7 @@ fn large(body: &[u8], buf: &mut [u8]) {
 fn main() {
     let mut body = points::blank();
     let mut buf = points::blank();
-    buffers::copy_into(&mut body, 0, b"HEAD");
-    buffers::copy_into(&mut body, 501, b"MIDDLE!");
+    points::mark_body(&mut body, b"HEAD", b"MIDDLE!");
     buffers::copy_into(&mut buf, 501, b".......");
     small(&mut buf);
     large(&body, &mut buf);

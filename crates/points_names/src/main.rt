@@ -1,65 +1,34 @@
 // Points of document 02's M-105: names that differ only in a to z against A to Z are the same name.
 #![tactic(auto)]
 
-use readers::OpenAnswer;
-use refusals::Answer;
-
-fn changed(answer: Answer) {
-    match answer {
-        Answer::Done(_, _) => points::say(b"accepted\n"),
-        Answer::Err(r) => points::refused(r),
-    }
-}
+use changes::Marking;
 
 fn saved(image: &mut [u8], name: &[u8], list: &mut [u16]) {
     points::title(b"save of ", name);
-    changed(saves::save(image, 19, name, 29, 32768, b"", b"", b"LA LA", list));
+    points::accepted(saves::save(image, 19, name, 29, 32768, b"", b"", b"LA LA", list));
 }
 
 fn renamed(image: &mut [u8], name: &[u8], new: &[u8], list: &mut [u16]) {
     points::title(b"rename of ", name);
     points::title(b"to ", new);
-    changed(changes::rename(image, name, new, list));
+    points::accepted(changes::rename(image, name, new, list));
 }
 
 fn erased(image: &mut [u8], name: &[u8], list: &mut [u16]) {
     points::title(b"erase of ", name);
-    changed(changes::erase(image, name, list));
+    points::accepted(changes::erase(image, name, list));
 }
 
-fn hidden(image: &mut [u8], name: &[u8], list: &mut [u16]) {
-    points::title(b"hide of ", name);
-    changed(changes::hide(image, name, list));
-}
-
-fn shown(image: &mut [u8], name: &[u8], list: &mut [u16]) {
-    points::title(b"show of ", name);
-    changed(changes::show(image, name, list));
-}
-
-fn protected(image: &mut [u8], name: &[u8], list: &mut [u16]) {
-    points::title(b"protect of ", name);
-    changed(changes::protect(image, name, list));
-}
-
-fn released(image: &mut [u8], name: &[u8], list: &mut [u16]) {
-    points::title(b"release of ", name);
-    changed(changes::release(image, name, list));
-}
-
-fn read(image: &[u8], name: &[u8]) {
-    let mut buf = [b'.'; 512];
-    points::read(name, image, name, &mut buf);
+fn marked(call: &[u8], image: &mut [u8], name: &[u8], marking: Marking, list: &mut [u16]) {
+    points::title(call, name);
+    points::accepted(changes::set_mark(image, name, marking, list));
 }
 
 fn opened(image: &[u8], name: &[u8]) {
     points::title(b"opening of ", name);
     match readers::begin(image, name) {
-        OpenAnswer::At(p) => {
-            points::number(b"left ", p.left);
-            points::say(b"\n");
-        }
-        OpenAnswer::Err(r) => points::refused(r),
+        Ok(p) => points::line(b"left ", p.left),
+        Err(r) => points::refused(r),
     }
 }
 
@@ -76,22 +45,22 @@ fn listed(image: &[u8]) {
 
 // Every call that takes a name, in small letters.
 fn small_read(image: &[u8]) {
-    read(image, b"tunes");
+    points::read_dots(b"tunes", image, b"tunes");
     points::started(b"tunes", image, b"tunes");
     opened(image, b"tunes");
 }
 
 fn small_changes(image: &mut [u8], list: &mut [u16]) {
     saved(image, b"tunes", list);
-    hidden(image, b"tunes", list);
-    shown(image, b"tunes", list);
+    marked(b"hide of ", image, b"tunes", Marking::Hide, list);
+    marked(b"show of ", image, b"tunes", Marking::Show, list);
 }
 
 fn small_protected(image: &mut [u8], list: &mut [u16]) {
-    protected(image, b"tunes", list);
+    marked(b"protect of ", image, b"tunes", Marking::Protect, list);
     erased(image, b"tunes", list);
     renamed(image, b"tunes", b"Tunes", list);
-    released(image, b"tunes", list);
+    marked(b"release of ", image, b"tunes", Marking::Release, list);
 }
 
 // New names that are refused: the bytes that are stored, and another file's name.
@@ -105,7 +74,7 @@ fn new_name_taken(image: &mut [u8], list: &mut [u16]) {
 fn case_altered(image: &mut [u8], list: &mut [u16]) {
     renamed(image, b"tunes", b"Tunes", list);
     listed(image);
-    read(image, b"TUNES");
+    points::read_dots(b"TUNES", image, b"TUNES");
     renamed(image, b"TUNES", b"Tunes", list);
     renamed(image, b"TUNES", b"TUNES", list);
     listed(image);
@@ -113,10 +82,10 @@ fn case_altered(image: &mut [u8], list: &mut [u16]) {
 
 fn another_name(image: &mut [u8], list: &mut [u16]) {
     renamed(image, b"tunes", b"Hits", list);
-    read(image, b"TUNES");
-    read(image, b"HITS");
+    points::read_dots(b"TUNES", image, b"TUNES");
+    points::read_dots(b"HITS", image, b"HITS");
     erased(image, b"hits", list);
-    read(image, b"Hits");
+    points::read_dots(b"Hits", image, b"Hits");
 }
 
 // A byte at the front of a stored name, and the one asked for.
@@ -124,8 +93,8 @@ fn asked(image: &mut [u8], stored: u8, asked: u8) {
     let front = [stored];
     buffers::copy_into(image, 1, &front);
     let name = [asked, 85, 78, 69, 83];
-    points::number(b"byte ", stored as usize);
-    points::number(b" stored, ", asked as usize);
+    points::number(b"byte ", usize::from(stored));
+    points::number(b" stored, ", usize::from(asked));
     points::say(b" asked for, ");
     points::started(b"the file", image, &name);
 }

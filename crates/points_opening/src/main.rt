@@ -3,26 +3,20 @@
 
 ghost use Rattle.std.specs.Prelude.{◌≡◌, length};
 
-// A read into a buffer of dots.
-pub fn read_dots(what: &[u8], image: &[u8], name: &[u8]) {
-    let mut buf = [b'.'; 512];
-    points::read(what, image, name, &mut buf);
-}
-
 fn first_file(image: &mut [u8], buf: &mut [u8]) {
     points::checked(b"an empty disk", image);
     points::listed(b"an empty disk", image, buf);
     points::disks::file_a(image);
     points::checked(b"one file of 2 sectors", image);
     points::listed(b"one file of 2 sectors", image, buf);
-    read_dots(b"one file of 2 sectors", image, b"FILE A");
+    points::read_dots(b"one file of 2 sectors", image, b"FILE A");
 }
 
 fn second_file(image: &mut [u8], buf: &mut [u8]) {
     points::disks::file_b(image);
     points::checked(b"a chain that descends", image);
     points::listed(b"a chain that descends", image, buf);
-    read_dots(b"a chain that descends", image, b"FILE B");
+    points::read_dots(b"a chain that descends", image, b"FILE B");
 }
 
 fn third_file(image: &mut [u8], buf: &mut [u8]) {
@@ -31,8 +25,7 @@ fn third_file(image: &mut [u8], buf: &mut [u8]) {
     points::listed(b"a file in slot 21", image, buf);
     points::number(b"slots of the listing: ", buffers::num_at(buf, 0));
     points::number(b" ", buffers::num_at(buf, 258));
-    points::number(b" ", buffers::num_at(buf, 516));
-    points::say(b"\n");
+    points::line(b" ", buffers::num_at(buf, 516));
 }
 
 fn rubbish_erased(image: &mut [u8], buf: &mut [u8]) {
@@ -45,7 +38,7 @@ fn file_erased(image: &mut [u8], buf: &mut [u8]) {
     points::set(image, 256, 0);
     points::checked(b"slot 2 erased", image);
     points::listed(b"slot 2 erased", image, buf);
-    read_dots(b"the file erased", image, b"FILE B");
+    points::read_dots(b"the file erased", image, b"FILE B");
     points::set(image, 256, 19);
 }
 
@@ -57,14 +50,14 @@ fn file_hidden(image: &mut [u8], buf: &mut [u8]) {
 }
 
 fn names(image: &[u8]) {
-    read_dots(b"a name of 0 bytes", image, b"");
-    read_dots(b"a name of 11 bytes", image, b"FILE A     ");
-    read_dots(b"a name from byte 0", image, b"\x00ILE A");
-    read_dots(b"a name of 10 bytes", image, b"FILE A    ");
-    read_dots(b"a name no slot has", image, b"FILE D");
-    read_dots(b"a part of a name", image, b"FILE");
-    read_dots(b"a name in small letters", image, b"file a");
-    read_dots(b"a kind that cannot be read", image, b"FILE C");
+    points::read_dots(b"a name of 0 bytes", image, b"");
+    points::read_dots(b"a name of 11 bytes", image, b"FILE A     ");
+    points::read_dots(b"a name from byte 0", image, b"\x00ILE A");
+    points::read_dots(b"a name of 10 bytes", image, b"FILE A    ");
+    points::read_dots(b"a name no slot has", image, b"FILE D");
+    points::read_dots(b"a part of a name", image, b"FILE");
+    points::read_dots(b"a name in small letters", image, b"file a");
+    points::read_dots(b"a kind that cannot be read", image, b"FILE C");
     points::started(b"a name of 11 bytes", image, b"FILE A     ");
     points::started(b"a name no slot has", image, b"FILE D");
     points::started(b"a kind that cannot be read", image, b"FILE C");
@@ -86,8 +79,8 @@ fn start_line(image: &mut [u8], page: u8, low: u8, high: u8) {
     points::set(image, 236, page);
     points::set(image, 237, low);
     points::set(image, 238, high);
-    points::number(b"page byte ", page as usize);
-    points::number(b", offset ", low as usize + 256 * high as usize);
+    points::number(b"page byte ", usize::from(page));
+    points::number(b", offset ", usize::from(u16::from_le_bytes([low, high])));
     points::say(b": ");
     points::started(b"FILE A", image, b"FILE A");
 }
@@ -105,7 +98,7 @@ fn wrong_length(what: &[u8], image: &[u8]) {
     let mut none = [0u8; 1];
     points::checked(what, image);
     points::listed(what, image, &mut none);
-    read_dots(what, image, b"FILE A");
+    points::read_dots(what, image, b"FILE A");
     points::started(what, image, b"FILE A");
 }
 

@@ -1,18 +1,17 @@
 // Points of document 02's M-100: a file opened by name, its body piece by piece, and readers that no call made.
 #![tactic(auto)]
 
-use readers::{OpenAnswer, Place};
+use readers::Place;
 
 fn opened(what: &[u8], image: &[u8], name: &[u8]) {
     points::title(b"opening of ", what);
     match readers::begin(image, name) {
-        OpenAnswer::At(p) => {
+        Ok(p) => {
             points::number(b"sector ", p.sector);
             points::number(b", offset ", p.offset);
-            points::number(b", left ", p.left);
-            points::say(b"\n");
+            points::line(b", left ", p.left);
         }
-        OpenAnswer::Err(r) => points::refused(r),
+        Err(r) => points::refused(r),
     }
 }
 
@@ -74,10 +73,7 @@ fn rubbish(image: &[u8]) {
     four(image, place(80, 9, 795592));
     four(image, place(80, 510, 4));
     four(image, place(1600, 0, 4));
-    four(
-        image,
-        place(points::LARGEST, points::LARGEST, points::LARGEST),
-    );
+    four(image, place(usize::MAX, usize::MAX, usize::MAX));
     four(buffers::part_at(image, 0, 819199), place(80, 9, 505));
 }
 

@@ -1,8 +1,6 @@
 // Points of document 01: the places of sectors and map bits, and the numbers that a slot holds.
 #![tactic(auto)]
 
-use geometry::{Address, MapBit, Spot};
-
 fn sector_line(track: usize, sector: usize) {
     points::number(b"track ", track);
     points::number(b" sector ", sector);
@@ -12,12 +10,12 @@ fn sector_line(track: usize, sector: usize) {
         points::say(b": not data");
     }
     match geometry::bit_of(track, sector) {
-        MapBit::Bit(bit) => points::number(b", bit ", bit),
-        MapBit::NotData => points::say(b", no bit"),
+        Some(bit) => points::number(b", bit ", bit),
+        None => points::say(b", no bit"),
     }
     match geometry::place(track, sector) {
-        Spot::At(place) => points::number(b", place ", place),
-        Spot::NoSector => points::say(b", no place"),
+        Some(place) => points::number(b", place ", place),
+        None => points::say(b", no place"),
     }
     points::say(b"\n");
 }
@@ -25,16 +23,16 @@ fn sector_line(track: usize, sector: usize) {
 fn bit_line(bit: usize) {
     points::number(b"bit ", bit);
     match geometry::address_of(bit) {
-        Address::Sector(track, sector) => {
-            points::number(b": track ", track);
-            points::number(b" sector ", sector);
+        Some(a) => {
+            points::number(b": track ", a.track);
+            points::number(b" sector ", a.sector);
         }
-        Address::NoBit => points::say(b": no sector"),
+        None => points::say(b": no sector"),
     }
     points::number(b", place ", geometry::bit_place(bit));
     match geometry::place_of_bit(bit) {
-        Spot::At(place) => points::number(b", in the table ", place),
-        Spot::NoSector => points::say(b", not in the table"),
+        Some(place) => points::number(b", in the table ", place),
+        None => points::say(b", not in the table"),
     }
     points::say(b"\n");
 }
@@ -51,24 +49,23 @@ fn sectors() {
     sector_line(208, 1);
     sector_line(4, 0);
     sector_line(4, 11);
-    sector_line(points::LARGEST, 1);
-    sector_line(4, points::LARGEST);
+    sector_line(usize::MAX, 1);
+    sector_line(4, usize::MAX);
     bit_line(0);
     bit_line(759);
     bit_line(760);
     bit_line(1559);
     bit_line(1560);
-    bit_line(points::LARGEST);
+    bit_line(usize::MAX);
 }
 
 fn count_line(high: u8, low: u8) {
     let mut s = [0u8; 256];
     s[11] = high;
     s[12] = low;
-    points::number(b"count bytes ", high as usize);
-    points::number(b" ", low as usize);
-    points::number(b": ", slots::count_of(&s));
-    points::say(b"\n");
+    points::number(b"count bytes ", usize::from(high));
+    points::number(b" ", usize::from(low));
+    points::line(b": ", slots::count_of(&s));
 }
 
 fn length_line(pages: u8, low: u8, high: u8) {
@@ -76,13 +73,12 @@ fn length_line(pages: u8, low: u8, high: u8) {
     s[239] = pages;
     s[240] = low;
     s[241] = high;
-    points::number(b"length bytes ", pages as usize);
-    points::number(b" ", low as usize);
-    points::number(b" ", high as usize);
+    points::number(b"length bytes ", usize::from(pages));
+    points::number(b" ", usize::from(low));
+    points::number(b" ", usize::from(high));
     points::number(b": pages ", slots::pages_of(&s));
     points::number(b", remainder ", slots::remainder_of(&s));
-    points::number(b", length ", slots::length_of(&s));
-    points::say(b"\n");
+    points::line(b", length ", slots::length_of(&s));
 }
 
 fn fields() {

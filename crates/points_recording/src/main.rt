@@ -5,82 +5,59 @@
 
 ghost use Rattle.std.specs.Prelude.{◌≤◌};
 
+use changes::Marking;
 use recordings::Record;
-use refusals::{Answer, Verdict};
+use refusals::Refused;
 
-fn opened(image: &[u8], name: &[u8]) -> Record {
-    let found = record_open::open(image, 19, name, 29, 32768, b"", b"");
-    let verdict = found.verdict;
-    match verdict {
-        Verdict::Err(r) => {
-            points::title(b"opening of ", name);
-            points::refused(r);
-        }
-        Verdict::Accepted => {}
-    }
-    found.record
+// A recording of the kind and start of most programs' files.
+fn opened(image: &[u8], name: &[u8]) -> Result<Record, Refused> {
+    let file = points::CODE;
+    record_open::open(image, file.kind, name, file.page, file.offset, b"", b"")
 }
 
-fn added(what: &[u8], image: &mut [u8], record: Record, piece: &[u8], list: &mut [u16]) -> Record {
-    let next = record_add::add(image, record, piece, list);
+fn added(what: &[u8], image: &mut [u8], record: &mut Record, piece: &[u8], list: &mut [u16]) {
     points::title(b"a piece of ", what);
-    let answer = next.answer;
+    let answer = record_add::add(image, record, piece, list);
     points::print_change(answer, list);
-    next.record
 }
 
-fn closed(what: &[u8], image: &mut [u8], record: Record, list: &mut [u16]) {
+fn closed(what: &[u8], image: &mut [u8], record: &Record, list: &mut [u16]) {
     points::title(b"close of ", what);
     let answer = record_close::close(image, record, list);
-    points::print_change(answer, list);
-}
-
-fn saved(image: &mut [u8], name: &[u8], body: &[u8], list: &mut [u16]) {
-    points::title(b"save of ", name);
-    let answer = saves::save(image, 19, name, 29, 32768, b"", b"", body, list);
     points::print_change(answer, list);
 }
 
 // ---- held to one save
 
 // How many sectors a piece named; a refusal is told.
-fn named(answer: Answer) -> usize
+fn named(answer: Result<usize, Refused>) -> usize
     ensures { result ≤ 1562 }
 {
     match answer {
-        Answer::Done(n, _) => buffers::lesser(n, 1562),
-        Answer::Err(r) => {
+        Ok(n) => n.min(1562),
+        Err(r) => {
             points::refused(r);
             0
         }
     }
 }
 
-// A body added in pieces of `step` bytes, at most 2,048 of 4,096: the record then. It says how many sectors they named in all.
-fn pieces(image: &mut [u8], first: Record, body: &[u8], step: usize, list: &mut [u16]) -> Record {
+// A body added in pieces of `step` bytes, at most 2,048 of 4,096, and one where it has no bytes: how many sectors they named in all.
+fn pieces(image: &mut [u8], record: &mut Record, body: &[u8], step: usize, list: &mut [u16]) {
     let n = step % 4097;
-    let mut record = first;
-    let mut at: usize = 0;
     let mut sectors: usize = 0;
-    let mut left: usize = 2048;
-    while 0 < left {
-        let next = record_add::add(image, record, buffers::part_at(body, at, n), list);
-        record = next.record;
-        let answer = next.answer;
-        sectors += named(answer);
-        at += n;
-        if body.len() <= at {
-            left = 0;
-        } else {
-            left -= 1;
+    for k in 0..2048 {
+        let at = k * n;
+        if k != 0 && body.len() <= at {
+            break;
         }
+        sectors += named(record_add::add(image, record, buffers::part_at(body, at, n), list));
     }
     points::number(b" named ", sectors);
-    record
 }
 
 fn compared(image: &[u8], other: &[u8]) {
-    if names::same_bytes(image, other) {
+    if image == other {
         points::say(b", the disk is that of one save\n");
     } else {
         points::say(b", ANOTHER DISK\n");
@@ -88,16 +65,17 @@ fn compared(image: &[u8], other: &[u8]) {
 }
 
 // Recorded on one empty disk in pieces, and saved whole on another.
-fn recorded(body: &[u8], step: usize, list: &mut [u16]) {
+fn recorded(body: &[u8], step: usize, list: &mut [u16]) -> Result<(), Refused> {
     let mut image = points::blank();
     points::number(b"", body.len());
     points::number(b" bytes in pieces of ", step);
     points::say(b":");
-    let opening = opened(&image, b"TAKE");
-    let record = pieces(&mut image, opening, body, step, list);
-    let answer = record_close::close(&mut image, record, list);
+    let mut record = opened(&image, b"TAKE")?;
+    pieces(&mut image, &mut record, body, step, list);
+    let answer = record_close::close(&mut image, &record, list);
     points::number(b", at the close ", named(answer));
     one_save(&image, body, list);
+    Ok(())
 }
 
 fn one_save(image: &[u8], body: &[u8], list: &mut [u16]) {
@@ -107,69 +85,62 @@ fn one_save(image: &[u8], body: &[u8], list: &mut [u16]) {
     compared(image, &other);
 }
 
-fn in_pieces(body: &[u8], list: &mut [u16]) {
-    recorded(body, 1, list);
-    recorded(body, 510, list);
-    recorded(body, 511, list);
-    recorded(body, 4096, list);
+fn in_pieces(body: &[u8], list: &mut [u16]) -> Result<(), Refused> {
+    recorded(body, 1, list)?;
+    recorded(body, 510, list)?;
+    recorded(body, 511, list)?;
+    recorded(body, 4096, list)
 }
 
 // One sector, just full; then two.
-fn small(body: &[u8], list: &mut [u16]) {
-    in_pieces(b"", list);
-    in_pieces(buffers::part_at(body, 0, 501), list);
-    in_pieces(buffers::part_at(body, 0, 502), list);
+fn small(body: &[u8], list: &mut [u16]) -> Result<(), Refused> {
+    in_pieces(b"", list)?;
+    in_pieces(buffers::part_at(body, 0, 501), list)?;
+    in_pieces(buffers::part_at(body, 0, 502), list)
 }
 
 // Two, just full; three; and all there are.
-fn large(body: &[u8], list: &mut [u16]) {
-    in_pieces(buffers::part_at(body, 0, 1011), list);
-    in_pieces(buffers::part_at(body, 0, 1012), list);
-    recorded(buffers::part_at(body, 0, 795591), 4096, list);
+fn large(body: &[u8], list: &mut [u16]) -> Result<(), Refused> {
+    in_pieces(buffers::part_at(body, 0, 1011), list)?;
+    in_pieces(buffers::part_at(body, 0, 1012), list)?;
+    recorded(buffers::part_at(body, 0, 795591), 4096, list)
 }
 
-fn bodies(body: &[u8], list: &mut [u16]) {
-    small(body, list);
-    large(body, list);
+fn bodies(body: &[u8], list: &mut [u16]) -> Result<(), Refused> {
+    small(body, list)?;
+    large(body, list)
 }
 
 // A list of one number for a piece of two sectors and for a close.
-fn short_lists(image: &mut [u8], record: Record, piece: &[u8]) -> Record {
+fn short_lists(image: &mut [u8], record: &mut Record, piece: &[u8]) {
     let mut list = [7u16; 1];
-    let still = added(
+    added(
         b"2000 bytes, with a list of 1",
         image,
         record,
         piece,
         &mut list,
     );
-    closed(b"TAKE, with a list of 1", image, still, &mut list);
-    points::number(b"the list: ", points::listed_at(&list, 0));
-    points::say(b"\n");
-    still
+    closed(b"TAKE, with a list of 1", image, record, &mut list);
+    points::line(b"the list: ", points::listed_at(&list, 0));
 }
 
-fn empty_piece(image: &mut [u8], record: Record, buf: &mut [u8], list: &mut [u16]) {
-    let same = added(b"no bytes", image, record, b"", list);
-    ended(image, same, buf, list);
+fn empty_piece(image: &mut [u8], record: &mut Record, buf: &mut [u8], list: &mut [u16]) {
+    added(b"no bytes", image, record, b"", list);
+    ended(image, record, buf, list);
 }
 
 // One byte more than a disk holds, and short lists: the recording goes on without them.
-fn refused(image: &mut [u8], body: &[u8], buf: &mut [u8], list: &mut [u16]) {
-    let first = opened(image, b"TAKE");
+fn refused(image: &mut [u8], body: &[u8], buf: &mut [u8], list: &mut [u16]) -> Result<(), Refused> {
+    let mut record = opened(image, b"TAKE")?;
     let large = buffers::part_at(body, 0, 795592);
-    let second = added(b"795592 bytes", image, first, large, list);
-    let third = short_lists(image, second, buffers::part_at(body, 0, 2000));
-    empty_piece(image, third, buf, list);
+    added(b"795592 bytes", image, &mut record, large, list);
+    short_lists(image, &mut record, buffers::part_at(body, 0, 2000));
+    empty_piece(image, &mut record, buf, list);
+    Ok(())
 }
 
 // ---- what comes between
-
-fn erased(image: &mut [u8], name: &[u8], list: &mut [u16]) {
-    points::title(b"erase of ", name);
-    let answer = changes::erase(image, name, list);
-    points::print_change(answer, list);
-}
 
 fn renamed(image: &mut [u8], name: &[u8], new: &[u8], list: &mut [u16]) {
     points::title(b"rename to ", new);
@@ -178,46 +149,54 @@ fn renamed(image: &mut [u8], name: &[u8], new: &[u8], list: &mut [u16]) {
 }
 
 // A recording of 1,600 bytes, four sectors, of which the second and the third are written.
-fn begun(image: &mut [u8], body: &[u8], list: &mut [u16]) -> Record {
-    let record = opened(image, b"TAKE");
-    added(
-        b"1600 bytes",
-        image,
-        record,
-        buffers::part_at(body, 0, 1600),
-        list,
-    )
+fn begun(
+    what: &[u8],
+    image: &mut [u8],
+    name: &[u8],
+    body: &[u8],
+    list: &mut [u16],
+) -> Result<Record, Refused> {
+    let mut record = opened(image, name)?;
+    let piece = buffers::part_at(body, 0, 1600);
+    added(what, image, &mut record, piece, list);
+    Ok(record)
 }
 
 // Closed, and read where it is a file then.
-fn ended(image: &mut [u8], record: Record, buf: &mut [u8], list: &mut [u16]) {
+fn ended(image: &mut [u8], record: &Record, buf: &mut [u8], list: &mut [u16]) {
     closed(b"TAKE", image, record, list);
     points::read(b"TAKE", image, b"TAKE", buf);
     points::checked(b"the disk", image);
 }
 
-fn beside_other(image: &mut [u8], body: &[u8], list: &mut [u16]) -> Record {
-    saved(image, b"OTHER", b"", list);
-    begun(image, body, list)
+fn beside_other(image: &mut [u8], body: &[u8], list: &mut [u16]) -> Result<Record, Refused> {
+    points::saved(b"OTHER", image, b"OTHER", b"", list);
+    begun(b"1600 bytes", image, b"TAKE", body, list)
 }
 
-fn hidden(image: &mut [u8], name: &[u8], list: &mut [u16]) {
-    points::title(b"hide of ", name);
-    let answer = changes::hide(image, name, list);
-    points::print_change(answer, list);
-}
-
-fn hidden_between(image: &mut [u8], body: &[u8], buf: &mut [u8], list: &mut [u16]) {
-    let record = beside_other(image, body, list);
-    hidden(image, b"OTHER", list);
-    empty_piece(image, record, buf, list);
+fn hidden_between(
+    image: &mut [u8],
+    body: &[u8],
+    buf: &mut [u8],
+    list: &mut [u16],
+) -> Result<(), Refused> {
+    let mut record = beside_other(image, body, list)?;
+    points::marked(b"hide of ", image, b"OTHER", Marking::Hide, list);
+    empty_piece(image, &mut record, buf, list);
+    Ok(())
 }
 
 // Its sectors are the lowest free ones, and so are the recording's.
-fn saved_between(image: &mut [u8], body: &[u8], buf: &mut [u8], list: &mut [u16]) {
-    let record = begun(image, body, list);
-    saved(image, b"LATE", b"", list);
-    empty_piece(image, record, buf, list);
+fn saved_between(
+    image: &mut [u8],
+    body: &[u8],
+    buf: &mut [u8],
+    list: &mut [u16],
+) -> Result<(), Refused> {
+    let mut record = begun(b"1600 bytes", image, b"TAKE", body, list)?;
+    points::saved(b"LATE", image, b"LATE", b"", list);
+    empty_piece(image, &mut record, buf, list);
+    Ok(())
 }
 
 // A save of `len` bytes, and its erase: the used map is again what it was.
@@ -228,118 +207,144 @@ fn erased_between(
     len: usize,
     buf: &mut [u8],
     list: &mut [u16],
-) {
-    let record = begun(image, body, list);
-    saved(image, b"LATE", buffers::part_at(late, 0, len), list);
-    erased(image, b"LATE", list);
-    ended(image, record, buf, list);
+) -> Result<(), Refused> {
+    let record = begun(b"1600 bytes", image, b"TAKE", body, list)?;
+    points::saved(
+        b"LATE",
+        image,
+        b"LATE",
+        buffers::part_at(late, 0, len),
+        list,
+    );
+    points::erased(image, b"LATE", list);
+    ended(image, &record, buf, list);
+    Ok(())
 }
 
-fn after_erase(body: &[u8], late: &[u8], len: usize, buf: &mut [u8], list: &mut [u16]) {
+fn after_erase(
+    body: &[u8],
+    late: &[u8],
+    len: usize,
+    buf: &mut [u8],
+    list: &mut [u16],
+) -> Result<(), Refused> {
     let mut image = points::blank();
-    erased_between(&mut image, body, late, len, buf, list);
+    erased_between(&mut image, body, late, len, buf, list)
 }
 
 // One sector of LATE's lies over the recording's first, which is written at the close; two break a link; four have the same links.
-fn all_erased(body: &[u8], late: &[u8], buf: &mut [u8], list: &mut [u16]) {
-    after_erase(body, late, 501, buf, list);
-    after_erase(body, late, 1011, buf, list);
-    after_erase(body, late, 1600, buf, list);
+fn all_erased(body: &[u8], late: &[u8], buf: &mut [u8], list: &mut [u16]) -> Result<(), Refused> {
+    after_erase(body, late, 501, buf, list)?;
+    after_erase(body, late, 1011, buf, list)?;
+    after_erase(body, late, 1600, buf, list)
 }
 
 // The sectors of the piece were not written; on a disk where LATE was, they hold these links already.
-fn cut_piece(image: &mut [u8], body: &[u8], buf: &mut [u8], list: &mut [u16]) {
+fn cut_piece(
+    image: &mut [u8],
+    body: &[u8],
+    buf: &mut [u8],
+    list: &mut [u16],
+) -> Result<(), Refused> {
     let mut whole = points::blank();
     buffers::copy_into(&mut whole, 0, image);
-    let record = begun(&mut whole, body, list);
-    let more = added(b"one byte", image, record, b"!", list);
-    ended(image, more, buf, list);
+    let mut record = begun(b"1600 bytes", &mut whole, b"TAKE", body, list)?;
+    added(b"one byte", image, &mut record, b"!", list);
+    ended(image, &record, buf, list);
+    Ok(())
 }
 
-fn all_cut(body: &[u8], late: &[u8], buf: &mut [u8], list: &mut [u16]) {
+fn all_cut(body: &[u8], late: &[u8], buf: &mut [u8], list: &mut [u16]) -> Result<(), Refused> {
     let mut image = points::blank();
-    cut_piece(&mut image, body, buf, list);
-    saved(&mut image, b"LATE", buffers::part_at(late, 0, 1600), list);
-    erased(&mut image, b"LATE", list);
-    cut_piece(&mut image, body, buf, list);
-}
-
-fn second_of_two(image: &mut [u8], body: &[u8], list: &mut [u16]) -> Record {
-    let record = opened(image, b"SECOND");
-    added(
-        b"1600 more",
-        image,
-        record,
-        buffers::part_at(body, 0, 1600),
+    cut_piece(&mut image, body, buf, list)?;
+    points::saved(
+        b"LATE",
+        &mut image,
+        b"LATE",
+        buffers::part_at(late, 0, 1600),
         list,
-    )
-}
-
-fn second_too_late(image: &mut [u8], record: Record, list: &mut [u16]) {
-    let same = added(b"no bytes", image, record, b"", list);
-    closed(b"SECOND", image, same, list);
-}
-
-fn both_ended(image: &mut [u8], first: Record, second: Record, buf: &mut [u8], list: &mut [u16]) {
-    ended(image, first, buf, list);
-    second_too_late(image, second, list);
+    );
+    points::erased(&mut image, b"LATE", list);
+    cut_piece(&mut image, body, buf, list)
 }
 
 // Both take the same sectors, until one is closed.
-fn two_at_once(image: &mut [u8], body: &[u8], late: &[u8], buf: &mut [u8], list: &mut [u16]) {
-    let first = begun(image, body, list);
-    let second = second_of_two(image, late, list);
-    both_ended(image, first, second, buf, list);
+fn two_at_once(
+    image: &mut [u8],
+    body: &[u8],
+    late: &[u8],
+    buf: &mut [u8],
+    list: &mut [u16],
+) -> Result<(), Refused> {
+    let first = begun(b"1600 bytes", image, b"TAKE", body, list)?;
+    let mut second = begun(b"1600 more", image, b"SECOND", late, list)?;
+    ended(image, &first, buf, list);
+    added(b"no bytes", image, &mut second, b"", list);
+    closed(b"SECOND", image, &second, list);
+    Ok(())
 }
 
-fn taken(image: &mut [u8], record: Record, list: &mut [u16]) {
+fn taken(image: &mut [u8], record: &Record, list: &mut [u16]) {
     renamed(image, b"OTHER", b"take", list);
     closed(b"TAKE", image, record, list);
     renamed(image, b"TAKE", b"OTHER", list);
 }
 
-fn name_taken(image: &mut [u8], body: &[u8], buf: &mut [u8], list: &mut [u16]) {
-    let record = beside_other(image, body, list);
-    taken(image, record, list);
-    ended(image, record, buf, list);
+fn name_taken(
+    image: &mut [u8],
+    body: &[u8],
+    buf: &mut [u8],
+    list: &mut [u16],
+) -> Result<(), Refused> {
+    let record = beside_other(image, body, list)?;
+    taken(image, &record, list);
+    ended(image, &record, buf, list);
+    Ok(())
 }
 
-fn marks(body: &[u8], buf: &mut [u8], list: &mut [u16]) {
+fn marks(body: &[u8], buf: &mut [u8], list: &mut [u16]) -> Result<(), Refused> {
     let mut image = points::blank();
-    hidden_between(&mut image, body, buf, list);
+    hidden_between(&mut image, body, buf, list)
 }
 
-fn new_file(body: &[u8], buf: &mut [u8], list: &mut [u16]) {
+fn new_file(body: &[u8], buf: &mut [u8], list: &mut [u16]) -> Result<(), Refused> {
     let mut image = points::blank();
-    saved_between(&mut image, body, buf, list);
+    saved_between(&mut image, body, buf, list)
 }
 
-fn two(body: &[u8], late: &[u8], buf: &mut [u8], list: &mut [u16]) {
+fn two(body: &[u8], late: &[u8], buf: &mut [u8], list: &mut [u16]) -> Result<(), Refused> {
     let mut image = points::blank();
-    two_at_once(&mut image, body, late, buf, list);
+    two_at_once(&mut image, body, late, buf, list)
 }
 
-fn new_name(body: &[u8], buf: &mut [u8], list: &mut [u16]) {
+fn new_name(body: &[u8], buf: &mut [u8], list: &mut [u16]) -> Result<(), Refused> {
     let mut image = points::blank();
-    name_taken(&mut image, body, buf, list);
+    name_taken(&mut image, body, buf, list)
 }
 
-fn written_over(body: &[u8], late: &[u8], buf: &mut [u8], list: &mut [u16]) {
-    all_erased(body, late, buf, list);
-    all_cut(body, late, buf, list);
-    two(body, late, buf, list);
+fn written_over(body: &[u8], late: &[u8], buf: &mut [u8], list: &mut [u16]) -> Result<(), Refused> {
+    all_erased(body, late, buf, list)?;
+    all_cut(body, late, buf, list)?;
+    two(body, late, buf, list)
 }
 
-fn between(body: &[u8], late: &[u8], buf: &mut [u8], list: &mut [u16]) {
-    marks(body, buf, list);
-    new_file(body, buf, list);
-    written_over(body, late, buf, list);
-    new_name(body, buf, list);
+fn between(body: &[u8], late: &[u8], buf: &mut [u8], list: &mut [u16]) -> Result<(), Refused> {
+    marks(body, buf, list)?;
+    new_file(body, buf, list)?;
+    written_over(body, late, buf, list)?;
+    new_name(body, buf, list)
 }
 
-fn alone(body: &[u8], buf: &mut [u8], list: &mut [u16]) {
+fn alone(body: &[u8], buf: &mut [u8], list: &mut [u16]) -> Result<(), Refused> {
     let mut image = points::blank();
-    refused(&mut image, body, buf, list);
+    refused(&mut image, body, buf, list)
+}
+
+// An opening that is refused, which none here is, ends the program.
+fn tried(body: &[u8], late: &[u8], buf: &mut [u8], list: &mut [u16]) -> Result<(), Refused> {
+    bodies(body, list)?;
+    alone(body, buf, list)?;
+    between(body, late, buf, list)
 }
 
 fn main() {
@@ -347,13 +352,11 @@ fn main() {
     let mut late = points::blank();
     let mut buf = points::blank();
     let mut list = [0u16; 1562];
-    buffers::copy_into(&mut body, 0, b"HEAD");
-    buffers::copy_into(&mut body, 501, b"MIDDLE!");
-    buffers::copy_into(&mut late, 0, b"LATE");
-    buffers::copy_into(&mut late, 501, b"LATER..");
-    buffers::copy_into(&mut buf, 0, b"....");
-    buffers::copy_into(&mut buf, 501, b".......");
-    bodies(&body, &mut list);
-    alone(&body, &mut buf, &mut list);
-    between(&body, &late, &mut buf, &mut list);
+    points::mark_body(&mut body, b"HEAD", b"MIDDLE!");
+    points::mark_body(&mut late, b"LATE", b"LATER..");
+    points::mark_body(&mut buf, b"....", b".......");
+    if let Err(r) = tried(&body, &late, &mut buf, &mut list) {
+        points::say(b"opening of a recording: ");
+        points::refused(r);
+    }
 }

@@ -13,11 +13,9 @@ fn both(what: &[u8], image: &[u8]) {
 fn changed(what: &[u8], image: &mut [u8], at: usize, one: u8, two: u8)
     requires { at < 819200 }
 {
-    let new = [one, two];
-    let old = [buffers::byte_at(image, at), buffers::byte_at(image, at + 1)];
-    buffers::copy_into(image, at, &new);
+    let old = points::exchange(image, at, [one, two]);
     both(what, image);
-    buffers::copy_into(image, at, &old);
+    points::exchange(image, at, old);
 }
 
 // Slot 1, 2 sectors: track 4, sectors 1 and 2, which are map bits 0 and 1.

@@ -1,55 +1,21 @@
 // Points of document 02's M-111: reports as the app lends them, on each side of every edge.
 #![tactic(auto)]
 
-use geometry::Address;
-use refusals::Answer;
+ghost use Rattle.std.specs.Prelude.{◌<◌};
 
-fn answered(what: &[u8], answer: Answer) {
-    points::say(what);
-    match answer {
-        Answer::Done(disks, _) => {
-            points::number(b": disks ", disks);
-            points::say(b"\n");
-        }
-        Answer::Err(r) => {
-            points::say(b": ");
-            points::refused(r);
-        }
-    }
-}
+use refusals::Refused;
 
-// A chain of so many sectors, from map bit 0 on.
-fn chain(image: &mut [u8], count: usize) {
-    let mut bit: usize = 0;
-    while bit < 1560 {
-        let at = geometry::bit_place(bit);
-        bit += 1;
-        if bit == count {
-            points::link(image, at, 0, 0);
-        } else {
-            match geometry::address_of(bit) {
-                Address::Sector(track, sector) => points::link(image, at, track, sector),
-                Address::NoBit => points::link(image, at, 0, 0),
-            }
-        }
-    }
-}
-
-fn mark_first(map: &mut [u8], count: usize) {
-    let mut bit: usize = 0;
-    while bit < 1560 {
-        let b = bit;
-        bit += 1;
-        if b < count {
-            maps::set_bit(map, b);
-        }
-    }
+fn answered(what: &[u8], answer: Result<usize, Refused>) {
+    points::title(b"", what);
+    points::counted(b"disks ", answer);
 }
 
 // Slot 1: a file of kind 5, which is not carried, in so many sectors from map bit 0 on.
 fn one_file(image: &mut [u8], count: usize) {
     let mut map = [0u8; 195];
-    mark_first(&mut map, count);
+    for bit in 0..count.min(1560) {
+        maps::set_bit(&mut map, bit);
+    }
     points::set(image, 0, 5);
     buffers::copy_into(image, 1, b"FILE      ");
     points::set(image, 11, points::low(count / 256));
@@ -57,27 +23,32 @@ fn one_file(image: &mut [u8], count: usize) {
     points::set(image, 13, 4);
     points::set(image, 14, 1);
     buffers::copy_into(image, 15, &map);
-    chain(image, count);
+    points::disks::chain(image, count);
 }
 
-fn number_in(bytes: &[u8], k: usize) -> usize {
-    let at = buffers::lesser(k, 123) * 4;
-    let low = buffers::num_at(bytes, at) + 256 * buffers::num_at(bytes, at + 1);
-    low + 65536 * (buffers::num_at(bytes, at + 2) + 256 * buffers::num_at(bytes, at + 3))
+// The number at a place of a report: four bytes, low byte first.
+fn number_at(bytes: &[u8], at: usize) -> usize
+    requires { at < 496 }
+{
+    let number = [
+        buffers::byte_at(bytes, at),
+        buffers::byte_at(bytes, at + 1),
+        buffers::byte_at(bytes, at + 2),
+        buffers::byte_at(bytes, at + 3),
+    ];
+    u32::from_le_bytes(number) as usize
 }
 
 // The numbers of a report that are not 0, each after its place.
 fn shown(what: &[u8], bytes: &[u8]) {
     points::say(what);
     points::say(b":");
-    let mut k: usize = 0;
-    while k < 124 {
-        let n = number_in(bytes, k);
+    for k in 0..124 {
+        let n = number_at(bytes, 4 * k);
         if n != 0 {
             points::number(b" ", k);
             points::number(b"=", n);
         }
-        k += 1;
     }
     points::say(b"\n");
 }

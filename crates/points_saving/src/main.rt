@@ -1,55 +1,32 @@
 // Points of document 01: save, up to the largest body that a disk holds.
 #![tactic(auto)]
 
-fn saved(what: &[u8], image: &mut [u8], name: &[u8], body: &[u8], list: &mut [u16]) {
-    points::title(b"save of ", what);
-    let answer = saves::save(image, 19, name, 29, 32768, b"", b"", body, list);
-    points::print_change(answer, list);
-}
-
-fn saved_at(
-    what: &[u8],
-    image: &mut [u8],
-    kind: usize,
-    page: usize,
-    offset: usize,
-    list: &mut [u16],
-) {
-    points::title(b"save of ", what);
-    let answer = saves::save(image, kind, b"FILE X", page, offset, b"", b"", b"", list);
-    points::print_change(answer, list);
-}
-
-fn erased(image: &mut [u8], name: &[u8], list: &mut [u16]) {
-    points::title(b"erase of ", name);
-    let answer = changes::erase(image, name, list);
-    points::print_change(answer, list);
-}
+use allocation::HeaderFields;
 
 // The largest body that a disk holds, and the next.
 fn largest(image: &mut [u8], body: &[u8], list: &mut [u16]) {
-    saved(
+    points::saved(
         b"795592 bytes",
         image,
         b"BIG",
         buffers::part_at(body, 0, 795592),
         list,
     );
-    saved(
+    points::saved(
         b"795591 bytes",
         image,
         b"BIG",
         buffers::part_at(body, 0, 795591),
         list,
     );
-    saved(b"no bytes on a full disk", image, b"FILE A", b"", list);
+    points::saved(b"no bytes on a full disk", image, b"FILE A", b"", list);
 }
 
 // The same read back, and erased.
 fn largest_back(image: &mut [u8], buf: &mut [u8], list: &mut [u16]) {
     points::read(b"BIG", image, b"BIG", buf);
     points::started(b"BIG", image, b"BIG");
-    erased(image, b"BIG", list);
+    points::erased(image, b"BIG", list);
     points::read(b"BIG", image, b"BIG", buf);
     points::listed(b"the disk", image, buf);
 }
@@ -72,7 +49,7 @@ fn length_bytes(image: &[u8]) {
 
 // Length 16,384 is pages 1, remainder 0.
 fn one_page(image: &mut [u8], body: &[u8], buf: &mut [u8], list: &mut [u16]) {
-    saved(
+    points::saved(
         b"16384 bytes",
         image,
         b"PAGE",
@@ -81,39 +58,50 @@ fn one_page(image: &mut [u8], body: &[u8], buf: &mut [u8], list: &mut [u16]) {
     );
     length_bytes(image);
     points::read(b"PAGE", image, b"PAGE", buf);
-    erased(image, b"PAGE", list);
+    points::erased(image, b"PAGE", list);
 }
 
 fn unfit_names(image: &mut [u8], list: &mut [u16]) {
-    saved(b"a name from a space", image, b" FILE", b"", list);
-    saved(b"a name of 11 bytes", image, b"ELEVENBYTES", b"", list);
+    points::saved(b"a name from a space", image, b" FILE", b"", list);
+    points::saved(b"a name of 11 bytes", image, b"ELEVENBYTES", b"", list);
+}
+
+fn unfit_start(
+    what: &[u8],
+    image: &mut [u8],
+    kind: usize,
+    page: usize,
+    offset: usize,
+    list: &mut [u16],
+) {
+    let file = HeaderFields { kind, page, offset };
+    points::saved_as(what, image, file, b"FILE X", b"", list);
 }
 
 fn unfit(image: &mut [u8], list: &mut [u16]) {
-    saved_at(b"kind 21", image, 21, 0, 32768, list);
-    saved_at(b"page 32", image, 16, 32, 32768, list);
-    saved_at(b"offset 49152", image, 16, 0, 49152, list);
+    unfit_start(b"kind 21", image, 21, 0, 32768, list);
+    unfit_start(b"page 32", image, 16, 32, 32768, list);
+    unfit_start(b"offset 49152", image, 16, 0, 49152, list);
 }
 
 // One number fewer than a save names.
 fn short_list(image: &mut [u8]) {
     let mut list = [7u16; 1];
-    saved(
+    points::saved(
         b"no bytes with a list of 1",
         image,
         b"FILE X",
         b"",
         &mut list,
     );
-    points::number(b"the list: ", points::listed_at(&list, 0));
-    points::say(b"\n");
+    points::line(b"the list: ", points::listed_at(&list, 0));
 }
 
 // What is refused, on a disk of one file.
 fn refused(image: &mut [u8]) {
     let mut list = [0u16; 8];
-    saved(b"no bytes", image, b"FILE A", b"", &mut list);
-    saved(b"a name that is live", image, b"FILE A", b"", &mut list);
+    points::saved(b"no bytes", image, b"FILE A", b"", &mut list);
+    points::saved(b"a name that is live", image, b"FILE A", b"", &mut list);
     unfit_names(image, &mut list);
     unfit(image, &mut list);
     short_list(image);
@@ -130,8 +118,7 @@ fn main() {
     let mut image = points::blank();
     let mut body = points::blank();
     let mut buf = points::blank();
-    buffers::copy_into(&mut body, 0, b"HEAD");
-    buffers::copy_into(&mut body, 501, b"MIDDLE!");
+    points::mark_body(&mut body, b"HEAD", b"MIDDLE!");
     accepted(&mut image, &body, &mut buf);
     refused(&mut image);
 }

@@ -1,8 +1,8 @@
 // Points of document 02's M-107: files of kinds 1 to 4, whose header has their length and their start.
 #![tactic(auto)]
 
-use readers::OpenAnswer;
-use refusals::Answer;
+use changes::Marking;
+use refusals::Refused;
 
 mod disks; // the disk that is tried
 
@@ -11,17 +11,11 @@ const LENGTH: usize = 41985;
 
 const START: usize = 41987;
 
-// A read into a buffer of dots, with room for more than two sectors.
-fn read(what: &[u8], image: &[u8], name: &[u8]) {
-    let mut buf = [b'.'; 1100];
-    points::read(what, image, name, &mut buf);
-}
-
 // The same in pieces: the length that opening answers, and the first four bytes.
 fn played(what: &[u8], image: &[u8], name: &[u8]) {
     points::title(b"opening of ", what);
     match readers::begin(image, name) {
-        OpenAnswer::At(p) => {
+        Ok(p) => {
             points::number(b"left ", p.left);
             let mut buf = [b'.'; 4];
             let piece = readers::resume(image, p, &mut buf);
@@ -30,13 +24,13 @@ fn played(what: &[u8], image: &[u8], name: &[u8]) {
             points::say(&buf);
             points::say(b"\n");
         }
-        OpenAnswer::Err(r) => points::refused(r),
+        Err(r) => points::refused(r),
     }
 }
 
 // All three calls that ask for a file by name.
 fn asked(what: &[u8], image: &[u8], name: &[u8]) {
-    read(what, image, name);
+    points::read_dots(what, image, name);
     played(what, image, name);
     points::started(what, image, name);
 }
@@ -63,9 +57,9 @@ fn carried_kind(image: &mut [u8]) {
 }
 
 fn length(what: &[u8], image: &mut [u8], low: u8, high: u8) {
-    disks::word(image, LENGTH, low, high);
+    points::exchange(image, LENGTH, [low, high]);
     points::checked(what, image);
-    read(what, image, b"SPECTRUM");
+    points::read_dots(what, image, b"SPECTRUM");
 }
 
 // 510 × 2 is 1,020, which 9 + 1,011 just reaches.
@@ -82,11 +76,11 @@ fn lengths_too_great(image: &mut [u8]) {
     length(b"length 65535 in 2 sectors", image, 255, 255);
     played(b"length 65535 in 2 sectors", image, b"SPECTRUM");
     points::started(b"length 65535 in 2 sectors", image, b"SPECTRUM");
-    disks::word(image, LENGTH, 249, 1);
+    points::exchange(image, LENGTH, [249, 1]);
 }
 
 fn start(what: &[u8], image: &mut [u8], low: u8, high: u8) {
-    disks::word(image, START, low, high);
+    points::exchange(image, START, [low, high]);
     points::started(what, image, b"SPECTRUM");
 }
 
@@ -94,7 +88,7 @@ fn starts(image: &mut [u8]) {
     start(b"a start 0", image, 0, 0);
     start(b"a start 513", image, 1, 2);
     start(b"a start 65535", image, 255, 255);
-    disks::word(image, START, 0, 64);
+    points::exchange(image, START, [0, 64]);
 }
 
 // Buffers that are one byte short, and just long enough.
@@ -115,16 +109,16 @@ fn another_header(image: &mut [u8]) {
 // The check with two bytes of the disk changed, which are then put back to 0.
 fn changed(what: &[u8], image: &mut [u8], at: usize, one: u8, two: u8) {
     if at < 819200 {
-        disks::word(image, at, one, two);
+        points::exchange(image, at, [one, two]);
         points::checked(what, image);
-        disks::word(image, at, 0, 0);
+        points::exchange(image, at, [0, 0]);
     }
 }
 
 // The last link of slot 2's file and of slot 3's, without 25 at slot 2 and with it: which comes first.
 fn orders(image: &mut [u8]) {
     changed(b"10 at slot 2", image, 41982, 4, 3);
-    disks::word(image, LENGTH, 244, 3);
+    points::exchange(image, LENGTH, [244, 3]);
     changed(b"10 and 25 at slot 2", image, 41982, 4, 3);
     changed(b"25 at slot 2", image, 41982, 0, 0);
     changed(b"25 at slot 2, 10 at slot 3", image, 43006, 4, 4);
@@ -147,18 +141,12 @@ fn orders_of_passes(image: &mut [u8]) {
 fn put_back(image: &mut [u8]) {
     points::set(image, 512, 5);
     points::set(image, 40960, 19);
-    disks::word(image, LENGTH, 249, 1);
+    points::exchange(image, LENGTH, [249, 1]);
     points::checked(b"the disk as it was", image);
 }
 
-fn told(answer: Answer) {
-    match answer {
-        Answer::Done(n, _) => {
-            points::number(b"sectors ", n);
-            points::say(b"\n");
-        }
-        Answer::Err(r) => points::refused(r),
-    }
+fn told(answer: Result<usize, Refused>) {
+    points::counted(b"sectors ", answer);
 }
 
 fn saved(what: &[u8], image: &mut [u8], kind: usize) {
@@ -184,9 +172,9 @@ fn renamed(image: &mut [u8]) {
 fn marked(image: &mut [u8]) {
     let mut list = [0u16; 1];
     points::title(b"hide of ", b"JET SET");
-    told(changes::hide(image, b"JET SET", &mut list));
+    told(changes::set_mark(image, b"JET SET", Marking::Hide, &mut list));
     points::title(b"protect of ", b"JET SET");
-    told(changes::protect(image, b"JET SET", &mut list));
+    told(changes::set_mark(image, b"JET SET", Marking::Protect, &mut list));
 }
 
 // A new name and the marks leave the body and the start.

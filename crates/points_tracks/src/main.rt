@@ -2,64 +2,9 @@
 // which map bits are data, what a save into slot 1 keeps, and a directory of 778 slots.
 #![tactic(auto)]
 
-ghost use Rattle.std.specs.Prelude.{◌<◌};
-
-use geometry::Address;
-use refusals::Answer;
-
-fn put(image: &mut [u8], at: usize, b: u8) {
-    let one = [b];
-    buffers::copy_into(image, at, &one);
-}
-
-// A file of kind 5 in slot `i`, counted from 0: one sector, that of map bit `bit`, and a name of three letters.
-fn file(image: &mut [u8], i: usize, bit: usize)
-    requires { i < 778 }
-{
-    let at = directory::slot_place(i);
-    let front = [
-        5,
-        b'A' + (i / 100) as u8,
-        b'A' + (i / 10 % 10) as u8,
-        b'A' + (i % 10) as u8,
-        b' ',
-        b' ',
-        b' ',
-        b' ',
-        b' ',
-        b' ',
-        b' ',
-        0,
-        1,
-    ];
-    buffers::copy_into(image, at, &front);
-    let mut map = [0u8; 195];
-    maps::set_bit(&mut map, bit);
-    buffers::copy_into(image, at + 15, &map);
-    match geometry::address_of(bit) {
-        Address::Sector(track, sector) => {
-            put(image, at + 13, (track % 256) as u8);
-            put(image, at + 14, (sector % 256) as u8);
-        }
-        Address::NoBit => {}
-    }
-}
-
-// Such files in all slots before slot `to`, at the map bits from 350 on.
-fn files(image: &mut [u8], to: usize) {
-    let mut i: usize = 0;
-    while i < 778 {
-        if to <= i {
-            return;
-        }
-        file(image, i, 350 + i);
-        i += 1;
-    }
-}
-
 // An empty disk with that byte.
 fn tracks(what: &[u8], image: &mut [u8], n: u8, buf: &mut [u8]) {
-    put(image, 255, n);
+    points::set(image, 255, n);
     points::checked(what, image);
     points::listed(what, image, buf);
 }
@@ -67,29 +12,24 @@ fn tracks(what: &[u8], image: &mut [u8], n: u8, buf: &mut [u8]) {
 // Slot `i`, counted from 0: its place and its sector.
 fn placed(before: &[u8], i: usize) {
     points::number(before, directory::slot_place(i));
-    points::number(b", sector ", directory::dir_sector(i));
-    points::say(b"\n");
+    points::line(b", sector ", directory::dir_sector(i));
 }
 
 // A file at that map bit, with one track beyond four.
 fn at_bit(what: &[u8], image: &mut [u8], bit: usize) {
-    file(image, 0, bit);
-    put(image, 255, 1);
+    points::disks::lettered_file(image, 0, bit);
+    points::set(image, 255, 1);
     points::checked(what, image);
 }
 
 fn saved(what: &[u8], image: &mut [u8], name: &[u8]) {
     let mut list = [0u16; 3];
-    points::title(b"save of ", what);
-    let answer = saves::save(image, 16, name, 0, 32768, b"", b"", b"body", &mut list);
-    points::print_change(answer, &list);
+    points::saved_as(what, image, points::BASIC, name, b"body", &mut list);
 }
 
 fn erased(what: &[u8], image: &mut [u8], name: &[u8]) {
     let mut list = [0u16; 3];
-    points::title(b"erase of ", what);
-    let answer = changes::erase(image, name, &mut list);
-    points::print_change(answer, &list);
+    points::erased_as(what, image, name, &mut list);
 }
 
 // A body of four bytes.
@@ -97,13 +37,13 @@ fn read(what: &[u8], image: &[u8], name: &[u8]) {
     let mut body = [0u8; 4];
     points::title(b"read of ", what);
     match files::read(image, name, &mut body) {
-        Answer::Done(len, _) => {
+        Ok(len) => {
             points::number(b"length ", len);
             points::say(b", bytes ");
             points::say(&body);
             points::say(b"\n");
         }
-        Answer::Err(r) => points::refused(r),
+        Err(r) => points::refused(r),
     }
 }
 
@@ -150,9 +90,9 @@ fn map_bits() {
 fn name_kept() {
     let mut image = points::blank();
     buffers::copy_into(&mut image, 210, b"SAM'S DISK");
-    put(&mut image, 252, 17);
-    put(&mut image, 253, 4);
-    put(&mut image, 255, 1);
+    points::set(&mut image, 252, 17);
+    points::set(&mut image, 253, 4);
+    points::set(&mut image, 255, 1);
     saved(b"a file into slot 1", &mut image, b"FIRST");
     label(&image);
     erased(b"it", &mut image, b"FIRST");
@@ -163,8 +103,8 @@ fn name_kept() {
 fn a_full_directory() {
     let mut image = points::blank();
     let mut buf = points::blank();
-    files(&mut image, 777);
-    put(&mut image, 255, 35);
+    points::disks::many_files(&mut image, 777);
+    points::set(&mut image, 255, 35);
     points::listed(b"777 files", &image, &mut buf);
     saved(b"one more", &mut image, b"LAST");
     points::listed(b"778 files", &image, &mut buf);

@@ -4,36 +4,29 @@
 
 ghost use Rattle.std.specs.Prelude.{◌<◌};
 
-use refusals::Answer;
-
-fn put(image: &mut [u8], at: usize, b: u8) {
-    let one = [b];
-    buffers::copy_into(image, at, &one);
-}
-
 // A directory in slot `i`, counted from 0, with a name of two letters, its code and the code of the one that it is in.
 fn directory_slot(image: &mut [u8], i: usize, code: u8, parent: u8)
     requires { i < 300 }
 {
     let at = directory::slot_place(i);
     buffers::copy_into(image, at, b"\x15          ");
-    put(image, at + 1, b'A' + (i / 26) as u8);
-    put(image, at + 2, b'A' + (i % 26) as u8);
-    put(image, at + 250, code);
-    put(image, at + 254, parent);
+    points::set(image, at + 1, b'A' + (i / 26) as u8);
+    points::set(image, at + 2, b'A' + (i % 26) as u8);
+    points::set(image, at + 250, code);
+    points::set(image, at + 254, parent);
 }
 
 // A file of kind 5 in slot 5, with the sector of map bit 0, in the directory with a code.
 fn file(image: &mut [u8], parent: u8) {
     buffers::copy_into(image, 1024, b"\x05FILE      \x00\x01\x04\x01\x01");
-    put(image, 1278, parent);
+    points::set(image, 1278, parent);
 }
 
 // How many, and the front of the list as it then is.
 fn treed_into(what: &[u8], image: &[u8], name: &[u8], list: &mut [u16]) {
     points::title(b"tree of ", what);
     match tree_lists::list_tree(image, name, list) {
-        Answer::Done(n, _) => {
+        Ok(n) => {
             points::number(b"slots ", n);
             points::three(
                 b", list ",
@@ -42,7 +35,7 @@ fn treed_into(what: &[u8], image: &[u8], name: &[u8], list: &mut [u16]) {
                 points::listed_at(list, 2),
             );
         }
-        Answer::Err(r) => points::refused(r),
+        Err(r) => points::refused(r),
     }
 }
 
@@ -53,9 +46,7 @@ fn treed(what: &[u8], image: &[u8], name: &[u8]) {
 
 fn erased(what: &[u8], image: &mut [u8], name: &[u8]) {
     let mut list = [0u16; 1];
-    points::title(b"erase of ", what);
-    let answer = changes::erase(image, name, &mut list);
-    points::print_change(answer, &list);
+    points::erased_as(what, image, name, &mut list);
 }
 
 // An empty directory: what its kind refuses, and what it does not.
@@ -65,16 +56,16 @@ fn empty_directory(image: &mut [u8]) {
     treed(b"an empty directory", image, b"AA");
     treed(b"the root", image, b"");
     points::started(b"a directory", image, b"AA");
-    put(image, 12, 1);
+    points::set(image, 12, 1);
     points::checked(b"a directory with a count of 1", image);
-    put(image, 12, 0);
+    points::set(image, 12, 0);
 }
 
 fn map_and_address(image: &mut [u8]) {
-    put(image, 15, 1);
+    points::set(image, 15, 1);
     points::checked(b"a directory with a map bit", image);
-    put(image, 15, 0);
-    put(image, 13, 3);
+    points::set(image, 15, 0);
+    points::set(image, 13, 3);
     points::checked(b"a directory with a first address", image);
 }
 
@@ -111,7 +102,7 @@ fn full_and_empty(image: &mut [u8]) {
 }
 
 fn protected_and_last(image: &mut [u8]) {
-    put(image, 768, 85);
+    points::set(image, 768, 85);
     erased(b"a protected directory", image, b"AD");
     erased(b"the file", image, b"FILE");
     erased(b"the directory that it was in", image, b"AB");
@@ -162,12 +153,10 @@ fn code_0(image: &mut [u8]) {
 
 // Directories inside directories, each in the slot behind the one that it is in; slot 1's last byte gives nine tracks more.
 fn nested(image: &mut [u8]) {
-    let mut i: usize = 0;
-    while i < 255 {
-        directory_slot(image, i, (i + 1) as u8, i as u8);
-        i += 1;
+    for i in 0..255 {
+        directory_slot(image, usize::from(i), i + 1, i);
     }
-    put(image, 255, 9);
+    points::set(image, 255, 9);
 }
 
 fn one_short(image: &[u8]) {
@@ -192,7 +181,7 @@ fn deep_erased(image: &mut [u8]) {
     erased(b"the last but one", image, b"JT");
     erased(b"the last", image, b"JU");
     directory_slot(image, 254, 255, 254);
-    put(image, 254, 255);
+    points::set(image, 254, 255);
     treed(b"a ring of 255", image, b"");
 }
 

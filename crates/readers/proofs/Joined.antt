@@ -9,7 +9,7 @@ use lib.ListN.{length, take}
 use lib.Seq.{take_all}
 use Rattle.buffers.specs.Bytes.{tab, part}
 use Rattle.buffers.proofs.Lists.{length-tab, get_or-tab, tab_of, tab_cong, length_part, part_at}
-use Rattle.refusals.specs.Order.{Reply, ◌else◌, row}
+use Rattle.refusals.specs.Order.{Reply, row}
 use Rattle.slots.specs.Slot.{kind_of, readable, slot_fields}
 use Rattle.slots.proofs.Tracks.{data_few}
 use Rattle.chains.specs.File.{File, file_of}

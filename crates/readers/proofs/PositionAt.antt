@@ -4,7 +4,7 @@ use mathlib.Core.Path.{◌≡◌, refl, sym, ap, ap₂, ◌∙◌, subst}
 use mathlib.Core.Bool.{Bool, true, false, cond, ◌&&◌}
 use mathlib.Core.List.{List, []}
 use native.Mathlib.Omega.{arith}
-use borrow.Author.Tests.{lt-ltb, le-ltb, le-leb, lt-leb, eq-eqb, ne_eqb, ltb-true, leb-true, eqb-true}
+use borrow.Author.Tests.{lt-ltb, le-ltb, le-leb, eq-eqb, ltb-true, leb-true, eqb-true}
 use lib.Dec.{eqb, ltb, leb}
 use lib.ListN.{length}
 use Rattle.buffers.specs.Bytes.{tab}
@@ -48,24 +48,6 @@ standing_at d p w = rw (can d p w)
 pub standing_not : (d : List ℕ) (p : Place) → is_reader_place d p ≡ false → position_at d p ≡ no_position
 unfolding position_at
 standing_not d p e = rw e
-
-pub not_long : (d : List ℕ) (p : Place) → (length d ≡ image_size → ⊥) → is_reader_place d p ≡ false
-unfolding is_reader_place
-not_long d p h = rw (ne_eqb (length d) image_size h)
-
-module _ (d : List ℕ) (p : Place) (e : length d ≡ image_size) where
-  pub not_sector : 1600 ≤ p.sector → is_reader_place d p ≡ false
-  unfolding is_reader_place
-  not_sector h = rw (eq-eqb (length d) image_size e, le-ltb p.sector 1600 h)
-
-  module _ (s : p.sector < 1600) where
-    pub not_payload : 510 ≤ p.offset → is_reader_place d p ≡ false
-    unfolding is_reader_place
-    not_payload h = rw (eq-eqb (length d) image_size e, lt-ltb p.sector 1600 s, le-ltb p.offset 510 h)
-
-    pub not_left : p.offset < 510 → longest < p.left → is_reader_place d p ≡ false
-    unfolding is_reader_place
-    not_left o h = rw (eq-eqb (length d) image_size e, lt-ltb p.sector 1600 s, lt-ltb p.offset 510 o, lt-leb p.left longest h)
 
 -- no sector has the number 1,600
 pub at_end : (d : List ℕ) (p : Place) → p.sector ≡ 1600 → position_at d p ≡ no_position

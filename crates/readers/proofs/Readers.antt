@@ -72,7 +72,7 @@ reads-body n r e =
       whole = λ rooms h. joined_is rooms r ∙ joined-whole d n p e rooms h;
       piece = λ rooms room. ap (λ (r : Reader). reader_bytes r room) (past_is rooms r) ∙ each-piece d n p e rooms room;
       came = λ rooms room. ap (λ (r : Reader). (reader_piece r room).came) (past_is rooms r) ∙ each-came d n p e rooms room;
-      left = λ rooms. ap (λ (r : Reader). r.left) (past_is rooms r) ∙ each_left d n p e rooms;
+      left = λ rooms. ap (λ (r : Reader). r.at.left) (past_is rooms r) ∙ each_left d n p e rooms;
     }
 
 -- ---- "The pieces joined are the body that one read gives, however the asking is cut."

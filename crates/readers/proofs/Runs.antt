@@ -2,6 +2,7 @@
 use Prim.Native.Nat.{ℕ, ◌+◌, ◌-◌, ◌*◌, ◌/◌, ◌≤◌, ◌<◌, min}
 use mathlib.Core.Path.{◌≡◌, refl, sym, ap, ap₂, ◌∙◌}
 use mathlib.Core.List.{List, []}
+use mathlib.Core.Logic.{◌⊎◌, ⊎_elim}
 use native.Mathlib.Nat.{add-zero}
 use native.Mathlib.Omega.{arith}
 use borrow.Author.Tests.{lt-ltb, le-ltb}
@@ -11,6 +12,7 @@ use Rattle.buffers.proofs.Lists.{tab_of, part-long, part_at, length-put, put-non
 use Rattle.geometry.specs.Disk.{image_size, bit_of, place_or_end}
 use Rattle.files.proofs.Body.{put_tab_run}
 use Rattle.readers.specs.declared.Position.{Position}
+use Rattle.readers.specs.declared.Place.{Place}
 use Rattle.readers.specs.Positions.{next_sector_number, position_of, position_or_next, is_byte, byte_at, position_after}
 use Rattle.readers.specs.Pieces.{read_place, bytes_coming, bytes_came, next_bytes, buffer_after, place_after, piece_at, piece_of, PlaceInRange}
 use Rattle.readers.proofs.Positions.{ahead_past, ahead_small, further_add, within, beyond, coming_add, none_come, all_come}
@@ -73,18 +75,20 @@ module _ (d : List ℕ) (q : Position) (want : ℕ) (buf : List ℕ) (at from do
           part_at (at * 512 + from) m d i l ∙ ap (λ (a : ℕ). get_or d a 0) p ∙ ap (byte_at d) (sym (on i ∙ within d at from h i (omega (arith, w.small)))))
 
   -- all that is wanted has come, or the chain has ended before
-  pub all_came : want ≤ done → bytes_coming d q want ≡ done
+  all_came : want ≤ done → bytes_coming d q want ≡ done
   all_came h = let p : want ≡ done = omega (arith, w.far) in ap (bytes_coming d q) p ∙ w.all
 
-  pub ended : 1600 ≤ at → bytes_coming d q want ≡ done
+  ended : 1600 ≤ at → bytes_coming d q want ≡ done
   ended h =
       let p : want ≡ done + (want - done) = omega (arith, w.far) in
       ap (bytes_coming d q) p ∙ comes (want - done) ∙ ap (λ (c : ℕ). done + c) (none_come d (position_of at from) (le-ltb at 1600 h) (want - done)) ∙ add-zero done
 
 -- the piece that is then answered
-pub answered : (d : List ℕ) (n o left want : ℕ) (buf : List ℕ) (at from done : ℕ) (e : List ℕ) → PieceCopyLoop d (position_of n o) want buf at from done e
-    → bytes_coming d (position_of n o) want ≡ done → PlaceInRange d (read_place n o left) → want ≡ min left (length buf)
-    → (piece_at done (read_place at from (left - done)) ≡ piece_of d (read_place n o left) (length buf)) × (e ≡ buffer_after d (read_place n o left) buf)
+pub answered : (d : List ℕ) (p : Place) (want : ℕ) (buf : List ℕ) (at from done : ℕ) (e : List ℕ) → PieceCopyLoop d (position_of p.sector p.offset) want buf at from done e
+    → (want ≤ done) ⊎ (1600 ≤ at) → PlaceInRange d p → want ≡ min p.left (length buf)
+    → (piece_at done (read_place at from (p.left - done)) ≡ piece_of d p (length buf)) × (e ≡ buffer_after d p buf)
 unfolding piece_of bytes_came next_bytes place_after
-answered d n o left want buf at from done e w t p q =
-    (rw (standing_at d (read_place n o left) p, ← q, t, w.here) refl, rw (standing_at d (read_place n o left) p, ← q, t) w.copied)
+answered d p want buf at from done e w h r q =
+    let t : bytes_coming d (position_of p.sector p.offset) want ≡ done =
+    ⊎_elim (all_came d (position_of p.sector p.offset) want buf at from done e w) (ended d (position_of p.sector p.offset) want buf at from done e w) h in
+    (rw (standing_at d p r, ← q, t, w.here) refl, rw (standing_at d p r, ← q, t) w.copied)

@@ -1,8 +1,9 @@
 -- Opening a file by its name, as a function of the view. The words of document 02 stand above what they define.
-use Rattle.std.specs.Prelude.{ℕ, List, [], ◌∷◌}
+use Rattle.std.specs.Prelude.{ℕ, List, [], ◌∷◌, Result, Ok, Err}
 use Rattle.std.proofs.Math.Option.{none, some}
 use Rattle.refusals.specs.Order.{Refusal, Reply, SlotRow}
 use Rattle.refusals.specs.Answers.{refusal_of}
+use Rattle.refusals.specs.declared.Refused.{Refused}
 use Rattle.slots.specs.Slot.{slot_fields}
 use Rattle.names.specs.Name.{askable}
 use Rattle.chains.specs.File.{File}
@@ -11,8 +12,6 @@ use Rattle.disk.specs.View.{View, view}
 use Rattle.files.specs.Calls.{named_reply, not_readable, file_named}
 use Rattle.files.specs.Refused.{row12, row15, found_row13}
 use Rattle.readers.specs.declared.Place.{Place}
-use Rattle.readers.specs.declared.OpenAnswer.{OpenAnswer}
-use Rattle.readers.specs.declared.OpenAnswer.TheVariants.{At, Err}
 use Rattle.readers.specs.Positions.{number_or_end}
 use Rattle.readers.specs.Pieces.{read_place}
 
@@ -49,6 +48,6 @@ unfoldable pub open_file_at : ℕ → File → FileOpening
 open_file_at slot f = file_opening_by (not_readable slot f) (body_place f)
 
 -- the code's answer
-abbrev pub file_opening_of : OpenAnswer → FileOpening
-file_opening_of (At p) = opened_at p
+abbrev pub file_opening_of : Result Place Refused → FileOpening
+file_opening_of (Ok p) = opened_at p
 file_opening_of (Err r) = refused_opening (refusal_of r)

@@ -29,7 +29,7 @@ pub record ReadsBody (r : Reader) (body : List ℕ) : Type 0 where
   -- "ask for the next bytes, as many as a lent buffer holds, 0 allowed, until the body ends"
   pub piece : (rooms : List ℕ) (room : ℕ) → reader_bytes (reader_past r rooms) room ≡ part (total rooms) room body
   pub came : (rooms : List ℕ) (room : ℕ) → (reader_piece (reader_past r rooms) room).came ≡ min (length body - total rooms) room
-  pub left : (rooms : List ℕ) → (reader_past r rooms).left ≡ length body - total rooms
+  pub left : (rooms : List ℕ) → (reader_past r rooms).at.left ≡ length body - total rooms
 
 -- "the body that one read gives": where a read of the lent disk answers v and leaves x in its buffer, opening answers a place,
 -- v bytes are left there, and the reader made of it plays the bytes that the read put in front

@@ -8,11 +8,11 @@ use Rattle.readers.specs.Pieces.{read_place, next_bytes, buffer_after, piece_of}
 
 -- a reader of a disk at a place
 abbrev pub reader_at : Bor (List ℕ) → Place → Reader
-reader_at s p = record { image = s; sector = p.sector; offset = p.offset; left = p.left }
+reader_at s p = record { image = s; at = p }
 
 -- its place in the chain
 abbrev pub reader_place : Reader → Place
-reader_place r = read_place r.sector r.offset r.left
+reader_place r = r.at
 
 -- what its next piece, into a buffer of `room` bytes, answers, and the piece's bytes
 abbrev pub reader_piece : Reader → ℕ → Piece
@@ -27,12 +27,7 @@ reader_buffer r buf = buffer_after r.image.now (reader_place r) buf
 
 -- the reader after it: the same disk, at the place where the next piece begins
 abbrev pub reader_after : Reader → ℕ → Reader
-reader_after r room = record {
-  image = r.image;
-  sector = (reader_piece r room).sector;
-  offset = (reader_piece r room).offset;
-  left = (reader_piece r room).left;
-}
+reader_after r room = reader_at r.image (read_place (reader_piece r room).sector (reader_piece r room).offset (reader_piece r room).left)
 
 -- ---- one piece after another, into buffers of these lengths
 

@@ -8,7 +8,7 @@ use borrow.Author.Tests.{le-ltb, le-leb}
 use lib.ListN.{length, get_or, take, drop, length-append, length-take, length-drop, length-replicate, get_or-append}
 use lib.Seq.{get_or-append-add, get_or-take, get_or-drop}
 use Rattle.buffers.specs.Bytes.{tab, part, put}
-use Rattle.buffers.proofs.Lists.{below_or_not, length-tab, get_or-tab, length-put, length_part, part_at}
+use Rattle.buffers.proofs.Lists.{below_or_not, length-tab, get_or-tab, length-put, length_part, part_at, put_is}
 use Rattle.slots.specs.Slot.{sectors_for}
 use Rattle.slots.proofs.Least.{sectors-least, sectors-few}
 use Rattle.disk.specs.View.{View}
@@ -42,6 +42,12 @@ now-many k x = ap sectors_for (length-append (tab k.long (kept_byte k)) x ∙ ap
 -- behind the first list
 past_join : (a x : List ℕ) (n : ℕ) → length a ≤ n → get_or (a ++ x) n 0 ≡ get_or x (n - length a) 0
 past_join a x n h = let e : n ≡ length a + (n - length a) = omega arith in ap (λ (n : ℕ). get_or (a ++ x) n 0) e ∙ get_or-append-add a x (n - length a) 0
+
+-- the last sector's bytes are as many as its payload
+held_whole : (l : List ℕ) → length l ≡ 510 → l ≡ put (zeros 510) 0 l
+held_whole l e =
+    put_is (zeros 510) 0 l l (e ∙ sym (length-replicate {A = ℕ} 510 0)) (λ i h k. let z : 0 + i ≡ i = omega arith in rw z refl) (λ k h. absurd (omega arith))
+    (λ k h m. absurd (omega (arith, length-replicate {A = ℕ} 510 0)))
 
 module _ (k : Record) (x : List ℕ) where
   abbrev body : List ℕ
@@ -162,10 +168,10 @@ module _ (m : List ℕ) (b count : ℕ) (k : Record) (x list : List ℕ) (w : Co
         let z : 510 * (1 + inner_sectors n) ≡ 510 = omega arith in
         made_as (e ++ x) (501 - k.long) (λ j. rw (z, q) (one_waits k x h j))
 
-    pub made_more : 501 < k.long → (f : ℕ) → f ≡ last_from k.long → (h e : List ℕ) → h ≡ put (zeros 510) 0 k.last → e ≡ part 0 (k.long - f) h
+    pub made_more : 501 < k.long → (f : ℕ) → f ≡ last_from k.long → length k.last ≡ 510 → (e : List ℕ) → e ≡ part 0 (k.long - f) k.last
         → Applied (steps_along (e ++ x) 0 count m b) d list d' list' count → Applied (piece_steps (recording_of k) x) d list d' list' count
-    made_more l f ef h e eh ee =
+    made_more l f ef eh e ee =
         let two : 2 ≤ n = omega (arith, sectors-least k.long) in
         let z : 510 * (1 + inner_sectors n) ≡ 510 * (n - 1) = omega arith in
-        let q : e ≡ waiting_bytes k.long k.last = ee ∙ ap₂ (λ (f : ℕ) (h : List ℕ). part 0 (k.long - f) h) ef eh in
+        let q : e ≡ waiting_bytes k.long k.last = ee ∙ ap₂ (λ (f : ℕ) (h : List ℕ). part 0 (k.long - f) h) ef (held_whole k.last eh) in
         made_as (e ++ x) 0 (λ j. rw (z, q) (more_waits k x two j))

@@ -25,6 +25,13 @@ pub capped_few : (n : ℕ) → n ≤ 795591 → sectors_for n ≡ sectors_capped
 unfolding sectors_capped
 capped_few n h = rw (le-ltb 795591 n h)
 
+-- as the code has it, with numbers as great as top
+pub capped_by : (n top s m : ℕ) → 795592 ≤ top → s ≡ min n top → m ≡ min s 795592 → (m + 518) / 510 ≡ sectors_capped n
+unfolding sectors_for
+capped_by n top s m h es em =
+    ⊎_elim (λ (l : 795591 < n). let z : m ≡ 795592 = omega arith in rw z (capped_most n l))
+    (λ (l : n ≤ 795591). let z : m ≡ n = omega arith in rw z (capped_few n l)) (below_or_not 795591 n)
+
 -- a number of sectors that a disk has is the length's own
 pub capped_is : (n k : ℕ) → k ≡ sectors_capped n → k ≤ 1560 → (n ≤ 795591) × (k ≡ sectors_for n)
 capped_is n k e h =
@@ -41,15 +48,6 @@ unfolding sectors_for
 capped_min n k e =
     ⊎_elim (λ (l : 795591 < n). omega (arith, capped_most n l)) (λ (l : n ≤ 795591). ap (λ (k : ℕ). min k 1560) (e ∙ sym (capped_few n l))) (below_or_not 795591 n)
 
--- the last sector begins where the body does, or nine bytes before its place
-pub last-first : (n : ℕ) → (n + 518) / 510 < 2 → 0 ≡ last_from n
-unfolding sectors_for
-last-first n h = omega arith
-
-pub last-later : (n k : ℕ) → k ≡ (n + 518) / 510 - 1 → 510 * k - 9 ≡ last_from n
-unfolding sectors_for
-last-later n k e = ap (λ (k : ℕ). 510 * k - 9) e
-
 -- no byte of the body lies past it
 pub last_le : (n f : ℕ) → f ≡ last_from n → f ≤ n
 last_le n f e = omega (arith, sectors-least n)
@@ -58,6 +56,22 @@ last_le n f e = omega (arith, sectors-least n)
 pub sectors_rise : (a b : ℕ) → sectors_for a ≤ sectors_for (a + b)
 unfolding sectors_for
 sectors_rise a b = omega arith
+
+-- a record, of a body of so many bytes
+abbrev pub with_long : ℕ → Record → Record
+with_long n k = record {
+  kind = k.kind;
+  name = k.name;
+  page = k.page;
+  offset = k.offset;
+  exec = k.exec;
+  info = k.info;
+  used = k.used;
+  tracks = k.tracks;
+  long = n;
+  first = k.first;
+  last = k.last;
+}
 
 -- ---- the last sector
 

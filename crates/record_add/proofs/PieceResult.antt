@@ -1,5 +1,6 @@
 -- What adding a piece comes to, by the tests that led there.
 use Prim.Native.Nat.{ℕ, ◌+◌, ◌-◌, ◌≤◌, ◌<◌, min}
+use Rattle.std.specs.Prelude.{None, Some}
 use mathlib.Core.Path.{◌≡◌, sym, ap, ap₂, ◌∙◌, subst}
 use mathlib.Core.Bool.{true, false}
 use mathlib.Core.List.{List}
@@ -30,7 +31,6 @@ use Rattle.recordings.specs.Recording.{Recording, with_piece, chain_of, inner_se
 use Rattle.recordings.specs.Record.{recording_of, record_with, record_by}
 use Rattle.recordings.specs.Calls.{add_piece_call, added_record}
 use Rattle.recordings.proofs.Refused.{chain_fits, piece-long}
-use Rattle.recording_links.specs.declared.Continuation.TheVariants.{Stale, NextBit}
 use Rattle.recording_links.specs.LinkedSectors.{continuation_in}
 use Rattle.recording_links.proofs.FollowLaws.{chain-is, lost_moved, on_still}
 use Rattle.record_add.specs.Adding.{sectors_capped, Completes, PieceReady, AddsPiece}
@@ -52,17 +52,17 @@ module _ (k : Record) (x d buf : List ℕ) where
     unfolding add_piece_call added_record add_piece plan_call
     add_planned p e = (rw (ok, e), rw (ok, e))
 
-    add_refused_answer : (q : Refusal) → piece_reply d r x ≡ some q → (o : Outcome) → o ≡ refused q → (k' : Record) → k' ≡ k → AddsPiece k x d buf o k' d buf
+    add_refused_answer : (q : Refusal) → piece_reply d r x ≡ some q → (o : Outcome) → o ≡ refused q → AddsPiece k x d buf o k d buf
     unfolding piece_plan
-    add_refused_answer q e o eo k' ek =
+    add_refused_answer q e o eo =
         let p = add_planned (refused_plan q) (ap (λ (y : _). plan_unless y (planned_steps (piece_steps r x))) e) in
-        (settled_no d buf q o eo ∙ p.0, ek ∙ p.1)
+        (settled_no d buf q o eo ∙ p.0, p.1)
 
-    pub add_lost : disk_moved d r ≡ true → (o : Outcome) → o ≡ refused (refuse 30 0) → (k' : Record) → k' ≡ k → AddsPiece k x d buf o k' d buf
+    pub add_lost : disk_moved d r ≡ true → (o : Outcome) → o ≡ refused (refuse 30 0) → AddsPiece k x d buf o k d buf
     add_lost e = add_refused_answer (refuse 30 0) (rw e)
 
     module _ (still : disk_moved d r ≡ false) where
-      pub add-few : free (view_tracks (view d)) (view_slots (view d)) < sectors_taken (with_piece r x).request → (o : Outcome) → o ≡ refused (refuse 19 0) → (k' : Record) → k' ≡ k → AddsPiece k x d buf o k' d buf
+      pub add-few : free (view_tracks (view d)) (view_slots (view d)) < sectors_taken (with_piece r x).request → (o : Outcome) → o ≡ refused (refuse 19 0) → AddsPiece k x d buf o k d buf
       add-few h = add_refused_answer (refuse 19 0) (rw (still, lt-ltb (free (view_tracks (view d)) (view_slots (view d))) (sectors_taken (with_piece r x).request) h))
 
       module _ (fits : sectors_taken (with_piece r x).request ≤ free (view_tracks (view d)) (view_slots (view d))) where
@@ -76,10 +76,10 @@ module _ (k : Record) (x d buf : List ℕ) where
         long : length (numbers (piece_steps r x)) ≡ inner_sectors (sectors_taken (with_piece r x).request) - inner_sectors (sectors_taken r.request)
         long = piece-long r x d ok none_left
 
-        pub add-short : length buf < inner_sectors (sectors_taken (with_piece r x).request) - inner_sectors (sectors_taken r.request) → (o : Outcome) → o ≡ refused (refuse 20 0) → (k' : Record) → k' ≡ k → AddsPiece k x d buf o k' d buf
-        add-short h o eo k' ek =
+        pub add-short : length buf < inner_sectors (sectors_taken (with_piece r x).request) - inner_sectors (sectors_taken r.request) → (o : Outcome) → o ≡ refused (refuse 20 0) → AddsPiece k x d buf o k d buf
+        add-short h o eo =
             let p = add_planned (planned_steps (piece_steps r x)) goes in
-            (settled_short (piece_steps r x) d buf (omega (arith, long)) o eo ∙ p.0, ek ∙ sym (rw (lt-ltb (length buf) (length (numbers (piece_steps r x))) (omega (arith, long)))) ∙ p.1)
+            (settled_short (piece_steps r x) d buf (omega (arith, long)) o eo ∙ p.0, sym (rw (lt-ltb (length buf) (length (numbers (piece_steps r x))) (omega (arith, long)))) ∙ p.1)
 
         pub add_done : (c : ℕ) → c ≤ length buf → (d' buf' : List ℕ) → Applied (piece_steps r x) d buf d' buf' c → (k' : Record) → k' ≡ record_with k x → AddsPiece k x d buf (done c 0) k' d' buf'
         add_done c h d' buf' w k' ek =
@@ -97,7 +97,7 @@ module _ (d : List ℕ) (u : UsedMap) (b : ℕ) (k : Record) (x buf : List ℕ) 
   abbrev ok : check_disk d ≡ none
   ok = o.disk.accepted
 
-  pub at-few : f < n → (a : Outcome) → a ≡ refused (refuse 19 0) → (k' : Record) → k' ≡ k → AddsPiece k x d buf a k' d buf
+  pub at-few : f < n → (a : Outcome) → a ≡ refused (refuse 19 0) → AddsPiece k x d buf a k d buf
   at-few h = add-few k x d buf ok o.still (omega (arith, ef, free-is d u o.disk, now-many k x, capped_le (k.long + length x) n en))
 
   -- n₀: those of the body without it
@@ -122,7 +122,7 @@ module _ (d : List ℕ) (u : UsedMap) (b : ℕ) (k : Record) (x buf : List ℕ) 
     count-is : inner_sectors (sectors_taken (with_piece (recording_of k) x).request) - inner_sectors (sectors_taken (recording_of k).request) ≡ i - i₀
     count-is = omega (arith, ei, ei₀, is.1, was, now-many k x, was_many k)
 
-    pub at-short : length buf < i - i₀ → (a : Outcome) → a ≡ refused (refuse 20 0) → (k' : Record) → k' ≡ k → AddsPiece k x d buf a k' d buf
+    pub at-short : length buf < i - i₀ → (a : Outcome) → a ≡ refused (refuse 20 0) → AddsPiece k x d buf a k d buf
     at-short l = add-short k x d buf ok o.still fits (omega (arith, count-is))
 
     pub at_done : i - i₀ ≤ length buf → (d' buf' : List ℕ) → Applied (piece_steps (recording_of k) x) d buf d' buf' (i - i₀) → (k' : Record) → k' ≡ record_with k x
@@ -159,11 +159,11 @@ module _ (d : List ℕ) (u : UsedMap) (a : CheckedDisk d u) (k : Record) (n : �
   same : min n 1560 ≡ min (sectors_taken (recording_of k).request) 1560
   same = capped_min (k.long + 0) n en ∙ ap (λ (n : ℕ). min (sectors_for n) 1560) (add-zero k.long) ∙ ap (λ (n : ℕ). min n 1560) (sym (was_many k))
 
-  pub trail_lost : (x buf : List ℕ) → continuation_in d u k.used k.tracks n ≡ Stale → (o : Outcome) → o ≡ refused (refuse 30 0) → (k' : Record) → k' ≡ k → AddsPiece k x d buf o k' d buf
+  pub trail_lost : (x buf : List ℕ) → continuation_in d u k.used k.tracks n ≡ None → (o : Outcome) → o ≡ refused (refuse 30 0) → AddsPiece k x d buf o k d buf
   unfolding recording_of
   trail_lost x buf e = add_lost k x d buf a.accepted (lost_moved d u a (recording_of k) n same e)
 
-  pub trail_on : (b : ℕ) → continuation_in d u k.used k.tracks n ≡ NextBit b → PieceReady d u k b
+  pub trail_on : (b : ℕ) → continuation_in d u k.used k.tracks n ≡ Some b → PieceReady d u k b
   unfolding recording_of
   trail_on b e =
       let w = on_still d u a (recording_of k) n same b e in

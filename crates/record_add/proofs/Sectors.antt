@@ -1,5 +1,5 @@
 -- The sectors written so far along the clear bits of a map, those that are left, and the numbers named.
-use Prim.Native.Nat.{ℕ, zero, suc, ◌+◌, ◌-◌, ◌*◌, ◌/◌, ◌≤◌, ◌<◌}
+use Prim.Native.Nat.{ℕ, zero, suc, ◌+◌, ◌-◌, ◌*◌, ◌≤◌, ◌<◌}
 use mathlib.Core.Path.{◌≡◌, refl, sym, ap, ap₂, ◌∙◌}
 use mathlib.Core.List.{List, [], ◌∷◌, ◌++◌, map, map-append}
 use native.Mathlib.Numerals.{add-one}
@@ -9,7 +9,7 @@ use lib.Seq.{length-take-le, take-suc, drop-drop, get_or-drop}
 use Rattle.buffers.specs.Bytes.{put}
 use Rattle.buffers.proofs.Lists.{length-put, put-none, put_one, put-append}
 use Rattle.geometry.specs.Disk.{bit_number, bit_place, place_or_end}
-use Rattle.geometry.proofs.Laws.{place_or_end_lem, number_small}
+use Rattle.geometry.proofs.Laws.{place_or_end_lem}
 use Rattle.steps.specs.Steps.{put_all, apply, numbers}
 use Rattle.steps.proofs.Steps.{numbers-take}
 use Rattle.plans.specs.Saving.{sector_bytes, next_track, next_sector}
@@ -22,12 +22,6 @@ use Rattle.sector_writes.specs.Sector.{link_to_bit}
 use Rattle.sector_writes.proofs.Links.{link_bit}
 use Rattle.record_add.specs.Adding.{clear_from, steps_along, SectorsAlong}
 use Rattle.record_add.proofs.Clear.{from_next, next-same, from_clear}
-
--- the number of a bit's sector
-pub number_at : (b p : ℕ) → b < 1560 → p ≡ place_or_end b → (p / 512 ≡ bit_number b) × (p / 512 < 1600)
-number_at b p h e =
-    let q : p ≡ bit_number b * 512 = e ∙ place_or_end_lem b h in
-    (omega arith, omega (arith, number_small b h))
 
 pub set_as_put : (l : List ℕ) (j v n : ℕ) → v ≡ n → set l j v ≡ put l j (n ∷ [])
 set_as_put l j v n e = put_one l j v ∙ ap (λ (n : ℕ). put l j (n ∷ [])) e
@@ -61,13 +55,7 @@ module _ (m : List ℕ) (from count f : ℕ) (st d buf : List ℕ) (a : SectorsA
   bs = clear_from m from
 
   module _ (e l : List ℕ) (j b : ℕ) (w : SectorsLoop m from count f st d buf e l j b) where
-    pub written-long : length l ≡ length buf
-    written-long = ap length w.list ∙ length-put buf 0 (map bit_number (take j (clear_from m from)))
-
     module _ (h : j < count) where
-      pub written-room : j < length l
-      written-room = omega (arith, written-long, a.room)
-
       some : 1 < length (clear_from m b)
       some = omega (arith, a.enough, ap length w.here, length-drop j (clear_from m from))
 

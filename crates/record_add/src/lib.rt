@@ -1,69 +1,31 @@
 // A piece of a recording: the sectors that it completes are written, each with its link, and the record grows by it.
 #![tactic(auto)]
 
-ghost use Rattle.std.specs.Prelude.{◌≡◌, ◌++◌, ◌∷◌, [], ◌+◌, ◌≤◌, ◌<◌, length};
-ghost use Rattle.buffers.specs.Bytes.{put};
-ghost use Rattle.geometry.specs.Disk.{bit_number};
-ghost use Rattle.refusals.specs.Order.{refuse};
-ghost use Rattle.refusals.specs.Answers.{refusal_number, outcome_of, refused};
+ghost use Rattle.std.specs.Prelude.{◌≡◌, ◌++◌, ◌+◌, ◌≤◌, length};
+ghost use Rattle.refusals.specs.Answers.{outcome_of};
 ghost use Rattle.changes.specs.ChangeCalls.{Applied};
-ghost use Rattle.recordings.specs.Recording.{inner_sectors, piece_steps};
-ghost use Rattle.recordings.specs.Record.{last_from, last_with, record_with, recording_of, zeros};
+ghost use Rattle.recordings.specs.Recording.{piece_steps};
+ghost use Rattle.recordings.specs.Record.{last_from, record_with, recording_of};
 ghost use Rattle.record_add.specs.Adding.{sectors_capped, steps_along, SectorsAlong, Completes, PieceReady, AddsPiece};
 
-use recording_links::Continuation;
 use recordings::Record;
-use refusals::{Answer, Reason, Verdict};
+use refusals::{Reason, Refused, refuse};
 use surveys::UsedMap;
-
-// What a piece comes to: the answer, and the record of the recording then.
-#[derive(Clone, Copy)]
-pub struct Added {
-    pub answer: Answer,
-    pub record: Record,
-}
 
 // How many sectors a body of `long` bytes and `more` takes: 1,561, more than there are, where no disk holds it.
 fn sectors_of(long: usize, more: usize) -> usize
     ensures { result ≡ sectors_capped (long + more) }
 {
-    if 795591 < long {
-        return 1561;
-    }
-    if 795591 - long < more {
-        return 1561;
-    }
-    (long + more + 518) / 510
-}
-
-// Of `n` sectors all but the first and the last.
-fn inner_of(n: usize) -> usize
-    ensures { result ≡ inner_sectors n }
-{
-    if n < 2 {
-        return 0;
-    }
-    n - 2
+    (long.saturating_add(more).min(795592) + 518) / 510
 }
 
 // Where the last sector's body bytes begin, of a body of `long` bytes.
+#[tactic(auto, unfolding(slots::specs::Slot::sectors_for))]
 fn last_from(long: usize) -> usize
     requires { long ≤ 795591 }
     ensures { result ≡ last_from long }
 {
-    let n = (long + 518) / 510;
-    if n < 2 {
-        return 0;
-    }
-    510 * (n - 1) - 9
-}
-
-// Puts the number of a bit's sector into a list.
-fn put_number(list: &mut [u16], j: usize, bit: usize)
-    requires { (j < length list.old) × (bit < 1560) }
-    ensures { list.new ≡ put list.old j (bit_number bit ∷ []) }
-{
-    list[j] = (geometry::bit_place(bit) / 512) as u16;
+    (510 * ((long + 518) / 510 - 1)).saturating_sub(9)
 }
 
 // Writes `count` sectors along the clear bits of a map from `bit` on, each with its link to the next: as payload two lists one
@@ -81,78 +43,36 @@ fn write_sectors(
     requires { SectorsAlong map.now bit count from list.old }
     ensures { Applied (steps_along (front.now ++ back.now) from count map.now bit) image.old list.old image.new list.new count }
 {
-    let mut j: usize = 0;
     let mut b = bit;
-    while j < count {
+    for j in 0..count {
         let next = allocation::next_clear(map, b + 1);
         let link = sector_writes::link_of(next);
         sector_writes::write_sector(image, b, front, back, from + 510 * j, link);
-        put_number(list, j, b);
+        list[j] = sector_writes::sector_number(b);
         b = next;
-        j += 1;
     }
 }
 
-// The first sector's bytes with a piece more.
-fn grown_first(first: [u8; 501], long: usize, piece: &[u8]) -> [u8; 501]
-    ensures { result ≡ put first long piece.now }
-{
-    let mut grown = first;
-    buffers::copy_into(&mut grown, long, piece);
-    grown
-}
-
-// A sector's bytes, 0 where there are fewer.
-fn held_bytes(last: &[u8]) -> [u8; 510]
-    ensures { result ≡ put (zeros 510) 0 last.now }
-{
-    let mut held = [0u8; 510];
-    buffers::copy_into(&mut held, 0, last);
-    held
-}
-
-// The last sector's bytes with a piece more: it goes on, or another has begun.
-fn grown_last(kept: Record, piece: &[u8]) -> [u8; 510]
-    requires { kept.long + length piece.now ≤ 795591 }
-    ensures { result ≡ last_with kept piece.now }
+// Puts a piece more into a record: the last sector's bytes go on, or another has begun.
+fn grow(kept: &mut Record, piece: &[u8])
+    requires { kept.old.long + length piece.now ≤ 795591 }
+    ensures { kept.new ≡ record_with kept.old piece.now }
 {
     let long = kept.long;
     let total = long + piece.len();
+    buffers::copy_into(&mut kept.first, long, piece);
     if (total + 518) / 510 == (long + 518) / 510 {
-        let mut last = kept.last;
-        buffers::copy_into(&mut last, long - last_from(long), piece);
-        return last;
+        buffers::copy_into(&mut kept.last, long - last_from(long), piece);
+    } else {
+        let from = last_from(total) - long;
+        kept.last = [0u8; 510];
+        buffers::copy_into(
+            &mut kept.last,
+            0,
+            buffers::part_at(piece, from, piece.len()),
+        );
     }
-    let from = last_from(total) - long;
-    held_bytes(buffers::part_at(piece, from, piece.len()))
-}
-
-// The record with a piece more.
-fn grown(kept: Record, piece: &[u8]) -> Record
-    requires { kept.long + length piece.now ≤ 795591 }
-    ensures { result ≡ record_with kept piece.now }
-{
-    let name = kept.name;
-    let exec = kept.exec;
-    let info = kept.info;
-    let used = kept.used;
-    let long = kept.long;
-    let was = kept.first;
-    let first = grown_first(was, long, piece);
-    let last = grown_last(kept, piece);
-    Record {
-        kind: kept.kind,
-        name,
-        page: kept.page,
-        offset: kept.offset,
-        exec,
-        info,
-        used,
-        tracks: kept.tracks,
-        long: long + piece.len(),
-        first,
-        last,
-    }
+    kept.long = total;
 }
 
 // Writes the sectors that a piece completes, from map bit `bit` on: what waits for the first of them, and then the piece.
@@ -161,12 +81,12 @@ fn write_piece(
     map: &[u8],
     bit: usize,
     count: usize,
-    kept: Record,
+    kept: &Record,
     piece: &[u8],
     list: &mut [u16],
 )
-    requires { Completes map.now bit count kept piece.now list.old }
-    ensures { Applied (piece_steps (recording_of kept) piece.now) image.old list.old image.new list.new count }
+    requires { Completes map.now bit count kept.now piece.now list.old }
+    ensures { Applied (piece_steps (recording_of kept.now) piece.now) image.old list.old image.new list.new count }
 {
     let long = kept.long;
     if long <= 501 {
@@ -174,21 +94,8 @@ fn write_piece(
         write_sectors(image, map, bit, count, none, piece, 501 - long, list);
         return;
     }
-    let last = kept.last;
-    let held = held_bytes(&last);
-    let wait = buffers::part_at(&held, 0, long - last_from(long));
+    let wait = buffers::part_at(&kept.last, 0, long - last_from(long));
     write_sectors(image, map, bit, count, wait, piece, 0, list);
-}
-
-// A refusal, which leaves the record as it is.
-fn refused_piece(reason: Reason, kept: Record) -> Added
-    ensures { (outcome_of result.answer ≡ refused (refuse (refusal_number reason) 0)) × (result.«record» ≡ kept) }
-{
-    let answer = refusals::refused_answer(reason, 0);
-    Added {
-        answer,
-        record: kept,
-    }
 }
 
 // Adds a piece on an accepted disk that has not moved, where the sectors and the list suffice.
@@ -196,50 +103,42 @@ fn add_at(
     image: &mut [u8],
     used: UsedMap,
     bit: usize,
-    kept: Record,
+    kept: &mut Record,
     piece: &[u8],
     list: &mut [u16],
-) -> Added
-    requires { PieceReady image.old used kept bit }
-    ensures { AddsPiece kept piece.now image.old list.old (outcome_of result.answer) result.«record» image.new list.new }
+) -> Result<usize, Refused>
+    requires { PieceReady image.old used kept.old bit }
+    ensures { AddsPiece kept.old piece.now image.old list.old (outcome_of result) kept.new image.new list.new }
 {
     let n = sectors_of(kept.long, piece.len());
     if surveys::free_of(used) < n {
-        return refused_piece(Reason::TooFewSectors, kept);
+        return refuse(Reason::TooFewSectors, 0);
     }
-    let count = inner_of(n) - inner_of(sectors_of(kept.long, 0));
+    // Of each number all but the first and the last.
+    let count = n.saturating_sub(2) - sectors_of(kept.long, 0).saturating_sub(2);
     if list.len() < count {
-        return refused_piece(Reason::BufferTooShort, kept);
+        return refuse(Reason::BufferTooShort, 0);
     }
     let map = allocation::unavailable_bits(used);
     write_piece(image, &map, bit, count, kept, piece, list);
-    let record = grown(kept, piece);
-    Added {
-        answer: Answer::Done(count, 0),
-        record,
-    }
+    grow(kept, piece);
+    Ok(count)
 }
 
 // Adds a piece to a recording: the sectors after the first that now have a byte beyond them are written, the front of `list`
 // gets their numbers, the answer says how many, and the record grows. A refused piece changes nothing.
-pub fn add(image: &mut [u8], kept: Record, piece: &[u8], list: &mut [u16]) -> Added
-    ensures { AddsPiece kept piece.now image.old list.old (outcome_of result.answer) result.«record» image.new list.new }
+pub fn add(
+    image: &mut [u8],
+    kept: &mut Record,
+    piece: &[u8],
+    list: &mut [u16],
+) -> Result<usize, Refused>
+    ensures { AddsPiece kept.old piece.now image.old list.old (outcome_of result) kept.new image.new list.new }
 {
-    let found = disk::examine(image);
-    let verdict = found.verdict;
-    match verdict {
-        Verdict::Err(r) => Added {
-            answer: Answer::Err(r),
-            record: kept,
-        },
-        Verdict::Accepted => {
-            let used = found.used;
-            let was = kept.used;
-            let n = sectors_of(kept.long, 0);
-            match recording_links::follow(image, used, &was, kept.tracks, n) {
-                Continuation::Stale => refused_piece(Reason::RecordingMoved, kept),
-                Continuation::NextBit(bit) => add_at(image, used, bit, kept, piece, list),
-            }
-        }
+    let used = disk::examine(image)?.used;
+    let n = sectors_of(kept.long, 0);
+    match recording_links::follow(image, used, &kept.used, kept.tracks, n) {
+        None => refuse(Reason::RecordingMoved, 0),
+        Some(bit) => add_at(image, used, bit, kept, piece, list),
     }
 }

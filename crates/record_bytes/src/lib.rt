@@ -3,8 +3,7 @@
 
 ghost use Rattle.std.specs.Prelude.{◌≡◌};
 ghost use Rattle.buffers.specs.Bytes.{put};
-ghost use Rattle.report_bytes.specs.Bytes.{four_of};
-ghost use Rattle.record_bytes.specs.Layout.{record_offset, record_length, record_in, front_of, bytes_of, record_bytes_with};
+ghost use Rattle.record_bytes.specs.Layout.{record_length, record_in, front_of, bytes_of, record_bytes_with};
 
 use recordings::Record;
 
@@ -26,19 +25,16 @@ const FIRST: usize = 231;
 
 const LAST: usize = 732;
 
-fn offset_in(bytes: &[u8]) -> usize
-    ensures { result ≡ record_offset bytes.now }
-{
-    buffers::num_at(bytes, 2) + 256 * buffers::num_at(bytes, 3)
-}
-
+// How many bytes came.
 fn long_in(bytes: &[u8]) -> usize
     ensures { result ≡ record_length bytes.now }
 {
-    buffers::num_at(bytes, 8)
-        + 256 * buffers::num_at(bytes, 9)
-        + 65536 * buffers::num_at(bytes, 10)
-        + 16777216 * buffers::num_at(bytes, 11)
+    u32::from_le_bytes([
+        buffers::byte_at(bytes, 8),
+        buffers::byte_at(bytes, 9),
+        buffers::byte_at(bytes, 10),
+        buffers::byte_at(bytes, 11),
+    ]) as usize
 }
 
 // The record that bytes hold; bytes past the end count as 0.
@@ -61,7 +57,7 @@ pub fn record_in(bytes: &[u8]) -> Record
         kind: buffers::num_at(bytes, 0),
         name,
         page: buffers::num_at(bytes, 1),
-        offset: offset_in(bytes),
+        offset: slots::two_at(bytes, 2),
         exec,
         info,
         used,
@@ -73,28 +69,30 @@ pub fn record_in(bytes: &[u8]) -> Record
 }
 
 // The bytes before the name.
-fn front_of(held: Record) -> [u8; 12]
-    ensures { result ≡ front_of held }
+fn front_of(held: &Record) -> [u8; 12]
+    ensures { result ≡ front_of held.now }
 {
+    let offset = held.offset.to_le_bytes();
+    let long = held.long.to_le_bytes();
     [
         (held.kind % 256) as u8,
         (held.page % 256) as u8,
-        (held.offset % 256) as u8,
-        (held.offset / 256 % 256) as u8,
+        offset[0],
+        offset[1],
         (held.tracks % 256) as u8,
         0,
         0,
         0,
-        (held.long % 256) as u8,
-        (held.long / 256 % 256) as u8,
-        (held.long / 65536 % 256) as u8,
-        (held.long / 16777216 % 256) as u8,
+        long[0],
+        long[1],
+        long[2],
+        long[3],
     ]
 }
 
 // The bytes of a record.
-fn bytes_of(held: Record) -> [u8; 2048]
-    ensures { result ≡ bytes_of held }
+fn bytes_of(held: &Record) -> [u8; 2048]
+    ensures { result ≡ bytes_of held.now }
 {
     let mut bytes = [0u8; 2048];
     let front = front_of(held);
@@ -109,34 +107,19 @@ fn bytes_of(held: Record) -> [u8; 2048]
 }
 
 // Puts the bytes of a record to the front of a buffer, whose rest stays.
-pub fn put_opened(bytes: &mut [u8], held: Record)
-    ensures { bytes.new ≡ put bytes.old 0 (bytes_of held) }
+pub fn put_opened(bytes: &mut [u8], held: &Record)
+    ensures { bytes.new ≡ put bytes.old 0 (bytes_of held.now) }
 {
     let all = bytes_of(held);
     buffers::copy_into(bytes, 0, &all);
 }
 
-// A number's four bytes.
-fn four_of(x: usize) -> [u8; 4]
-    ensures { result ≡ four_of x }
-{
-    [
-        (x % 256) as u8,
-        (x / 256 % 256) as u8,
-        (x / 65536 % 256) as u8,
-        (x / 16777216 % 256) as u8,
-    ]
-}
-
 // Puts what a piece changes of a record: how many bytes came, and those that wait.
-pub fn put_grown(bytes: &mut [u8], held: Record)
-    ensures { bytes.new ≡ record_bytes_with bytes.old held }
+pub fn put_grown(bytes: &mut [u8], held: &Record)
+    ensures { bytes.new ≡ record_bytes_with bytes.old held.now }
 {
-    let long = four_of(held.long);
-    buffers::copy_into(bytes, LONG, &long);
-    // Copied first, or the record would stand on the stack once more.
-    let first = held.first;
-    buffers::copy_into(bytes, FIRST, &first);
-    let last = held.last;
-    buffers::copy_into(bytes, LAST, &last);
+    let long = held.long.to_le_bytes();
+    buffers::copy_into(bytes, LONG, &long[..4]);
+    buffers::copy_into(bytes, FIRST, &held.first);
+    buffers::copy_into(bytes, LAST, &held.last);
 }

@@ -7,10 +7,7 @@ use borrow.Author.Tests.{lt-ltb, le-ltb}
 use lib.ListN.{length}
 use Rattle.buffers.specs.Bytes.{put}
 use Rattle.refusals.specs.Order.{Refusal, refuse, Reply, ◌else◌}
-use Rattle.refusals.specs.Answers.{Outcome, done, refused, unless, Out, out, filled, outcome_of}
-use Rattle.refusals.specs.declared.Refused.{Refused}
-use Rattle.refusals.specs.declared.Answer.{Answer}
-use Rattle.refusals.specs.declared.Answer.TheVariants.{Done, Err}
+use Rattle.refusals.specs.Answers.{Outcome, done, refused, unless, Out, out, filled}
 use Rattle.disk.specs.View.{view}
 use Rattle.disk.specs.Check.{check_disk}
 use Rattle.plans.specs.Change.{SaveRequest}
@@ -78,30 +75,23 @@ module _ (d b l : List ℕ) (h : length b < 2048) (o : Outcome) (e : o ≡ unles
 
 -- ---- and of one that is not
 
-module _ (a : Answer) where
-  pub kept-done : (v f : ℕ) → a ≡ Done v f → (q : Record) (b b' : List ℕ) → b' ≡ record_bytes_with b q → b' ≡ kept_by (outcome_of a) q b
-  kept-done v f e q b b' p = p ∙ ap (λ (a : Answer). kept_by (outcome_of a) q b) (sym e)
-
-  pub kept_no : (r : Refused) → a ≡ Err r → (q : Record) (b : List ℕ) → b ≡ kept_by (outcome_of a) q b
-  kept_no r e q b = ap (λ (a : Answer). kept_by (outcome_of a) q b) (sym e)
-
 module _ (d b l : List ℕ) (h : 2048 ≤ length b) (k : Record) (e : k ≡ record_in b) where
   pub piece_is : (x : List ℕ) (o : Outcome) (d' l' : List ℕ) → changed o d' l' ≡ operation_bytes (record_piece (recording_of k) x) d l → (q : Record) → q ≡ added_record k x d (length l / 2)
-      → (p : Outcome) → p ≡ o → (b' : List ℕ) → b' ≡ kept_by o q b → pieced p d' b' l' ≡ add_piece_bytes x d b l
+      → (b' : List ℕ) → b' ≡ kept_by o q b → pieced o d' b' l' ≡ add_piece_bytes x d b l
   unfolding add_piece_bytes added_record add_piece
-  piece_is x o d' l' a q f p g b' m =
+  piece_is x o d' l' a q f b' m =
       whole ∙ ap (λ (k : Record). piece_by (add_piece (recording_of k) x d (length l / 2)) x d b l) e
       ∙ ap (λ (y : Result). piece_by y x d b l) (sym (lent_is d b _ h))
     where
-      by : (y : Result) → changed o d' l' ≡ change_bytes_by y d l → q ≡ record_by k x y → pieced p d' b' l' ≡ piece_by y x d b l
+      by : (y : Result) → changed o d' l' ≡ change_bytes_by y d l → q ≡ record_by k x y → pieced o d' b' l' ≡ piece_by y x d b l
       by (refused_result r) w v =
           let z : o ≡ refused r = ap (λ (c : Changed). c.outcome) w in
-          rw (g ∙ z, ap (λ (c : Changed). c.image) w, m ∙ ap (λ (o : Outcome). kept_by o q b) z, ap (λ (c : Changed). c.list) w)
+          rw (z, ap (λ (c : Changed). c.image) w, m ∙ ap (λ (o : Outcome). kept_by o q b) z, ap (λ (c : Changed). c.list) w)
       by (new_disk new ss) w v =
           let z : o ≡ done (length ss) 0 = ap (λ (c : Changed). c.outcome) w in
-          rw (g ∙ z, ap (λ (c : Changed). c.image) w, m ∙ ap (λ (o : Outcome). kept_by o q b) z ∙ ap (λ (k : Record). kept_by (done (length ss) 0) k b) (v ∙ ap (λ (k : Record). record_by k x (new_disk new ss)) e), ap (λ (c : Changed). c.list) w)
+          rw (z, ap (λ (c : Changed). c.image) w, m ∙ ap (λ (o : Outcome). kept_by o q b) z ∙ ap (λ (k : Record). kept_by (done (length ss) 0) k b) (v ∙ ap (λ (k : Record). record_by k x (new_disk new ss)) e), ap (λ (c : Changed). c.list) w)
 
-      whole : pieced p d' b' l' ≡ piece_by (add_piece (recording_of k) x d (length l / 2)) x d b l
+      whole : pieced o d' b' l' ≡ piece_by (add_piece (recording_of k) x d (length l / 2)) x d b l
       whole = by (add_piece (recording_of k) x d (length l / 2)) a f
 
   pub close_is : (o : Outcome) (d' l' : List ℕ) → changed o d' l' ≡ operation_bytes (record_close (recording_of k)) d l → changed o d' l' ≡ close_bytes d b l

@@ -1,5 +1,6 @@
 -- The plan of a close on an accepted disk, by the tests that led there, and what the writing is then entered with.
 use Prim.Native.Nat.{ℕ, ◌+◌, ◌/◌, ◌≤◌, ◌<◌, min}
+use Rattle.std.specs.Prelude.{Option, None, Some}
 use mathlib.Core.Path.{◌≡◌, refl, sym, ap, ap₂, ◌∙◌, subst}
 use mathlib.Core.Bool.{Bool, true, false}
 use mathlib.Core.List.{List}
@@ -37,8 +38,6 @@ use Rattle.recordings.specs.declared.Record.{Record}
 use Rattle.recordings.specs.Record.{recording_of}
 use Rattle.recordings.specs.Recording.{Recording, chain_of, disk_moved, close_steps, close_plan, close_recording}
 use Rattle.recordings.specs.Calls.{close_call}
-use Rattle.recording_links.specs.declared.Continuation.{Continuation}
-use Rattle.recording_links.specs.declared.Continuation.TheVariants.{Stale, NextBit}
 use Rattle.recording_links.specs.LinkedSectors.{continuation_in}
 use Rattle.recording_links.proofs.FollowLaws.{chain-is, lost_moved, on_still}
 use Rattle.record_close.specs.Close.{request_of, end_sectors, CloseReady, StillFits, CloseSlotOf}
@@ -67,15 +66,15 @@ module _ (k : Record) (d buf : List ℕ) where
   closed_moved a m x e = settled_no d buf (refuse 30 0) x e ∙ closed_planned a (refused_plan (refuse 30 0)) (rw m)
 
 -- by the continuation of its sectors, whose number is not reckoned past 1,561
-module _ (k : Record) (d : List ℕ) (u : UsedMap) (a : CheckedDisk d u) (x : ℕ) (ex : x ≡ min k.long 795592) (t : Continuation) (et : t ≡ continuation_in d u k.used k.tracks ((x + 518) / 510)) where
+module _ (k : Record) (d : List ℕ) (u : UsedMap) (a : CheckedDisk d u) (x : ℕ) (ex : x ≡ min k.long 795592) (t : Option ℕ) (et : t ≡ continuation_in d u k.used k.tracks ((x + 518) / 510)) where
   counted : min ((x + 518) / 510) 1560 ≡ min (sectors_taken (request_of k)) 1560
   counted = sectors_capped_lem k.long x ex (sectors_taken (request_of k)) (ap sectors_for (body-long k))
 
-  pub closed_lost : t ≡ Stale → (buf : List ℕ) (o : Outcome) → o ≡ refused (refuse 30 0) → changed o d buf ≡ close_call k d buf
+  pub closed_lost : t ≡ None → (buf : List ℕ) (o : Outcome) → o ≡ refused (refuse 30 0) → changed o d buf ≡ close_call k d buf
   unfolding recording_of
   closed_lost e buf = closed_moved k d buf a.accepted (lost_moved d u a (recording_of k) ((x + 518) / 510) counted (sym et ∙ e))
 
-  pub stays_on : (b : ℕ) → t ≡ NextBit b → StillFits d u k
+  pub stays_on : (b : ℕ) → t ≡ Some b → StillFits d u k
   unfolding recording_of
   stays_on b e =
       let l = on_still d u a (recording_of k) ((x + 518) / 510) counted b (sym et ∙ e) in

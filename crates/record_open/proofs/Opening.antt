@@ -30,7 +30,7 @@ use Rattle.saves.proofs.Planned.{reply-refused, reply-at}
 use Rattle.recordings.specs.declared.Record.{Record}
 use Rattle.recordings.specs.Recording.{recording_reply}
 use Rattle.recordings.specs.Record.{zeros, fresh_record}
-use Rattle.recordings.specs.Calls.{open_recording_reply, blank_record, record_or, opened_record}
+use Rattle.recordings.specs.Calls.{open_recording_reply, record_or, opened_record}
 use Rattle.recording_links.proofs.FollowLaws.{used-is, tracks-is}
 use Rattle.record_open.specs.Fresh.{fresh_for}
 
@@ -59,16 +59,9 @@ fresh_by s n e i u x y z p q r =
 
 -- ---- the answer
 
-module _ (w : SaveRequest) (d : List ℕ) where
-  -- refused, with a blank record
-  pub shuts : (x : Refusal) → open_recording_reply w d ≡ some x → (q : Reply) → q ≡ some x → (k : Record) → k ≡ blank_record
-      → (q ≡ open_recording_reply w d) × (k ≡ opened_record w d)
-  unfolding opened_record
-  shuts x e q p k r = (p ∙ sym e, r ∙ sym (ap (λ (q : Reply). record_or q (fresh_record w (view d))) e))
-
-  opens : open_recording_reply w d ≡ none → (q : Reply) → q ≡ none → (k : Record) → k ≡ fresh_record w (view d) → (q ≡ open_recording_reply w d) × (k ≡ opened_record w d)
-  unfolding opened_record
-  opens e q p k r = (p ∙ sym e, r ∙ sym (ap (λ (q : Reply). record_or q (fresh_record w (view d))) e))
+opens : (w : SaveRequest) (d : List ℕ) → open_recording_reply w d ≡ none → opened_record w d ≡ fresh_record w (view d)
+unfolding opened_record
+opens w d e = ap (λ (q : Reply). record_or q (fresh_record w (view d))) e
 
 module _ (d : List ℕ) (s : HeaderFields) (name exec info : List ℕ) where
   abbrev w : SaveRequest
@@ -93,13 +86,14 @@ module _ (d : List ℕ) (s : HeaderFields) (name exec info : List ℕ) where
     pub reply-few : f < 1 → open_recording_reply w d ≡ some (refuse 19 0)
     reply-few h = reply_by true (lt-ltb f 1 h)
 
-    pub running : 1 ≤ f → (q : Reply) → q ≡ none → (k : Record) → k ≡ fresh_for s name exec info u → (q ≡ open_recording_reply w d) × (k ≡ opened_record w d)
+    pub running : 1 ≤ f → (none ≡ open_recording_reply w d) × (fresh_for s name exec info u ≡ opened_record w d)
     unfolding fresh_for fresh_record
-    running h q p k r =
+    running h =
         let n = reply_by false (le-ltb f 1 h) in
-        let t = save_tested (tracks_of d) (directory d) w (sym (reply-accepted o.disk.accepted) ∙ n) in
-        opens w d n q p k
-        (r
-        ∙ ap (λ (x : List ℕ). kept s x (put (zeros 3) 0 exec) (put (zeros 11) 0 info) u.bytes u.tracks)
-        (part-whole (padded name) 10 (omega (arith, (usable-is name t.usable-name).1)))
-        ∙ ap₂ (kept s (padded name) (put (zeros 3) 0 exec) (put (zeros 11) 0 info)) (sym (used-is d u o.disk)) (sym (tracks-is d u o.disk)))
+        let t = save_tested (tracks_of d) (directory d) w (sym (reply-accepted o.disk.accepted) ∙ n) in (
+          sym n,
+          ap (λ (x : List ℕ). kept s x (put (zeros 3) 0 exec) (put (zeros 11) 0 info) u.bytes u.tracks)
+              (part-whole (padded name) 10 (omega (arith, (usable-is name t.usable-name).1)))
+              ∙ ap₂ (kept s (padded name) (put (zeros 3) 0 exec) (put (zeros 11) 0 info)) (sym (used-is d u o.disk)) (sym (tracks-is d u o.disk))
+              ∙ sym (opens w d n),
+        )

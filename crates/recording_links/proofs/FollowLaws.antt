@@ -1,5 +1,6 @@
 -- The continuation of a recording on an accepted disk: where it is lost 30 stands, and where it leads on nothing has moved.
 use Prim.Native.Nat.{ℕ, ◌+◌, ◌≤◌, ◌<◌, min}
+use Rattle.std.specs.Prelude.{Option, None, Some}
 use mathlib.Core.Path.{◌≡◌, refl, sym, ap, ap₂, ◌∙◌}
 use mathlib.Core.Bool.{Bool, true, false, cond, not, ◌&&◌, ◌||◌}
 use mathlib.Core.List.{List}
@@ -30,27 +31,25 @@ use Rattle.plans.proofs.Free.{passing_long}
 use Rattle.allocation.specs.Taken.{unavailable_map, unset, lowest_clear_bits}
 use Rattle.allocation.proofs.Unavailable.{available_bits_are}
 use Rattle.recordings.specs.Recording.{Recording, chain_of, inner_sectors, used_of, lacks_link, disk_moved}
-use Rattle.recording_links.specs.declared.Continuation.{Continuation}
-use Rattle.recording_links.specs.declared.Continuation.TheVariants.{Stale, NextBit}
 use Rattle.recording_links.specs.LinkedSectors.{next_bit, continuation_along, continuation_in}
 
 -- ---- as the code tells it
 
 module _ (d : List ℕ) (u : UsedMap) (was : List ℕ) (t n : ℕ) (x : Bool) (e : x ≡ same_bytes u.bytes was) where
-  by_used_map : (y : Bool) → x ≡ y → continuation_in d u was t n ≡ cond (y && eqb u.tracks t) (continuation_along d (unavailable_map u) n) Stale
+  by_used_map : (y : Bool) → x ≡ y → continuation_in d u was t n ≡ cond (y && eqb u.tracks t) (continuation_along d (unavailable_map u) n) None
   unfolding continuation_in
-  by_used_map y h = ap (λ (s : Bool). cond (s && eqb u.tracks t) (continuation_along d (unavailable_map u) n) Stale) (sym e ∙ h)
+  by_used_map y h = ap (λ (s : Bool). cond (s && eqb u.tracks t) (continuation_along d (unavailable_map u) n) None) (sym e ∙ h)
 
-  pub other-map : x ≡ false → Stale ≡ continuation_in d u was t n
+  pub other-map : x ≡ false → None ≡ continuation_in d u was t n
   other-map h = sym (by_used_map false h)
 
-  pub other-tracks : x ≡ true → (u.tracks ≡ t → ⊥) → Stale ≡ continuation_in d u was t n
-  other-tracks h l = sym (by_used_map true h ∙ ap (λ (s : Bool). cond s (continuation_along d (unavailable_map u) n) Stale) (ne_eqb u.tracks t l))
+  pub other-tracks : x ≡ true → (u.tracks ≡ t → ⊥) → None ≡ continuation_in d u was t n
+  other-tracks h l = sym (by_used_map true h ∙ ap (λ (s : Bool). cond s (continuation_along d (unavailable_map u) n) None) (ne_eqb u.tracks t l))
 
-  pub same_map : x ≡ true → u.tracks ≡ t → (m : List ℕ) → m ≡ unavailable_map u → (r : Continuation) → r ≡ continuation_along d m n → r ≡ continuation_in d u was t n
+  pub same_map : x ≡ true → u.tracks ≡ t → (m : List ℕ) → m ≡ unavailable_map u → (r : Option ℕ) → r ≡ continuation_along d m n → r ≡ continuation_in d u was t n
   same_map h l m p r q =
       q ∙ ap (λ (m : List ℕ). continuation_along d m n) p
-      ∙ sym (by_used_map true h ∙ ap (λ (s : Bool). cond s (continuation_along d (unavailable_map u) n) Stale) (eq-eqb u.tracks t l))
+      ∙ sym (by_used_map true h ∙ ap (λ (s : Bool). cond s (continuation_along d (unavailable_map u) n) None) (eq-eqb u.tracks t l))
 
 -- ---- as a caller needs it
 
@@ -99,30 +98,30 @@ module _ (d : List ℕ) (u : UsedMap) (a : CheckedDisk d u) (r : Recording) (n :
       (sym (bytes_are u.bytes r.used b.0), sym (eqb-true u.tracks r.tracks b.1))
 
   -- the continuation by its two tests
-  by_tests : (s t : Bool) → same ≡ s → lacks_link d (lowest_clear_bits (unavailable_map u) n) ≡ t → continuation_in d u r.used r.tracks n ≡ cond s (cond t Stale (NextBit (next_bit (unavailable_map u) n))) Stale
+  by_tests : (s t : Bool) → same ≡ s → lacks_link d (lowest_clear_bits (unavailable_map u) n) ≡ t → continuation_in d u r.used r.tracks n ≡ cond s (cond t None (Some (next_bit (unavailable_map u) n))) None
   unfolding continuation_in continuation_along
-  by_tests s t e f = ap₂ (λ (x y : Bool). cond x (cond y Stale (NextBit (next_bit (unavailable_map u) n))) Stale) e f
+  by_tests s t e f = ap₂ (λ (x y : Bool). cond x (cond y None (Some (next_bit (unavailable_map u) n))) None) e f
 
   lacks_is : same ≡ true → (t : Bool) → lacks_link d (lowest_clear_bits (unavailable_map u) n) ≡ t → disk_moved d r ≡ t
   lacks_is e t f = let p = same-is e in moved_by true t e (ap (lacks_link d) (chain-is p.0 p.1) ∙ f)
 
-  pub lost_moved : continuation_in d u r.used r.tracks n ≡ Stale → disk_moved d r ≡ true
+  pub lost_moved : continuation_in d u r.used r.tracks n ≡ None → disk_moved d r ≡ true
   lost_moved e = by same (lacks_link d (lowest_clear_bits (unavailable_map u) n)) refl refl
     where
       by : (s t : Bool) → same ≡ s → lacks_link d (lowest_clear_bits (unavailable_map u) n) ≡ t → disk_moved d r ≡ true
       by false t p q = moved_by false (lacks_link d (chain_of r)) p refl
       by true true p q = lacks_is p true q
-      by true false p q = let z : NextBit (next_bit (unavailable_map u) n) ≡ Stale = sym (by_tests true false p q) ∙ e in let y : ◌≡◌ {A = ℕ} 0 1 = cc in absurd (omega arith)
+      by true false p q = let z : Some (next_bit (unavailable_map u) n) ≡ None = sym (by_tests true false p q) ∙ e in let y : ◌≡◌ {A = ℕ} 0 1 = cc in absurd (omega arith)
 
-  pub on_still : (b : ℕ) → continuation_in d u r.used r.tracks n ≡ NextBit b → Continues d u r n b
+  pub on_still : (b : ℕ) → continuation_in d u r.used r.tracks n ≡ Some b → Continues d u r n b
   unfolding next_bit
   on_still b e = by same (lacks_link d (lowest_clear_bits (unavailable_map u) n)) refl refl
     where
       by : (s t : Bool) → same ≡ s → lacks_link d (lowest_clear_bits (unavailable_map u) n) ≡ t → Continues d u r n b
-      by false t p q = let z : Stale ≡ NextBit b = sym (by_tests false t p q) ∙ e in let y : ◌≡◌ {A = ℕ} 0 1 = cc in absurd (omega arith)
-      by true true p q = let z : Stale ≡ NextBit b = sym (by_tests true true p q) ∙ e in let y : ◌≡◌ {A = ℕ} 0 1 = cc in absurd (omega arith)
+      by false t p q = let z : None ≡ Some b = sym (by_tests false t p q) ∙ e in let y : ◌≡◌ {A = ℕ} 0 1 = cc in absurd (omega arith)
+      by true true p q = let z : None ≡ Some b = sym (by_tests true true p q) ∙ e in let y : ◌≡◌ {A = ℕ} 0 1 = cc in absurd (omega arith)
       by true false p q =
-          let z : NextBit (next_bit (unavailable_map u) n) ≡ NextBit b = sym (by_tests true false p q) ∙ e in
+          let z : Some (next_bit (unavailable_map u) n) ≡ Some b = sym (by_tests true false p q) ∙ e in
           let y : next_bit (unavailable_map u) n ≡ b = cc in
           let w = same-is p in
           record { still = lacks_is p false q; used = w.0; tracks = w.1; chain = chain-is w.0 w.1; next = sym y }

@@ -1,5 +1,6 @@
 -- Along the clear bits of a map: how far their sectors are known to lead to the next.
 use Prim.Native.Nat.{ℕ, zero, suc, ◌+◌, ◌-◌, ◌≤◌, ◌<◌, min}
+use Rattle.std.specs.Prelude.{None, Some}
 use mathlib.Core.Path.{◌≡◌, refl, sym, ap, ap₂, ◌∙◌, subst}
 use mathlib.Core.Bool.{Bool, true, false, cond, not, ◌||◌}
 use mathlib.Core.List.{List, [], ◌∷◌}
@@ -16,7 +17,6 @@ use Rattle.plans.proofs.Free.{passing_run, run_at}
 use Rattle.allocation.specs.Taken.{unset, lowest_clear_bits, next_clear}
 use Rattle.allocation.proofs.Next.{clear_bits, clear_first, clear_next}
 use Rattle.recordings.specs.Recording.{inner_sectors, leads_to, lacks_link}
-use Rattle.recording_links.specs.declared.Continuation.TheVariants.{Stale, NextBit}
 use Rattle.recording_links.specs.LinkedSectors.{next_bit, continuation_along}
 
 -- where there is a k-th, whatever else were given
@@ -63,15 +63,15 @@ module _ (d m : List ℕ) (n : ℕ) where
   fewer j k h e = none_any k unled (λ i l. any_none j unled e i (omega arith))
 
   -- the walk ends with no fault where the chain has no further pair
-  ended : (j : ℕ) → any j unled ≡ false → length bits ≤ j + 2 → (x : ℕ) → x ≡ get_or all (1 + inner_sectors n) 1560 → NextBit x ≡ continuation_along d m n
+  ended : (j : ℕ) → any j unled ≡ false → length bits ≤ j + 2 → (x : ℕ) → x ≡ get_or all (1 + inner_sectors n) 1560 → Some x ≡ continuation_along d m n
   unfolding lacks_link continuation_along next_bit
-  ended j e h x q = sym (ap (λ (t : Bool). cond t Stale (NextBit (get_or all (1 + inner_sectors n) 1560))) (fewer j (length bits - 2) (omega arith) e) ∙ ap NextBit (sym q))
+  ended j e h x q = sym (ap (λ (t : Bool). cond t None (Some (get_or all (1 + inner_sectors n) 1560))) (fewer j (length bits - 2) (omega arith) e) ∙ ap Some (sym q))
 
   -- and there is no next where the map has too few clear bits
-  out : (j : ℕ) → any j unled ≡ false → length all ≤ j + 2 → length all ≤ 1 + inner_sectors n → NextBit 1560 ≡ continuation_along d m n
+  out : (j : ℕ) → any j unled ≡ false → length all ≤ j + 2 → length all ≤ 1 + inner_sectors n → Some 1560 ≡ continuation_along d m n
   out j e h l = ended j e (omega (arith, bits-long)) 1560 (sym (past_default all (1 + inner_sectors n) 1560 l))
 
-  pub no_first : (x : ℕ) → x ≡ next_clear m 0 → 1560 ≤ x → NextBit 1560 ≡ continuation_along d m n
+  pub no_first : (x : ℕ) → x ≡ next_clear m 0 → 1560 ≤ x → Some 1560 ≡ continuation_along d m n
   unfolding any
   no_first x e h = let z : length all ≤ 0 = none 0 (subst (λ (y : ℕ). 1560 ≤ y) (e ∙ clear_first m) h) in out 0 refl (omega arith) (omega arith)
 
@@ -89,13 +89,13 @@ module _ (d m : List ℕ) (n : ℕ) where
       record { least = omega arith; few = omega arith; at = q ∙ ap (next_clear m) z ∙ clear_next m 0 (omega (arith, e ∙ clear_first m)); fine = refl }
 
   module _ (b k : ℕ) (w : Walked b k) where
-    pub walk_done : n ≤ k → NextBit b ≡ continuation_along d m n
+    pub walk_done : n ≤ k → Some b ≡ continuation_along d m n
     walk_done h =
         let z : suc (inner_sectors k) ≡ 1 + inner_sectors n = omega (arith, w.few) in
         ended (inner_sectors k) w.fine (omega (arith, bits-long, w.least)) b (w.at ∙ ap (λ (j : ℕ). get_or all j 1560) z)
 
     module _ (s : k < n) where
-      pub walk_short : 1560 ≤ b → NextBit 1560 ≡ continuation_along d m n
+      pub walk_short : 1560 ≤ b → Some 1560 ≡ continuation_along d m n
       walk_short h =
           let z : length all ≤ suc (inner_sectors k) = none (suc (inner_sectors k)) (subst (λ (y : ℕ). 1560 ≤ y) w.at h) in
           out (inner_sectors k) w.fine (omega arith) (omega (arith, w.few))
@@ -106,7 +106,7 @@ module _ (d m : List ℕ) (n : ℕ) where
             let z : b + 1 ≡ suc (get_or (clear_bits m) (suc (inner_sectors k)) 1560) = omega (arith, w.at) in
             q ∙ ap (next_clear m) z ∙ clear_next m (suc (inner_sectors k)) (omega (arith, w.at))
 
-        pub walk_last : 1560 ≤ c → NextBit 1560 ≡ continuation_along d m n
+        pub walk_last : 1560 ≤ c → Some 1560 ≡ continuation_along d m n
         walk_last l =
             let z : length all ≤ suc (suc (inner_sectors k)) = none (suc (suc (inner_sectors k))) (subst (λ (y : ℕ). 1560 ≤ y) next-is l) in
             out (inner_sectors k) w.fine (omega arith) (omega (arith, w.least))
@@ -120,10 +120,10 @@ module _ (d m : List ℕ) (n : ℕ) where
               ap₂ (λ (x y : ℕ). not (leads_to (sector_at d x) y)) (bit_at (suc (inner_sectors k)) (omega (arith, w.least)) (omega (arith, two)) ∙ sym w.at)
               (bit_at (suc (suc (inner_sectors k))) (omega (arith, w.least)) two ∙ sym next-is)
 
-          pub walk_fault : leads_to (sector_at d b) c ≡ false → Stale ≡ continuation_along d m n
+          pub walk_fault : leads_to (sector_at d b) c ≡ false → None ≡ continuation_along d m n
           unfolding lacks_link continuation_along
           walk_fault e =
-              sym (ap (λ (t : Bool). cond t Stale (NextBit (next_bit m n)))
+              sym (ap (λ (t : Bool). cond t None (Some (next_bit m n)))
               (any_some (length bits - 2) unled (inner_sectors k) (omega (arith, two, bits-long, w.least)) (pair ∙ ap not e)))
 
           pub walk_on : leads_to (sector_at d b) c ≡ true → Walked c (k + 1)

@@ -8,14 +8,6 @@ ghost use Rattle.recording_links.specs.LinkedSectors.{continuation_along, contin
 
 use surveys::UsedMap;
 
-// How these sectors lead on: one lacks its link, or the disk is not as it was at opening; or the map bit of the next sector to be
-// written, 1,560 where there is none.
-#[derive(Clone, Copy)]
-pub enum Continuation {
-    Stale,
-    NextBit(usize),
-}
-
 // Whether the last two bytes of the sector at bit `b` are the track and the sector of bit `c`.
 fn leads_to(image: &[u8], b: usize, c: usize) -> bool
     requires { (b < 1560) × (c < 1560) }
@@ -29,43 +21,42 @@ fn leads_to(image: &[u8], b: usize, c: usize) -> bool
     buffers::byte_at(image, at + 511) == link.sector
 }
 
-// Along the `n` lowest clear bits of a map: whether each of their sectors but the first and the last leads to the next.
-fn continuation_along(image: &[u8], map: &[u8], n: usize) -> Continuation
+// Along the `n` lowest clear bits of a map: the bit of the next sector to be written, 1,560 where there is none; nothing where one of
+// their sectors but the first and the last does not lead to the next.
+fn continuation_along(image: &[u8], map: &[u8], n: usize) -> Option<usize>
     ensures { result ≡ continuation_along image.now map.now n }
 {
     let first = allocation::next_clear(map, 0);
     if 1560 <= first {
-        return Continuation::NextBit(1560);
+        return Some(1560);
     }
     let mut b = allocation::next_clear(map, first + 1);
-    let mut k: usize = 2;
-    while k < n {
+    for _k in 2..n {
         if 1560 <= b {
-            return Continuation::NextBit(1560);
+            return Some(1560);
         }
         let c = allocation::next_clear(map, b + 1);
         if 1560 <= c {
-            return Continuation::NextBit(1560);
+            return Some(1560);
         }
         if !leads_to(image, b, c) {
-            return Continuation::Stale;
+            return None;
         }
         b = c;
-        k += 1;
     }
-    Continuation::NextBit(b)
+    Some(b)
 }
 
-// The same for a recording of `n` sectors, opened when the used map was `was` and n was `tracks`; on a disk where they now are `used`.
-pub fn follow(image: &[u8], used: UsedMap, was: &[u8], tracks: usize, n: usize) -> Continuation
+// The same for a recording of `n` sectors, opened when the used map was `was` and n was `tracks`, on a disk where they now are `used`:
+// nothing too where these are not as they were.
+pub fn follow(image: &[u8], used: UsedMap, was: &[u8], tracks: usize, n: usize) -> Option<usize>
     ensures { result ≡ continuation_in image.now used was.now tracks n }
 {
-    let bytes = used.bytes;
-    if !names::same_bytes(&bytes, was) {
-        return Continuation::Stale;
+    if !names::same_bytes(&used.bytes, was) {
+        return None;
     }
     if used.tracks != tracks {
-        return Continuation::Stale;
+        return None;
     }
     let map = allocation::unavailable_bits(used);
     continuation_along(image, &map, n)

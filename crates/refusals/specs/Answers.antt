@@ -1,15 +1,11 @@
 -- The paper's number and values for each case of an answer.
-use Rattle.std.specs.Prelude.{ℕ, List}
+use Rattle.std.specs.Prelude.{ℕ, List, Result, Ok, Err}
 use Rattle.std.proofs.Math.Option.{none, some}
 use Rattle.buffers.specs.Bytes.{put}
 use Rattle.refusals.specs.Order.{Refusal, Reply, refuse}
 use Rattle.refusals.specs.declared.Reason.{Reason}
 use Rattle.refusals.specs.declared.Reason.TheVariants.{NotAnImage, KindUnknown, NameMissing, CountOutOfRange, BitsDiffer, FirstNotOwn, LengthTooGreat, SectorShared, NameTwice, ChainBroken, HeaderDiffers, NameNotUsable, WrongKind, StartOutOfRange, NameNotFound, NameTaken, FileProtected, NoFreeSlot, TooFewSectors, BufferTooShort, NoSuchSector, WasteSectors, NamesNotTens, TracksOutOfRange, BodyTooLong, CodeNotOwn, NoSuchDirectory, InsideItself, DirectoryNotEmpty, RecordingMoved, ReportFull, NoFreeRun}
 use Rattle.refusals.specs.declared.Refused.{Refused}
-use Rattle.refusals.specs.declared.Verdict.{Verdict}
-use Rattle.refusals.specs.declared.Verdict.TheVariants.{Accepted, Err}
-use Rattle.refusals.specs.declared.Answer.{Answer}
-use Rattle.refusals.specs.declared.Answer.TheVariants.{Done, Err}
 
 -- "Numbers of refusal"
 abbrev pub refusal_number : Reason → ℕ
@@ -86,8 +82,8 @@ abbrev pub refusal_of : Refused → Refusal
 refusal_of r = refuse (refusal_number r.reason) r.slot
 
 -- what a check replies
-abbrev pub reply_of : Verdict → Reply
-reply_of Accepted = none
+abbrev pub reply_of : {A : Type 0} → Result A Refused → Reply
+reply_of (Ok _) = none
 reply_of (Err r) = some (refusal_of r)
 
 -- what a call gives: its value and the free sectors, or a refusal
@@ -95,8 +91,9 @@ pub data Outcome : Type 0 where
   done : ℕ → ℕ → Outcome
   refused : Refusal → Outcome
 
-abbrev pub outcome_of : Answer → Outcome
-outcome_of (Done v f) = done v f
+-- of a call that gives one value
+abbrev pub outcome_of : Result ℕ Refused → Outcome
+outcome_of (Ok v) = done v 0
 outcome_of (Err r) = refused (refusal_of r)
 
 -- an outcome, unless there is a refusal

@@ -1,119 +1,65 @@
 // The table of refusals: why a call refuses, and the slot it was found at.
 #![tactic(auto)]
 
-ghost use Rattle.std.specs.Prelude.{◌≡◌, ◌≤◌};
-ghost use Rattle.std.proofs.Math.Option.{some};
-ghost use Rattle.refusals.specs.Order.{refuse};
-ghost use Rattle.refusals.specs.Answers.{refusal_number, last_number, reply_of, outcome_of, refused};
+ghost use Rattle.std.specs.Prelude.{◌≡◌, ◌≤◌, Err};
+ghost use Rattle.refusals.specs.Answers.{refusal_number, last_number};
 
-// The rows of the table. `NameMissing` is given no more; its number stays its own.
-#[derive(Clone, Copy)]
+// The rows of the table, each with its number. `NameMissing` is given no more; its number stays its own.
+#[derive(Clone, Copy, Debug, PartialEq, Eq)]
 pub enum Reason {
-    NotAnImage,
-    KindUnknown,
-    NameMissing,
-    CountOutOfRange,
-    BitsDiffer,
-    FirstNotOwn,
-    LengthTooGreat,
-    SectorShared,
-    NameTwice,
-    ChainBroken,
-    HeaderDiffers,
-    NameNotUsable,
-    WrongKind,
-    StartOutOfRange,
-    NameNotFound,
-    NameTaken,
-    FileProtected,
-    NoFreeSlot,
-    TooFewSectors,
-    BufferTooShort,
-    NoSuchSector,
-    WasteSectors,
-    NamesNotTens,
-    TracksOutOfRange,
-    BodyTooLong,
-    CodeNotOwn,
-    NoSuchDirectory,
-    InsideItself,
-    DirectoryNotEmpty,
-    RecordingMoved,
-    ReportFull,
-    NoFreeRun,
+    NotAnImage = 1,
+    KindUnknown = 2,
+    NameMissing = 3,
+    CountOutOfRange = 4,
+    BitsDiffer = 5,
+    FirstNotOwn = 6,
+    LengthTooGreat = 7,
+    SectorShared = 8,
+    NameTwice = 9,
+    ChainBroken = 10,
+    HeaderDiffers = 11,
+    NameNotUsable = 12,
+    WrongKind = 13,
+    StartOutOfRange = 14,
+    NameNotFound = 15,
+    NameTaken = 16,
+    FileProtected = 17,
+    NoFreeSlot = 18,
+    TooFewSectors = 19,
+    BufferTooShort = 20,
+    NoSuchSector = 21,
+    WasteSectors = 22,
+    NamesNotTens = 23,
+    TracksOutOfRange = 24,
+    BodyTooLong = 25,
+    CodeNotOwn = 26,
+    NoSuchDirectory = 27,
+    InsideItself = 28,
+    DirectoryNotEmpty = 29,
+    RecordingMoved = 30,
+    ReportFull = 31,
+    NoFreeRun = 32,
+}
+
+impl Reason {
+    // The number of a reason in the table.
+    pub fn number(self) -> usize
+        ensures { (result ≡ refusal_number self) × (result ≤ last_number) }
+    {
+        self as usize
+    }
 }
 
 // A refusal: its reason, and the slot (from 1) it was found at, or 0.
-#[derive(Clone, Copy)]
+#[derive(Clone, Copy, Debug, PartialEq, Eq)]
 pub struct Refused {
     pub reason: Reason,
     pub slot: usize,
 }
 
-// What a check finds.
-#[derive(Clone, Copy)]
-pub enum Verdict {
-    Accepted,
-    Err(Refused),
-}
-
-// What a call answers: a value (how many, a length, an address) with the free sectors of a listing, or a refusal.
-#[derive(Clone, Copy)]
-pub enum Answer {
-    Done(usize, usize),
-    Err(Refused),
-}
-
-// The number of a reason in the table.
-pub fn refusal_number(reason: Reason) -> usize
-    ensures { (result ≡ refusal_number reason) × (result ≤ last_number) }
+// What refuses, of a check or of any other call.
+pub fn refuse<T>(reason: Reason, slot: usize) -> Result<T, Refused>
+    ensures { result ≡ Err (record { reason = reason; slot = slot }) }
 {
-    match reason {
-        Reason::NotAnImage => 1,
-        Reason::KindUnknown => 2,
-        Reason::NameMissing => 3,
-        Reason::CountOutOfRange => 4,
-        Reason::BitsDiffer => 5,
-        Reason::FirstNotOwn => 6,
-        Reason::LengthTooGreat => 7,
-        Reason::SectorShared => 8,
-        Reason::NameTwice => 9,
-        Reason::ChainBroken => 10,
-        Reason::HeaderDiffers => 11,
-        Reason::NameNotUsable => 12,
-        Reason::WrongKind => 13,
-        Reason::StartOutOfRange => 14,
-        Reason::NameNotFound => 15,
-        Reason::NameTaken => 16,
-        Reason::FileProtected => 17,
-        Reason::NoFreeSlot => 18,
-        Reason::TooFewSectors => 19,
-        Reason::BufferTooShort => 20,
-        Reason::NoSuchSector => 21,
-        Reason::WasteSectors => 22,
-        Reason::NamesNotTens => 23,
-        Reason::TracksOutOfRange => 24,
-        Reason::BodyTooLong => 25,
-        Reason::CodeNotOwn => 26,
-        Reason::NoSuchDirectory => 27,
-        Reason::InsideItself => 28,
-        Reason::DirectoryNotEmpty => 29,
-        Reason::RecordingMoved => 30,
-        Reason::ReportFull => 31,
-        Reason::NoFreeRun => 32,
-    }
-}
-
-// An answer that refuses.
-pub fn refused_answer(reason: Reason, slot: usize) -> Answer
-    ensures { outcome_of result ≡ refused (refuse (refusal_number reason) slot) }
-{
-    Answer::Err(Refused { reason, slot })
-}
-
-// A verdict that refuses.
-pub fn refused_verdict(reason: Reason, slot: usize) -> Verdict
-    ensures { reply_of result ≡ some (refuse (refusal_number reason) slot) }
-{
-    Verdict::Err(Refused { reason, slot })
+    Err(Refused { reason, slot })
 }

@@ -12,7 +12,7 @@ ghost use Rattle.reports.specs.Numbers.{files_report, report_of, number_at};
 ghost use Rattle.reports.specs.Calls.{disks_in, raised_at, raised};
 ghost use Rattle.report_bytes.specs.Bytes.{report_numbers_in, four_of, Numbered, add_disk_bytes, join_reports_bytes};
 
-use refusals::{Answer, Reason, Verdict};
+use refusals::{Reason, Refused};
 
 // The bytes of a report: 124 numbers, of which the last 13 are not used.
 pub const REPORT_BYTES: usize = 496;
@@ -36,22 +36,13 @@ const FREE_SECTORS: usize = 98;
 
 const CLASSES: usize = 99;
 
-fn wide(x: u8) -> u32
-    ensures { (result ≡ x) × (result < 256) }
-{
-    x as u32
-}
-
 // One of a report's numbers: four bytes, which the compiler makes one load.
 fn number_at(bytes: &[u8], k: usize) -> u32
     requires { (k < 111) × (496 ≤ length bytes.now) }
     ensures { (result ≡ slice_index (report_numbers_in bytes.now) k) × (result < 2 ^ 32) }
 {
     let at = 4 * k;
-    wide(bytes[at])
-        + 256 * wide(bytes[at + 1])
-        + 65536 * wide(bytes[at + 2])
-        + 16777216 * wide(bytes[at + 3])
+    u32::from_le_bytes([bytes[at], bytes[at + 1], bytes[at + 2], bytes[at + 3]])
 }
 
 // Puts a number's four bytes at a place.
@@ -59,10 +50,11 @@ fn put_four(bytes: &mut [u8], at: usize, x: u32)
     requires { at + 4 ≤ length bytes.old }
     ensures { bytes.new ≡ put bytes.old at (four_of x) }
 {
-    bytes[at] = (x % 256) as u8;
-    bytes[at + 1] = (x / 256 % 256) as u8;
-    bytes[at + 2] = (x / 65536 % 256) as u8;
-    bytes[at + 3] = (x / 16777216 % 256) as u8;
+    let four = x.to_le_bytes();
+    bytes[at] = four[0];
+    bytes[at + 1] = four[1];
+    bytes[at + 2] = four[2];
+    bytes[at + 3] = four[3];
 }
 
 // One of the numbers with more to it, modulo 2^32.
@@ -70,7 +62,7 @@ fn raise(bytes: &mut [u8], k: usize, by: u32)
     requires { (k < 111) × (496 ≤ length bytes.old) }
     ensures { Numbered bytes.old bytes.new (raised_at (report_numbers_in bytes.old) k by) }
 {
-    let sum = std::num::wrapping_add_u32(number_at(bytes, k), by);
+    let sum = number_at(bytes, k).wrapping_add(by);
     put_four(bytes, 4 * k, sum);
 }
 
@@ -81,6 +73,7 @@ fn count_files(bytes: &mut [u8], image: &[u8], files: usize)
 {
     let mut seen: usize = 0;
     let mut i: usize = 0;
+    // No plainer: the loop ends on the files that were seen, so that no slot past the last live one is looked at.
     while seen < files {
         let s = directory::slot_at(image, i);
         i += 1;
@@ -107,16 +100,10 @@ fn count_disk(bytes: &mut [u8], image: &[u8])
     requires { 496 ≤ length bytes.old }
     ensures { Numbered bytes.old bytes.new (raised (report_numbers_in bytes.old) (number_at (report_of (view image.now)))) }
 {
-    let found = disk::examine(image);
-    let verdict = found.verdict;
-    match verdict {
-        Verdict::Err(r) => {
-            let reason = r.reason;
-            raise(bytes, refusals::refusal_number(reason), 1);
-        }
-        Verdict::Accepted => {
-            let used = found.used;
-            count_accepted(bytes, used.count, surveys::free_of(used));
+    match disk::examine(image) {
+        Err(r) => raise(bytes, r.reason.number(), 1),
+        Ok(found) => {
+            count_accepted(bytes, found.used.count, surveys::free_of(found.used));
             count_files(bytes, image, found.files);
         }
     }
@@ -128,27 +115,25 @@ fn disks_in(bytes: &[u8]) -> usize
     ensures { (result ≡ disks_in (report_numbers_in bytes.now)) × (result ≤ 33 * 2 ^ 32) }
 {
     let mut disks: usize = 0;
-    let mut k: usize = 0;
-    while k < REFUSED_END {
+    for k in 0..REFUSED_END {
         disks += number_at(bytes, k) as usize;
-        k += 1;
     }
     disks
 }
 
 // A disk added to a report: the disks in it after.
-pub fn add(image: &[u8], bytes: &mut [u8]) -> Answer
+pub fn add(image: &[u8], bytes: &mut [u8]) -> Result<usize, Refused>
     ensures { out (outcome_of result) bytes.new ≡ add_disk_bytes bytes.old image.now }
 {
     if bytes.len() < REPORT_BYTES {
-        return refusals::refused_answer(Reason::BufferTooShort, 0);
+        return refusals::refuse(Reason::BufferTooShort, 0);
     }
     let disks = disks_in(bytes) + 1;
     if MOST_DISKS < disks {
-        return refusals::refused_answer(Reason::ReportFull, 0);
+        return refusals::refuse(Reason::ReportFull, 0);
     }
     count_disk(bytes, image);
-    Answer::Done(disks, 0)
+    Ok(disks)
 }
 
 // The numbers of another report, added to those of one.
@@ -156,27 +141,25 @@ fn add_numbers(bytes: &mut [u8], other: &[u8])
     requires { (496 ≤ length bytes.old) × (496 ≤ length other.now) }
     ensures { Numbered bytes.old bytes.new (raised (report_numbers_in bytes.old) (λ k. slice_index (report_numbers_in other.now) k)) }
 {
-    let mut k: usize = 0;
-    while k < NUMBERS {
+    for k in 0..NUMBERS {
         raise(bytes, k, number_at(other, k));
-        k += 1;
     }
 }
 
 // Another report joined to one: the disks in both.
-pub fn join(bytes: &mut [u8], other: &[u8]) -> Answer
+pub fn join(bytes: &mut [u8], other: &[u8]) -> Result<usize, Refused>
     ensures { out (outcome_of result) bytes.new ≡ join_reports_bytes bytes.old other.now }
 {
     if bytes.len() < REPORT_BYTES {
-        return refusals::refused_answer(Reason::BufferTooShort, 0);
+        return refusals::refuse(Reason::BufferTooShort, 0);
     }
     if other.len() < REPORT_BYTES {
-        return refusals::refused_answer(Reason::BufferTooShort, 0);
+        return refusals::refuse(Reason::BufferTooShort, 0);
     }
     let disks = disks_in(bytes) + disks_in(other);
     if MOST_DISKS < disks {
-        return refusals::refused_answer(Reason::ReportFull, 0);
+        return refusals::refuse(Reason::ReportFull, 0);
     }
     add_numbers(bytes, other);
-    Answer::Done(disks, 0)
+    Ok(disks)
 }

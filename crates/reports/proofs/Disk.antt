@@ -5,6 +5,7 @@ use mathlib.Core.Bool.{not}
 use mathlib.Core.List.{List}
 use mathlib.Core.Logic.{◌≢◌}
 use mathlib.Core.Option.{Option, none, some}
+use Rattle.std.specs.Prelude.{Result, Ok, Err}
 use native.Mathlib.Omega.{arith}
 use lib.Dec.{eqb}
 use lib.ListN.{length, get_or}
@@ -13,9 +14,8 @@ use Rattle.maps.specs.Bits.{bits_of, join}
 use Rattle.maps.proofs.Laws.{bits_clear, bits_le, bits-join}
 use Rattle.buffers.specs.Sums.{sum}
 use Rattle.refusals.specs.Order.{Refusal, ◌else◌, row, scan}
-use Rattle.refusals.specs.Answers.{refusal_number, last_number, reply_of, refusal_of}
+use Rattle.refusals.specs.Answers.{refusal_number, last_number, refusal_of}
 use Rattle.refusals.specs.declared.Refused.{Refused}
-use Rattle.refusals.specs.declared.Verdict.TheVariants.{Accepted, Err}
 use Rattle.refusals.proofs.First.{else_none}
 use Rattle.refusals.proofs.Lowest.{positive}
 use Rattle.slots.specs.Tracks.{bad_tracks}
@@ -31,6 +31,7 @@ use Rattle.surveys.proofs.Pass.{survey_passed}
 use Rattle.disk.specs.View.{View, view, view_slots, view_tracks}
 use Rattle.disk.specs.Check.{chain_at, check_by, check_view, check_disk, Examined}
 use Rattle.disk.proofs.View.{view-slots, view_extra}
+use Rattle.disk.proofs.Examined.{examined_ok, examined_err}
 use Rattle.reports.specs.Numbers.{Numbers, sectors_among, files_report, accepted_report, refused_report, report_of, number_at}
 use Rattle.reports.specs.Calls.{raised_at, raised}
 use Rattle.reports.proofs.Places.{NumberPlace, at-accepted, at-refused, at-kind, at-sectors, at-free, at_class, place_of_number, number-accepted, number-refused, number-kind, number-sectors, number-free, number_class, only, only-there, only-elsewhere}
@@ -121,38 +122,37 @@ number-of_accepted n v k = by (place_of_number k)
     by (at-free x) = rw (no0 (λ q. omega arith), no97 (λ q. omega arith), only-there 98 (free n v) k x, number-free b k x, number-free a k x) (omega arith)
     by (at_class x) = rw (no0 (λ q. omega arith), no97 (λ q. omega arith), no98 (λ q. omega arith), number_class b k x, number_class a k x) (omega arith)
 
--- ---- as the code meets them: x is what the check hands on
+-- ---- as the code meets them: x is what the check answers
 
-module _ (d : List ℕ) (x : Survey) (w : Examined d x) where
-  -- what is known of an accepted one
-  pub record Taken : Type 0 where
-    pub fine : check_view (view d) ≡ none
-    pub sectors : x.used.count ≡ sectors_among (directory d) slots
-    pub few : x.used.count ≤ 1560
-    pub files : x.files ≡ live_among (directory d) slots
-    pub used : x.used ≡ used_map (tracks_of d) (directory d)
+-- what is known of an accepted disk and its survey
+pub record Taken (d : List ℕ) (s : Survey) : Type 0 where
+  pub fine : check_view (view d) ≡ none
+  pub sectors : s.used.count ≡ sectors_among (directory d) slots
+  pub few : s.used.count ≤ 1560
+  pub files : s.files ≡ live_among (directory d) slots
+  pub used : s.used ≡ used_map (tracks_of d) (directory d)
 
-  pub taken : x.verdict ≡ Accepted → Taken
+module _ (d : List ℕ) (x : Result Survey Refused) (w : Examined d x) where
+  pub taken : (s : Survey) → x ≡ Ok s → Taken d s
   unfolding check_disk used_map counted
-  taken e =
-      let z : check_view (view d) ≡ none = sym w.reply ∙ ap reply_of e in
-      let u : x.used ≡ used_map (tracks_of d) (directory d) = w.used ∙ rw z in
-      let b : x.used.count ≡ bits_of (union (directory d) slots) = ap (λ (m : UsedMap). m.count) u in
-      let s : survey (tracks_of d) (directory d) ≡ none = ap₂ survey (sym (view_extra d)) (sym (view-slots d)) ∙ survey-accepts (view d) z in
+  taken s e =
+      let z = examined_ok d x s w e in
+      let b : s.used.count ≡ bits_of (union (directory d) slots) = ap (λ (m : UsedMap). m.count) z.1 in
+      let a : survey (tracks_of d) (directory d) ≡ none = ap₂ survey (sym (view_extra d)) (sym (view-slots d)) ∙ survey-accepts (view d) z.0 in
       record {
-        fine = z;
-        sectors = b ∙ used-sectors (tracks_of d) (directory d) s slots (omega arith);
+        fine = z.0;
+        sectors = b ∙ used-sectors (tracks_of d) (directory d) a slots (omega arith);
         few = omega (arith, bits_le (union (directory d) slots));
-        files = w.files ∙ rw z;
-        used = u;
+        files = z.2;
+        used = z.1;
       }
 
   module _ (l : List ℕ) (long : length l ≡ 111) (bound : (k : ℕ) → get_or l k 0 < 2 ^ 32) where
-    pub counts_refused : (r : Refused) → x.verdict ≡ Err r → {n : ℕ} → n ≡ refusal_number r.reason → n ≤ last_number
+    pub counts_refused : (r : Refused) → x ≡ Err r → {n : ℕ} → n ≡ refusal_number r.reason → n ≤ last_number
         → {l' : List ℕ} → l' ≡ raised_at l n 1 → l' ≡ raised l (number_at (report_of (view d)))
     unfolding check_disk
     counts_refused r e {n} p h {l'} q =
-        let z : check_view (view d) ≡ some (refusal_of r) = sym w.reply ∙ ap reply_of e in
+        let z : check_view (view d) ≡ some (refusal_of r) = examined_err d x r w e in
         let one = raised-more l (λ k. 0) l (raised-none l long bound) (refusal_number r.reason) 1 (omega arith) (q ∙ ap (λ (j : ℕ). raised_at l j 1) p) in
         raised_is l (number_at (report_of (view d))) l'
         (raised-same l (λ k. 0 + only (refusal_number r.reason) 1 k) (number_at (report_of (view d))) l' one
@@ -161,17 +161,17 @@ module _ (d : List ℕ) (x : Survey) (w : Examined d x) where
         zero-plus : (a : ℕ) → 0 + a ≡ a
         zero-plus a = omega arith
 
-    pub counts_accepted : Taken → {f : ℕ} → f ≡ free_of x.used → {l' l'' : List ℕ}
-        → l' ≡ raised_at (raised_at (raised_at l 0 1) 97 x.used.count) 98 f → l'' ≡ raised l' (number_at (files_report (directory d) slots)) → l'' ≡ raised l (number_at (report_of (view d)))
+    pub counts_accepted : (s : Survey) → Taken d s → {f : ℕ} → f ≡ free_of s.used → {l' l'' : List ℕ}
+        → l' ≡ raised_at (raised_at (raised_at l 0 1) 97 s.used.count) 98 f → l'' ≡ raised l' (number_at (files_report (directory d) slots)) → l'' ≡ raised l (number_at (report_of (view d)))
     unfolding free
-    counts_accepted t {f} p {l'} {l''} q o =
+    counts_accepted s t {f} p {l'} {l''} q o =
         raised_is l (number_at (report_of (view d))) l'' (raised-same l _ (number_at (report_of (view d))) l'' (raised-twice l _ _ l' l'' third o) same)
       where
         v : Directory
         v = directory d
 
         sectors : ℕ
-        sectors = x.used.count
+        sectors = s.used.count
 
         first : Raised l (λ k. 0 + only 0 1 k) (raised_at l 0 1)
         first = raised-more l (λ k. 0) l (raised-none l long bound) 0 1 (omega arith) refl

@@ -9,14 +9,12 @@ ghost use Rattle.reports.specs.Numbers.{in_class};
 pub fn class_of(count: usize) -> usize
     ensures { (in_class result count ≡ true) × (result < 12) }
 {
-    let mut class: usize = 0;
     let mut next: usize = 1;
-    while class < 11 {
+    for class in 0..11 {
         if count < next {
             return class;
         }
         next = 2 * next;
-        class += 1;
     }
-    class
+    11
 }

@@ -1,5 +1,5 @@
 -- Map bits turned into sector numbers, and the list of a save's sectors.
-use Prim.Native.Nat.{ℕ, ◌+◌, ◌*◌, ◌/◌, ◌≤◌, ◌<◌}
+use Prim.Native.Nat.{ℕ, ◌+◌, ◌≤◌, ◌<◌}
 use mathlib.Core.Path.{◌≡◌, sym, ap, ◌∙◌}
 use mathlib.Core.List.{List, [], ◌∷◌, ◌++◌, map, map-append}
 use native.Mathlib.Numerals.{add-one}
@@ -7,16 +7,9 @@ use native.Mathlib.Omega.{arith}
 use lib.ListN.{length, get_or, take, set, length-map}
 use lib.Seq.{length-take-le, take-suc, get_or-take}
 use Rattle.buffers.specs.Bytes.{put}
-use Rattle.buffers.proofs.Lists.{length-put, put-none, put-after, put_next}
-use Rattle.geometry.specs.Disk.{bit_number, place_or_end}
-use Rattle.geometry.proofs.Laws.{place_or_end_lem, number_small}
+use Rattle.buffers.proofs.Lists.{put-none, put-after, put_next}
+use Rattle.geometry.specs.Disk.{bit_number}
 use Rattle.saves.specs.Write.{Bits}
-
--- the number of a map bit's sector, by its place
-pub place-number : (b : ℕ) → b < 1560 → (p : ℕ) → p ≡ place_or_end b → (p / 512 ≡ bit_number b) × (p / 512 < 1600)
-place-number b h p e =
-    let q : p ≡ bit_number b * 512 = e ∙ place_or_end_lem b h in
-    (omega arith, omega (arith, number_small b h))
 
 -- the first j of a list's n map bits are turned
 pub record NumbersLoop (l : List ℕ) (n : ℕ) (l' : List ℕ) (j : ℕ) : Type 0 where
@@ -31,26 +24,20 @@ module _ (l : List ℕ) (n : ℕ) (l' : List ℕ) (j : ℕ) (w : NumbersLoop l n
   long : length (map bit_number (take j l)) ≡ j
   long = length-map (take j l) bit_number ∙ length-take-le j l (omega (arith, w.far, w.room))
 
-  pub numbered_long : length l' ≡ length l
-  numbered_long = ap length w.is ∙ length-put l 0 (map bit_number (take j l))
-
-  module _ (h : j < n) (b : Bits (take n l)) where
-    pub numbered_here : get_or l' j 0 ≡ get_or l j 0
+  module _ (h : j < n) where
+    numbered_here : get_or l' j 0 ≡ get_or l j 0
     numbered_here = ap (λ (x : List ℕ). get_or x j 0) w.is ∙ put-after l 0 (map bit_number (take j l)) j (omega (arith, long))
 
-    pub numbered_small : get_or l' j 0 < 1560
-    numbered_small = rw (numbered_here, ← get_or-take n l j 0 h) (b.small j (omega (arith, length-take-le n l w.room)))
+    pub numbered_small : Bits (take n l) → get_or l' j 0 < 1560
+    numbered_small b = rw (numbered_here, ← get_or-take n l j 0 h) (b.small j (omega (arith, length-take-le n l w.room)))
 
-    pub numbered_place : (p : ℕ) → p ≡ place_or_end (get_or l' j 0) → (p / 512 ≡ bit_number (get_or l' j 0)) × (p / 512 < 1600)
-    numbered_place p e = place-number (get_or l' j 0) numbered_small p e
-
-    pub numbered_more : (p : ℕ) → p ≡ place_or_end (get_or l' j 0) → NumbersLoop l n (set l' j (p / 512)) (j + 1)
-    numbered_more p e = record {
+    pub numbered_more : (v : ℕ) → v ≡ bit_number (get_or l' j 0) → NumbersLoop l n (set l' j v) (j + 1)
+    numbered_more v e = record {
       far = omega arith;
       room = w.room;
-      is = put_next l (map bit_number (take j l)) j (p / 512) long l' w.is
+      is = put_next l (map bit_number (take j l)) j v long l' w.is
           ∙ ap (put l 0)
-          (ap (λ (v : ℕ). map bit_number (take j l) ++ (v ∷ [])) ((numbered_place p e).0 ∙ ap bit_number numbered_here)
+          (ap (λ (v : ℕ). map bit_number (take j l) ++ (v ∷ [])) (e ∙ ap bit_number numbered_here)
           ∙ sym (ap (λ (k : ℕ). map bit_number (take k l)) (add-one j) ∙ ap (map bit_number) (take-suc l j 0 (omega (arith, w.room))) ∙ map-append bit_number (take j l) (get_or l j 0 ∷ [])));
     }
 

@@ -14,9 +14,9 @@ ghost use Rattle.sector_writes.specs.Sector.{link_to_next};
 ghost use Rattle.saves.specs.Write.{save_request, save_request_for, Bits, Writable, SaveReady, SaveSlot};
 
 use allocation::HeaderFields;
-use files::Lookup;
-use refusals::{Answer, Reason, Verdict};
+use refusals::{Reason, Refused, refuse};
 use sector_writes::Link;
+use slot_writes::Particulars;
 use surveys::UsedMap;
 
 // The link to the sector `j` of a chain; past its end there is none.
@@ -30,7 +30,7 @@ fn link_to(bits: &[u16], j: usize) -> Link
             sector: 0,
         };
     }
-    sector_writes::link_of(bits[j] as usize)
+    sector_writes::link_of(usize::from(bits[j]))
 }
 
 // Writes the data sectors of a chain.
@@ -38,11 +38,9 @@ fn write_chain(image: &mut [u8], head: &[u8], body: &[u8], bits: &[u16])
     requires { Bits bits.now }
     ensures { image.new ≡ apply image.old (data_steps (head.now ++ body.now) 0 bits.now) }
 {
-    let mut k: usize = 0;
-    while k < bits.len() {
+    for k in 0..bits.len() {
         let link = link_to(bits, k + 1);
-        sector_writes::write_sector(image, bits[k] as usize, head, body, 510 * k, link);
-        k += 1;
+        sector_writes::write_sector(image, usize::from(bits[k]), head, body, 510 * k, link);
     }
 }
 
@@ -51,43 +49,20 @@ fn to_numbers(list: &mut [u16], n: usize)
     requires { (n ≤ length list.old) × Bits (take n list.old) }
     ensures { list.new ≡ put list.old 0 (map bit_number (take n list.old)) }
 {
-    let mut j: usize = 0;
-    while j < n {
-        list[j] = (geometry::bit_place(list[j] as usize) / 512) as u16;
-        j += 1;
+    for j in 0..n {
+        list[j] = sector_writes::sector_number(usize::from(list[j]));
     }
 }
 
 // Writes a file into slot `i`: the data sectors of its chain, no old name behind the slot, then the slot.
-fn write_file(
-    image: &mut [u8],
-    i: usize,
-    old: bool,
-    start: HeaderFields,
-    name: &[u8],
-    exec: &[u8],
-    info: &[u8],
-    body: &[u8],
-    bits: &[u16],
-)
-    requires { Writable i old start body.now bits.now × (256 ≤ length image.old) }
-    ensures { image.new ≡ apply image.old (save_steps old (view image.old) i (save_request_for start name.now exec.now info.now body.now) bits.now) }
+fn write_file(image: &mut [u8], i: usize, old: bool, what: &Particulars, body: &[u8], bits: &[u16])
+    requires { Writable i old what.now.start body.now bits.now × (256 ≤ length image.old) }
+    ensures { image.new ≡ apply image.old (save_steps old (view image.old) i (save_request_for what.now.start what.now.name.now what.now.exec.now what.now.info.now body.now) bits.now) }
 {
     let map = slot_writes::map_with(bits);
     let first = link_to(bits, 0);
-    let slot = slot_writes::slot_of(
-        image,
-        i,
-        start,
-        name,
-        exec,
-        info,
-        body.len(),
-        bits.len(),
-        first,
-        &map,
-    );
-    let head = sector_writes::header_of(start, body.len());
+    let slot = slot_writes::slot_of(image, i, what, body.len(), bits.len(), first, &map);
+    let head = sector_writes::header_of(what.start, body.len());
     write_chain(image, &head, body, bits);
     slot_writes::put_slot(image, i, old, &slot);
 }
@@ -100,18 +75,15 @@ fn write_save(
     n: usize,
     i: usize,
     old: bool,
-    start: HeaderFields,
-    name: &[u8],
-    exec: &[u8],
-    info: &[u8],
+    what: &Particulars,
     body: &[u8],
     list: &mut [u16],
 )
-    requires { SaveReady map.now n i old start body.now list.old × (256 ≤ length image.old) }
-    ensures { Applied (save_steps old (view image.old) i (save_request_for start name.now exec.now info.now body.now) (lowest_clear_bits map.now n)) image.old list.old image.new list.new (n + length (dir_sectors old i)) }
+    requires { SaveReady map.now n i old what.now.start body.now list.old × (256 ≤ length image.old) }
+    ensures { Applied (save_steps old (view image.old) i (save_request_for what.now.start what.now.name.now what.now.exec.now what.now.info.now body.now) (lowest_clear_bits map.now n)) image.old list.old image.new list.new (n + length (dir_sectors old i)) }
 {
     allocation::pick_bits(map, n, list);
-    write_file(image, i, old, start, name, exec, info, body, &list[..n]);
+    write_file(image, i, old, what, body, &list[..n]);
     to_numbers(list, n);
     let last = n;
     slot_writes::put_dirs(list, last, i, old);
@@ -122,32 +94,29 @@ fn save_at(
     image: &mut [u8],
     used: UsedMap,
     i: usize,
-    start: HeaderFields,
-    name: &[u8],
-    exec: &[u8],
-    info: &[u8],
+    what: &Particulars,
     body: &[u8],
     list: &mut [u16],
-) -> Answer
-    requires { SaveSlot image.old used i start name.now }
-    ensures { ReturnsChange (save (save_request_for start name.now exec.now info.now body.now)) image.old list.old result image.new list.new }
+) -> Result<usize, Refused>
+    requires { SaveSlot image.old used i what.now.start what.now.name.now }
+    ensures { ReturnsChange (save (save_request_for what.now.start what.now.name.now what.now.exec.now what.now.info.now body.now)) image.old list.old result image.new list.new }
 {
     // No disk holds more, and past the largest number the sectors could not be counted.
     if 795591 < body.len() {
-        return refusals::refused_answer(Reason::TooFewSectors, 0);
+        return refuse(Reason::TooFewSectors, 0);
     }
     let n = (body.len() + 518) / 510;
     if surveys::free_of(used) < n {
-        return refusals::refused_answer(Reason::TooFewSectors, 0);
+        return refuse(Reason::TooFewSectors, 0);
     }
     let old = slot_writes::has_old_name(image, i);
     let named = n + slot_writes::dir_count(i, old);
     if list.len() < named {
-        return refusals::refused_answer(Reason::BufferTooShort, 0);
+        return refuse(Reason::BufferTooShort, 0);
     }
     let map = allocation::unavailable_bits(used);
-    write_save(image, &map, n, i, old, start, name, exec, info, body, list);
-    Answer::Done(named, 0)
+    write_save(image, &map, n, i, old, what, body, list);
+    Ok(named)
 }
 
 // Saves a file: the image changes, the front of `list` gets the numbers of the sectors in the order of writing, and the
@@ -162,20 +131,17 @@ pub fn save(
     info: &[u8],
     body: &[u8],
     list: &mut [u16],
-) -> Answer
+) -> Result<usize, Refused>
     ensures { ReturnsChange (save (save_request kind name.now page offset exec.now info.now body.now)) image.old list.old result image.new list.new }
 {
-    let found = disk::examine(image);
-    let verdict = found.verdict;
-    match verdict {
-        Verdict::Err(r) => Answer::Err(r),
-        Verdict::Accepted => {
-            let used = found.used;
-            let start = HeaderFields { kind, page, offset };
-            match allocation::slot_for(image, start, name) {
-                Lookup::Err(r) => Answer::Err(r),
-                Lookup::At(i) => save_at(image, used, i, start, name, exec, info, body, list),
-            }
-        }
-    }
+    let used = disk::examine(image)?.used;
+    let start = HeaderFields { kind, page, offset };
+    let i = allocation::slot_for(image, start, name)?;
+    let what = Particulars {
+        start,
+        name,
+        exec,
+        info,
+    };
+    save_at(image, used, i, &what, body, list)
 }

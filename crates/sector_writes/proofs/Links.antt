@@ -1,7 +1,7 @@
 -- The header of a save, and the links of a chain.
-use Prim.Native.Nat.{ℕ, ◌+◌, ◌/◌, ◌%◌, ◌≤◌, ◌<◌}
-use mathlib.Core.Path.{◌≡◌, refl, sym, ap, ap₂, ◌∙◌}
-use mathlib.Core.List.{List, [], ◌∷◌, ◌++◌}
+use Prim.Native.Nat.{ℕ, ◌+◌, ◌*◌, ◌/◌, ◌%◌, ◌≤◌, ◌<◌}
+use mathlib.Core.Path.{◌≡◌, sym, ap, ap₂, ◌∙◌}
+use mathlib.Core.List.{List, ◌∷◌, ◌++◌}
 use mathlib.Core.Logic.{⊎_elim}
 use borrow.Author.Tests.{lt-ltb, le-ltb}
 use native.Mathlib.Numerals.{add-one}
@@ -9,13 +9,13 @@ use native.Mathlib.Omega.{arith}
 use lib.ListN.{length, get_or, drop, drop_of_length-le}
 use lib.Seq.{drop-cons}
 use Rattle.buffers.proofs.Lists.{below_or_not}
-use Rattle.geometry.specs.Disk.{image_size, place_or_end, track_of, sector_of, address_of}
-use Rattle.geometry.specs.declared.Address.TheVariants.{Sector, NoBit}
-use Rattle.geometry.proofs.Laws.{place_or_end_lem, place_end, place_inside, address-sector, address_data}
+use Rattle.geometry.specs.Disk.{image_size, bit_number, place_or_end, track_of, sector_of, address_of}
+use Rattle.std.specs.Prelude.{Some, None}
+use Rattle.geometry.specs.declared.Address.{Address}
+use Rattle.geometry.proofs.Laws.{number_small, place_or_end_lem, place_end, place_inside, address-sector, address_data}
 use Rattle.geometry.proofs.Tests.{data_bounds}
 use Rattle.plans.specs.Change.{SaveRequest}
 use Rattle.plans.specs.Saving.{stream}
-use Rattle.allocation.specs.declared.HeaderFields.{HeaderFields}
 use Rattle.sector_writes.specs.declared.Link.{Link}
 use Rattle.sector_writes.specs.Sector.{header_fields_of, FieldsFit, header, link_address, link_to_bit, link_to_next}
 
@@ -45,9 +45,9 @@ pub from : (bs : List ℕ) (j : ℕ) → j < length bs → drop j bs ≡ get_or 
 from bs j h = drop-cons bs j 0 h ∙ ap (λ (n : ℕ). get_or bs j 0 ∷ drop n bs) (sym (add-one j))
 
 -- a track and a sector are bytes
-pub link_small : (t s b : ℕ) → address_of b ≡ Sector t s → (t < 208) × (s ≤ 10)
-link_small t s b a =
-    let k = address-sector t s b a in
+pub link_small : (a : Address) (b : ℕ) → address_of b ≡ Some a → (a.track < 208) × (a.sector ≤ 10)
+link_small a b e =
+    let k = address-sector a.track a.sector b e in
     let d = data_bounds (track_of b) (sector_of b) (address_data b k.small) in
     (omega arith, omega arith)
 
@@ -56,17 +56,18 @@ pub link_bit : (b : ℕ) → b < 1560 → link_to_bit b ≡ link_address (track_
 unfolding link_to_bit
 link_bit b h = rw (lt-ltb b 1560 h)
 
-pub link_some : (b t s : ℕ) → address_of b ≡ Sector t s → link_address t s ≡ link_to_bit b
-link_some b t s a = let k = address-sector t s b a in sym (link_bit b k.small ∙ ap₂ link_address k.track k.sector)
+pub link_some : (b : ℕ) (a : Address) → address_of b ≡ Some a → link_address a.track a.sector ≡ link_to_bit b
+link_some b a e = let k = address-sector a.track a.sector b e in sym (link_bit b k.small ∙ ap₂ link_address k.track k.sector)
 
 -- a map bit has an address
-no_bit : (b : ℕ) → b < 1560 → address_of b ≡ NoBit → ⊥
+no_bit : (b : ℕ) → b < 1560 → address_of b ≡ None → ⊥
 unfolding address_of
 no_bit b h e =
-    let f : Sector (track_of b) (sector_of b) ≡ NoBit = sym (rw (lt-ltb b 1560 h)) ∙ e in
+    let there : Address = record { track = track_of b; sector = sector_of b } in
+    let f : Some there ≡ None = sym (rw (lt-ltb b 1560 h)) ∙ e in
     let z : ◌≡◌ {A = ℕ} 0 1 = cc in omega arith
 
-pub link_none : (b : ℕ) → address_of b ≡ NoBit → link_address 0 0 ≡ link_to_bit b
+pub link_none : (b : ℕ) → address_of b ≡ None → link_address 0 0 ≡ link_to_bit b
 unfolding link_to_bit
 link_none b e =
     ⊎_elim (λ (h : b < 1560). absurd (no_bit b h e)) (λ (h : 1560 ≤ b). sym (rw (le-ltb b 1560 h))) (below_or_not b 1560)

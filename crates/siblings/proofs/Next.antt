@@ -81,10 +81,6 @@ module _ (links : List ℕ) (k : ℕ) where
   unfolding link_entry
   entry_in h = rw (lt-ltb k 1034 h)
 
-  pub entry_past : 1034 ≤ k → link_entry links k ≡ 0
-  unfolding link_entry
-  entry_past h = rw (le-ltb k 1034 h)
-
 module _ (v : Directory) (links : List ℕ) (e : links ≡ links_of v) where
   at_link : (k : ℕ) → k < 1034 → link_entry links k ≡ link_at v k
   unfolding links_of

@@ -5,17 +5,17 @@ ghost use Rattle.std.specs.Prelude.{◌≡◌};
 ghost use Rattle.directory.specs.Directory.{directory};
 ghost use Rattle.siblings.specs.Links.{links_of, link_entry};
 
-// An entry of the table; 0 past its end.
-fn entry_at(links: &[u16; 1034], k: usize) -> u16
-    ensures { result ≡ link_entry links.now k }
-{
-    if k < 1034 { links[k] } else { 0 }
-}
-
+// An entry of the table; 0 past its end, as the definition has it. Not by `get`: cross/guard refuses the Option of a reference, which
+// lies otherwise where pointers have 32 bits.
+#[tactic(auto, unfolding(crate::specs::Links::link_entry))]
 pub fn link_at(links: &[u16; 1034], k: usize) -> usize
     ensures { result ≡ link_entry links.now k }
 {
-    entry_at(links, k) as usize
+    if k < links.len() {
+        usize::from(links[k])
+    } else {
+        0
+    }
 }
 
 // 256 numbers by code, the first slot in the directory with that code; then one for each slot, the next slot in the directory
@@ -25,9 +25,7 @@ pub fn link_slots(dir: &[u8]) -> [u16; 1034]
     ensures { result ≡ links_of (directory dir.now) }
 {
     let mut links = [778u16; 1034];
-    let mut i = directory::slots_read(dir);
-    while 0 < i {
-        i -= 1;
+    for i in (0..directory::slots_read(dir)).rev() {
         let s = directory::slot_at(dir, i);
         if slots::is_live(s) {
             let code = slots::parent_of(s);

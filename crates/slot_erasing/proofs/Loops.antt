@@ -9,7 +9,7 @@ use native.Mathlib.Omega.{arith}
 use lib.ListN.{length, length-append}
 use Rattle.buffers.specs.Bytes.{put}
 use Rattle.buffers.proofs.Lists.{put-none, put-append, length-put}
-use Rattle.directory.specs.Places.{slots, slot_at, slot_place, dir_sector, dir_sector_or}
+use Rattle.directory.specs.Places.{slots, slot_place, dir_sector, dir_sector_or}
 use Rattle.directory.proofs.Places.{slot_placed, dir_placed, slot-sector, slot_within}
 use Rattle.erase_many.specs.EraseMany.{pairs, touches, sectors_from, sectors_with}
 use Rattle.erase_many.specs.ErasedMap.{slots_cleared}

@@ -74,13 +74,7 @@ module _ (d : List ℕ) (i : ℕ) {old : Bool} where
       r ∙ ap (λ (a : ℕ). put d a (0 ∷ 0 ∷ [])) (p ∙ slot_placed (i + 1) l ∙ ap slot_at (add-one i) ∙ sym (add-zero (slot_at (suc i))))
       ∙ sym (ap (λ (t : Bool). without_next_name t i d) q)
 
-  pub cleared_not : old ≡ false → d ≡ without_next_name old i d
-  cleared_not q = sym (ap (λ (t : Bool). without_next_name t i d) q)
-
 -- ---- one sector or two
-
-pub apart_not : (i : ℕ) (old : Bool) → old ≡ false → false ≡ (old && not (same_sector i))
-apart_not i old q = sym (ap (λ (t : Bool). t && not (same_sector i)) q)
 
 -- the last slot's sector is no other's
 last : eqb (dir_sector_or 778) (dir_sector_or 777) ≡ eqb (dir_sector 778) (dir_sector 777)

@@ -1,18 +1,18 @@
 -- What slot 1 keeps of the disk's own bytes, piece by piece; and the slot that a save writes.
 use Prim.Native.Nat.{ℕ, ◌+◌, ◌-◌, ◌≤◌, ◌<◌}
 use mathlib.Core.Path.{◌≡◌, refl, sym, ap, ◌∙◌}
-use mathlib.Core.Bool.{Bool, true, false, cond, ◌&&◌}
+use mathlib.Core.Bool.{true, false, cond, ◌&&◌}
 use mathlib.Core.List.{List}
 use mathlib.Core.Logic.{⊎_elim}
 use native.Mathlib.Omega.{arith}
 use borrow.Author.Tests.{eq-eqb, ne_eqb, le-leb}
-use lib.Dec.{eqb, leb}
+use lib.Dec.{eqb}
 use lib.ListN.{length, get_or}
 use Rattle.buffers.specs.Bytes.{tab, part, put}
 use Rattle.buffers.proofs.Lists.{below_or_not, length-tab, get_or-tab, tab_of, tab_cong, part-long, part_at, length-put, put_in, put-before, put-after}
 use Rattle.slots.specs.Tracks.{is_label}
 use Rattle.slots.proofs.Tracks.{label_not, label_mid}
-use Rattle.directory.specs.Places.{past_gap, slot_at, slot_bytes}
+use Rattle.directory.specs.Places.{past_gap, slot_at}
 use Rattle.directory.specs.Directory.{label_of}
 use Rattle.disk.specs.View.{view}
 use Rattle.plans.specs.Change.{SaveRequest}

@@ -1,7 +1,7 @@
 -- The slot that a save writes, and the directory's part of it: the definitions of `plans` in the pieces that the code writes, for
 -- numbers of any size. The words of documents 01 and 02 stand above what they define. Of a number that is too large for its byte
 -- the remainder is written; a save has none.
-use Rattle.std.specs.Prelude.{ℕ, suc, ◌+◌, ◌/◌, ◌%◌, Bool, cond, ◌&&◌, List, [], ◌∷◌, eqb, ltb, replicate}
+use Rattle.std.specs.Prelude.{ℕ, suc, ◌/◌, ◌%◌, Bool, cond, ◌&&◌, List, [], ◌∷◌, eqb, ltb, replicate}
 use Rattle.buffers.specs.Bytes.{part, put}
 use Rattle.names.specs.Name.{padded}
 use Rattle.directory.specs.Places.{slots, slot_at}

@@ -11,20 +11,31 @@ ghost use Rattle.slot_writes.specs.Filed.{chain_bytes, start_fields, fresh_slot,
 use allocation::HeaderFields;
 use sector_writes::Link;
 
+// What a save is asked for, but for its body: the kind and the start, the name, the execution bytes and the kind's information.
+#[derive(Clone, Copy)]
+pub struct Particulars<'a> {
+    pub start: HeaderFields,
+    pub name: &'a [u8],
+    pub exec: &'a [u8],
+    pub info: &'a [u8],
+}
+
+// The last slot of the largest directory, counted from 0.
+const LAST_SLOT: usize = directory::SLOTS - 1;
+
 // The map with the bits of a chain set.
 pub fn map_with(bits: &[u16]) -> [u8; 195]
     ensures { result ≡ map_with bits.now }
 {
     let mut map = [0u8; 195];
-    let mut j = bits.len();
-    while 0 < j {
-        j -= 1;
-        maps::set_bit(&mut map, bits[j] as usize);
+    for j in (0..bits.len()).rev() {
+        maps::set_bit(&mut map, usize::from(bits[j]));
     }
     map
 }
 
 // Bytes 11 to 14 of a slot: the count of a chain, high byte first, and its first track and sector.
+#[tactic(auto, unfolding(crate::specs::Filed::chain_bytes))]
 fn chain_bytes(count: usize, first: Link) -> [u8; 4]
     ensures { result ≡ chain_bytes count first }
 {
@@ -37,6 +48,7 @@ fn chain_bytes(count: usize, first: Link) -> [u8; 4]
 }
 
 // Bytes 236 to 241 of a slot: where a file of `len` bytes is loaded, and that length.
+#[tactic(auto, unfolding(crate::specs::Filed::start_fields))]
 fn span_of(start: HeaderFields, len: usize) -> [u8; 6]
     ensures { result ≡ start_fields start len }
 {
@@ -52,29 +64,20 @@ fn span_of(start: HeaderFields, len: usize) -> [u8; 6]
 }
 
 // The slot of a file of `len` bytes in a chain of `count` sectors, of which `first` is the first and `map` the map.
-fn fresh_slot(
-    start: HeaderFields,
-    name: &[u8],
-    exec: &[u8],
-    info: &[u8],
-    len: usize,
-    count: usize,
-    first: Link,
-    map: &[u8],
-) -> [u8; 256]
-    ensures { result ≡ fresh_slot start name.now exec.now info.now len count first map.now }
+fn fresh_slot(what: &Particulars, len: usize, count: usize, first: Link, map: &[u8]) -> [u8; 256]
+    ensures { result ≡ fresh_slot what.now.start what.now.name.now what.now.exec.now what.now.info.now len count first map.now }
 {
     let mut slot = [0u8; 256];
-    slot[0] = (start.kind % 256) as u8;
-    let filled = names::padded_name(name);
+    slot[0] = (what.start.kind % 256) as u8;
+    let filled = names::padded_name(what.name);
     buffers::copy_into(&mut slot, 1, &filled);
     let chain = chain_bytes(count, first);
     buffers::copy_into(&mut slot, 11, &chain);
     buffers::copy_into(&mut slot, 15, buffers::part_at(map, 0, 195));
-    buffers::copy_into(&mut slot, 221, buffers::part_at(info, 0, 11));
-    let span = span_of(start, len);
+    buffers::copy_into(&mut slot, 221, buffers::part_at(what.info, 0, 11));
+    let span = span_of(what.start, len);
     buffers::copy_into(&mut slot, 236, &span);
-    buffers::copy_into(&mut slot, 242, buffers::part_at(exec, 0, 3));
+    buffers::copy_into(&mut slot, 242, buffers::part_at(what.exec, 0, 3));
     // no date
     slot[245] = 255;
     slot
@@ -97,21 +100,19 @@ fn kept_slot(image: &[u8], i: usize, fresh: [u8; 256]) -> [u8; 256]
 
 // The slot that is written at slot `i`, counted from 0, for a file of `len` bytes in a chain of `count` sectors, of which `first` is
 // the first and `map` the map.
+#[tactic(auto, unfolding(crate::specs::Filed::slot_of))]
 pub fn slot_of(
     image: &[u8],
     i: usize,
-    start: HeaderFields,
-    name: &[u8],
-    exec: &[u8],
-    info: &[u8],
+    what: &Particulars,
     len: usize,
     count: usize,
     first: Link,
     map: &[u8],
 ) -> [u8; 256]
-    ensures { result ≡ slot_of image.now i start name.now exec.now info.now len count first map.now }
+    ensures { result ≡ slot_of image.now i what.now.start what.now.name.now what.now.exec.now what.now.info.now len count first map.now }
 {
-    let fresh = fresh_slot(start, name, exec, info, len, count, first, map);
+    let fresh = fresh_slot(what, len, count, first, map);
     kept_slot(image, i, fresh)
 }
 
@@ -119,27 +120,17 @@ pub fn slot_of(
 pub fn has_old_name(image: &[u8], i: usize) -> bool
     ensures { result ≡ old_name image.now i }
 {
-    if 777 <= i {
-        return false;
-    }
-    let next = i + 1;
-    if !slots::is_nameless(directory::slot_at(image, i)) {
-        return false;
-    }
-    if directory::slots_in(image) <= next {
-        return false;
-    }
-    !slots::is_nameless(directory::slot_at(image, next))
+    i < LAST_SLOT
+        && slots::is_nameless(directory::slot_at(image, i))
+        && i + 1 < directory::slots_in(image)
+        && !slots::is_nameless(directory::slot_at(image, i + 1))
 }
 
 // Whether an old name stands behind slot `i`: behind the last there is none.
 fn is_behind(i: usize, old: bool) -> bool
     ensures { result ≡ has_next_name old i }
 {
-    if 777 <= i {
-        return false;
-    }
-    old
+    i < LAST_SLOT && old
 }
 
 // Sets bytes 0 and 1 of the slot after slot `i` to 0, where an old name stands there.
@@ -169,11 +160,7 @@ fn is_apart(i: usize, old: bool) -> bool
     requires { i < slots }
     ensures { result ≡ (old && not (same_sector i)) }
 {
-    if !old {
-        return false;
-    }
-    let next = directory::dir_sector(i + 1);
-    next != directory::dir_sector(i)
+    old && directory::dir_sector(i + 1) != directory::dir_sector(i)
 }
 
 // How many sectors of the directory are written for slot `i`.
@@ -189,16 +176,6 @@ pub fn dir_count(i: usize, old: bool) -> usize
     1
 }
 
-// Puts one sector number at a place of a list.
-fn put_number(list: &mut [u16], at: usize, n: usize)
-    requires { n < 65536 }
-    ensures { list.new ≡ put list.old at (n ∷ []) }
-{
-    if at < list.len() {
-        list[at] = n as u16;
-    }
-}
-
 // Puts the numbers of the directory's sectors, in the order of writing, from a place of the list on, as many as it has room for.
 pub fn put_dirs(list: &mut [u16], at: usize, i: usize, old: bool)
     ensures { list.new ≡ put list.old at (directory_sectors old i) }
@@ -210,9 +187,9 @@ pub fn put_dirs(list: &mut [u16], at: usize, i: usize, old: bool)
         return;
     }
     if is_apart(i, is_behind(i, old)) {
-        put_number(list, at, directory::dir_sector(i + 1));
-        put_number(list, at + 1, directory::dir_sector(i));
+        buffers::put_number(list, at, directory::dir_sector(i + 1) as u16);
+        buffers::put_number(list, at + 1, directory::dir_sector(i) as u16);
         return;
     }
-    put_number(list, at, directory::dir_sector(i));
+    buffers::put_number(list, at, directory::dir_sector(i) as u16);
 }

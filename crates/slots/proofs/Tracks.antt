@@ -11,7 +11,7 @@ use borrow.Author.Tests.{ltb-true, ltb-false, lt-ltb, le-ltb, not-true, leb-true
 use lib.Dec.{eqb, leb, ltb}
 use lib.Pow.{pow_pos}
 use lib.ListN.{length, get_or, length-replicate}
-use Rattle.buffers.specs.Bytes.{count, any, word, word_or}
+use Rattle.buffers.specs.Bytes.{count, word, word_or}
 use Rattle.buffers.proofs.Lists.{below_or_not, word-there}
 use Rattle.buffers.proofs.Counts.{count_add, count_all, count_none, any_none, none_any, none-count, any_some}
 use Rattle.maps.specs.Bits.{has, clear_map, with_bit, bits_of}

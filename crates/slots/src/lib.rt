@@ -2,13 +2,13 @@
 // slice the missing bytes count as 0.
 #![tactic(auto)]
 
-ghost use Rattle.std.specs.Prelude.{◌≡◌, ◌+◌, ◌*◌, ◌≤◌, ◌<◌};
+ghost use Rattle.std.specs.Prelude.{◌≡◌, ◌+◌, ◌*◌, ◌≤◌, ◌<◌, get_or};
 ghost use Rattle.refusals.specs.Answers.{reply_of};
 ghost use Rattle.slots.specs.Slot.{is_live, is_nameless, hidden, protected, kind_of, known, carried, spectrum, readable, is_directory, code_of, parent_of, name_of, is_named, count_of, first_of, map_of, page_of, offset_of, pages_of, remainder_of, slot_fields, length_of};
 ghost use Rattle.slots.specs.Tracks.{data_count, inner_map, in_directory, clear_at, past_first};
 ghost use Rattle.slots.specs.Rows.{directory_reply, file_reply_by, own_reply_by, wasteful};
 
-use refusals::{Reason, Verdict};
+use refusals::{Reason, Refused, refuse};
 
 pub fn is_live(s: &[u8]) -> bool
     ensures { result ≡ is_live s.now }
@@ -41,51 +41,38 @@ pub fn kind_of(s: &[u8]) -> usize
     buffers::num_at(s, 0) % 64
 }
 
+#[tactic(auto, unfolding(crate::specs::Slot::known))]
 pub fn is_known(kind: usize) -> bool
     ensures { result ≡ known kind }
 {
-    if kind < 1 {
-        return false;
-    }
-    if kind <= 12 {
-        return true;
-    }
-    if kind < 16 {
-        return false;
-    }
-    kind <= 23
+    1 <= kind && kind <= 12 || 16 <= kind && kind <= 23
 }
 
+#[tactic(auto, unfolding(crate::specs::Slot::carried))]
 pub fn is_carried(kind: usize) -> bool
     ensures { result ≡ carried kind }
 {
-    if kind < 16 {
-        return false;
-    }
-    kind <= 20
+    16 <= kind && kind <= 20
 }
 
 // Whether a kind is one of the Spectrum's.
+#[tactic(auto, unfolding(crate::specs::Slot::spectrum))]
 pub fn is_spectrum(kind: usize) -> bool
     ensures { result ≡ spectrum kind }
 {
-    if 4 < kind {
-        return false;
-    }
-    1 <= kind
+    1 <= kind && kind <= 4
 }
 
 // Whether a body of this kind can be read.
+#[tactic(auto, unfolding(crate::specs::Slot::readable))]
 pub fn is_readable(kind: usize) -> bool
     ensures { result ≡ readable kind }
 {
-    if is_carried(kind) {
-        return true;
-    }
-    is_spectrum(kind)
+    is_carried(kind) || is_spectrum(kind)
 }
 
 // Whether a slot is a directory.
+#[tactic(auto, unfolding(crate::specs::Slot::is_directory, crate::specs::Slot::directory_kind))]
 pub fn is_directory(s: &[u8]) -> bool
     ensures { result ≡ is_directory s.now }
 {
@@ -113,22 +100,30 @@ pub fn name_of(s: &[u8]) -> &[u8]
 }
 
 // Whether a slot is live and has that name.
+#[tactic(auto, unfolding(crate::specs::Slot::is_named))]
 pub fn is_named(s: &[u8], name: &[u8]) -> bool
     ensures { result ≡ is_named s.now name.now }
 {
-    if !is_live(s) {
-        return false;
-    }
-    names::same_name(name_of(s), name)
+    is_live(s) && names::same_name(name_of(s), name)
 }
 
+// The one number with its high byte first, so not by `two_at`.
 pub fn count_of(s: &[u8]) -> usize
     ensures { (result ≡ count_of s.now) × (result ≤ 65535) }
 {
     buffers::num_at(s, 11) * 256 + buffers::num_at(s, 12)
 }
 
-// The first sector as a map bit: 1,560 where the slot names no data sector.
+// Two bytes as one number, low byte first.
+pub fn two_at(s: &[u8], i: usize) -> usize
+    requires { i < 256 }
+    ensures { (result ≡ get_or s.now i 0 + 256 * get_or s.now (i + 1) 0) × (result ≤ 65535) }
+{
+    usize::from(u16::from_le_bytes([buffers::byte_at(s, i), buffers::byte_at(s, i + 1)]))
+}
+
+// The first sector as a map bit: 1,560 where the slot names no data sector. A number and no Option, as the definition has it: no map
+// has that bit.
 pub fn first_of(s: &[u8]) -> usize
     ensures { (result ≡ first_of s.now) × (result ≤ 1560) }
 {
@@ -150,7 +145,7 @@ pub fn page_of(s: &[u8]) -> usize
 pub fn offset_of(s: &[u8]) -> usize
     ensures { (result ≡ offset_of s.now) × (result ≤ 65535) }
 {
-    buffers::num_at(s, 237) + 256 * buffers::num_at(s, 238)
+    two_at(s, 237)
 }
 
 pub fn pages_of(s: &[u8]) -> usize
@@ -162,10 +157,11 @@ pub fn pages_of(s: &[u8]) -> usize
 pub fn remainder_of(s: &[u8]) -> usize
     ensures { (result ≡ remainder_of s.now) × (result < 16384) }
 {
-    (buffers::num_at(s, 240) + 256 * buffers::num_at(s, 241)) % 16384
+    two_at(s, 240) % 16384
 }
 
 // The length of a carried kind's body, as the slot has it.
+#[tactic(auto, unfolding(crate::specs::Slot::length_of, crate::specs::Slot::slot_fields))]
 pub fn length_of(s: &[u8]) -> usize
     ensures { (result ≡ length_of (slot_fields s.now)) × (result < 4194304) }
 {
@@ -173,6 +169,7 @@ pub fn length_of(s: &[u8]) -> usize
 }
 
 // The number of data sectors with so many directory tracks beyond four.
+#[tactic(auto, unfolding(crate::specs::Tracks::data_count))]
 pub fn data_count(tracks: usize) -> usize
     ensures { (result ≡ data_count tracks) × (result ≤ 1560) }
 {
@@ -186,30 +183,23 @@ pub fn data_count(tracks: usize) -> usize
 }
 
 // Whether the 64 bits of a map from `b` on are clear, `b` is the first of a byte, and the map has them all.
+#[tactic(auto, unfolding(crate::specs::Tracks::clear_at))]
 fn is_clear(map: &[u8], b: usize) -> bool
     ensures { result ≡ clear_at map.now b }
 {
-    if b % 8 != 0 {
-        return false;
-    }
-    let k = b / 8;
-    if map.len() < k + 8 {
-        return false;
-    }
-    buffers::word_at(map, k) == 0
+    b % 8 == 0 && b / 8 + 8 <= map.len() && buffers::word_at(map, b / 8) == 0
 }
 
 // A bit from 1 on before which none but bit 0 is set: past the first eight bytes where they are there and have no other.
+#[tactic(auto, unfolding(crate::specs::Tracks::past_first))]
 fn past_first(map: &[u8]) -> usize
     ensures { result ≡ past_first map.now }
 {
-    if map.len() < 8 {
-        return 1;
+    if 8 <= map.len() && buffers::word_at(map, 0) <= 1 {
+        64
+    } else {
+        1
     }
-    if 1 < buffers::word_at(map, 0) {
-        return 1;
-    }
-    64
 }
 
 // Whether a map has a bit inside the directory, with so many tracks beyond four. Of eight bytes that are clear no bit is looked
@@ -217,17 +207,16 @@ fn past_first(map: &[u8]) -> usize
 pub fn is_inside(map: &[u8], tracks: usize) -> bool
     ensures { result ≡ in_directory tracks map.now }
 {
-    let end = 10 * buffers::lesser(tracks, 156);
+    let end = 10 * tracks.min(156);
     let mut b = past_first(map);
+    // A `while` is plainer here than a `for`: it goes on by 64 bits or by one.
     while b < end {
-        let c = b;
-        if is_clear(map, c) {
+        if is_clear(map, b) {
             b += 64;
+        } else if maps::has_bit(map, b) {
+            return true;
         } else {
             b += 1;
-            if maps::has_bit(map, c) {
-                return true;
-            }
         }
     }
     false
@@ -237,65 +226,58 @@ pub fn is_inside(map: &[u8], tracks: usize) -> bool
 pub fn inner_map(tracks: usize) -> [u8; 195]
     ensures { result ≡ inner_map tracks }
 {
-    let end = 10 * buffers::lesser(tracks, 156);
+    let end = 10 * tracks.min(156);
     let mut map = [0u8; 195];
-    let mut b: usize = 1;
-    while b < end {
+    for b in 1..end {
         maps::set_bit(&mut map, b);
-        b += 1;
     }
     map
 }
 
 // Rows 4 and 5 at a directory's slot.
-fn directory_rows(s: &[u8], slot: usize) -> Verdict
+#[tactic(auto, unfolding(crate::specs::Rows::directory_reply, crate::specs::Slot::slot_fields))]
+fn directory_rows(s: &[u8], slot: usize) -> Result<(), Refused>
     ensures { reply_of result ≡ directory_reply slot s.now }
 {
     if count_of(s) != 0 {
-        return refusals::refused_verdict(Reason::CountOutOfRange, slot);
+        return refuse(Reason::CountOutOfRange, slot);
     }
-    if maps::bits_of(map_of(s)) == 0 {
-        return Verdict::Accepted;
+    if maps::bits_of(map_of(s)) != 0 {
+        return refuse(Reason::BitsDiffer, slot);
     }
-    refusals::refused_verdict(Reason::BitsDiffer, slot)
+    Ok(())
 }
 
 // Rows 2 and 4 to 7 at the slot of any other file.
-fn file_rows(s: &[u8], slot: usize, most: usize, inside: bool) -> Verdict
+#[tactic(auto, unfolding(crate::specs::Rows::file_reply_by, crate::specs::Slot::slot_fields))]
+fn file_rows(s: &[u8], slot: usize, most: usize, inside: bool) -> Result<(), Refused>
     ensures { reply_of result ≡ file_reply_by most inside slot s.now }
 {
     let kind = kind_of(s);
     if !is_known(kind) {
-        return refusals::refused_verdict(Reason::KindUnknown, slot);
+        return refuse(Reason::KindUnknown, slot);
     }
     let count = count_of(s);
-    if count < 1 {
-        return refusals::refused_verdict(Reason::CountOutOfRange, slot);
-    }
-    if most < count {
-        return refusals::refused_verdict(Reason::CountOutOfRange, slot);
+    if count < 1 || most < count {
+        return refuse(Reason::CountOutOfRange, slot);
     }
     let map = map_of(s);
     if maps::bits_of(map) != count {
-        return refusals::refused_verdict(Reason::BitsDiffer, slot);
+        return refuse(Reason::BitsDiffer, slot);
     }
-    if !maps::has_bit(map, first_of(s)) {
-        return refusals::refused_verdict(Reason::FirstNotOwn, slot);
+    if !maps::has_bit(map, first_of(s)) || inside {
+        return refuse(Reason::FirstNotOwn, slot);
     }
-    if inside {
-        return refusals::refused_verdict(Reason::FirstNotOwn, slot);
+    if is_carried(kind) && 510 * count < 9 + length_of(s) {
+        return refuse(Reason::LengthTooGreat, slot);
     }
-    if is_carried(kind) {
-        if 510 * count < 9 + length_of(s) {
-            return refusals::refused_verdict(Reason::LengthTooGreat, slot);
-        }
-    }
-    Verdict::Accepted
+    Ok(())
 }
 
 // Rows 2 and 4 to 7 at a live slot: `most` is the number of data sectors, and `inside` says whether its map has a bit inside
 // the directory.
-pub fn own_rows(s: &[u8], slot: usize, most: usize, inside: bool) -> Verdict
+#[tactic(auto, unfolding(crate::specs::Rows::own_reply_by, crate::specs::Rows::directory_reply, crate::specs::Rows::file_reply_by, crate::specs::Slot::slot_fields, crate::specs::Slot::is_directory))]
+pub fn own_rows(s: &[u8], slot: usize, most: usize, inside: bool) -> Result<(), Refused>
     ensures { reply_of result ≡ own_reply_by most inside slot s.now }
 {
     if is_directory(s) {
@@ -305,11 +287,9 @@ pub fn own_rows(s: &[u8], slot: usize, most: usize, inside: bool) -> Verdict
 }
 
 // Row 22, which the release check alone asks for: a carried kind, and more sectors than its length needs.
+#[tactic(auto, unfolding(crate::specs::Rows::wasteful, crate::specs::Slot::slot_fields, crate::specs::Slot::sectors_for))]
 pub fn is_wasteful(s: &[u8]) -> bool
     ensures { result ≡ wasteful (slot_fields s.now) }
 {
-    if is_carried(kind_of(s)) {
-        return (length_of(s) + 518) / 510 < count_of(s);
-    }
-    false
+    is_carried(kind_of(s)) && (length_of(s) + 518) / 510 < count_of(s)
 }

@@ -1,6 +1,6 @@
 -- A name before a slot, by the filter and by its key; and what the pass keeps beside the used map: the filter of the names so
 -- far, and how many slots are live.
-use Prim.Native.Nat.{ℕ, zero, suc, ◌+◌, ◌*◌, ◌%◌, ◌≤◌, ◌<◌}
+use Prim.Native.Nat.{ℕ, zero, suc, ◌+◌, ◌*◌, ◌≤◌, ◌<◌}
 use mathlib.Core.Path.{◌≡◌, refl, sym, ap, ap₂, ◌∙◌}
 use mathlib.Core.Bool.{Bool, true, false, not, or-true, and-false, true≢false}
 use mathlib.Core.List.{List}
@@ -10,7 +10,7 @@ use native.Mathlib.Omega.{arith}
 use native.Mathlib.Numerals.{add-one}
 use borrow.Author.Tests.{eq-eqb, not-true, not-false}
 use lib.Dec.{eqb}
-use lib.ListN.{length}
+use lib.ListN.{length, get_or}
 use Rattle.buffers.specs.Bytes.{any}
 use Rattle.buffers.proofs.Counts.{any-more, any_some, any_none, none_any}
 use Rattle.buffers.proofs.Lists.{below_or_not}
@@ -21,7 +21,7 @@ use Rattle.names.specs.Name.{same_name, key_of}
 use Rattle.names.proofs.Keys.{keys_differ}
 use Rattle.directory.specs.Directory.{fold_option, directory, live_among}
 use Rattle.surveys.specs.Survey.{earlier}
-use Rattle.surveys.specs.Filter.{key_bit, key_step, lacks_bit, may_contain, inserted_to, inserted, Filtered}
+use Rattle.surveys.specs.Filter.{key_bit, key_bits, lacks_bit, may_contain, inserted_to, inserted, Filtered}
 use Rattle.directory.proofs.Live.{among_dead, among_live, among_few, among_none}
 use Rattle.directory.proofs.Named.{named}
 
@@ -39,10 +39,16 @@ unfolding key_bit
 key_bit-small key zero = omega arith
 key_bit-small key (suc j) = omega arith
 
--- the bit after a bit
-pub bit-next : (key j : ℕ) {b step : ℕ} → b ≡ key_bit key j → step ≡ key_step key → (b + step) % 8192 ≡ key_bit key (j + 1)
-unfolding key_bit
-bit-next key j p q = rw (add-one, p, q)
+-- each among the four
+each_bit : (key j : ℕ) → j < 4 → get_or (key_bits key) j 0 ≡ key_bit key j
+each_bit key zero h = refl
+each_bit key (suc zero) h = refl
+each_bit key (suc (suc zero)) h = refl
+each_bit key (suc (suc (suc zero))) h = refl
+each_bit key (suc (suc (suc (suc j)))) h = absurd (omega arith)
+
+pub key_bits-at : {bits : List ℕ} (key j : ℕ) → bits ≡ key_bits key → j < 4 → get_or bits j 0 ≡ key_bit key j
+key_bits-at key j e h = ap (λ (l : List ℕ). get_or l j 0) e ∙ each_bit key j h
 
 module _ (f : List ℕ) (key : ℕ) where
   pub length_noted : (n : ℕ) → length (inserted_to f key n) ≡ length f

@@ -1,8 +1,8 @@
 -- The pass over rows 2 to 9: the reply at a slot by its own rows and by those against the slots before it, and what holds
 -- of a slot that has none.
 use Prim.Native.Nat.{ℕ, suc, ◌+◌, ◌-◌, ◌≤◌, ◌<◌}
-use mathlib.Core.Path.{◌≡◌, refl, sym, ap, ap₂, ◌∙◌}
-use mathlib.Core.Bool.{Bool, true, false, cond, not, ◌&&◌, true≢false}
+use mathlib.Core.Path.{◌≡◌, refl, sym, ap, ap₂, subst, ◌∙◌}
+use mathlib.Core.Bool.{Bool, true, false, cond, not, true≢false}
 use mathlib.Core.List.{List, [], ◌∷◌, ◌++◌}
 use mathlib.Core.Option.{Option, none, some}
 use native.Mathlib.Numerals.{add-one}
@@ -14,20 +14,19 @@ use Rattle.buffers.proofs.Counts.{any_none, none_any, some-any, count_less}
 use Rattle.buffers.proofs.Tests.{or_neither, and_both}
 use Rattle.buffers.specs.Bytes.{any}
 use Rattle.maps.specs.Bits.{has, bits_of, share, clear_map, join}
-use Rattle.refusals.specs.Order.{refuse, Reply, ◌else◌, Row, rows, scan_from, RowsClear, rises}
+use Rattle.refusals.specs.Order.{Refusal, refuse, Reply, ◌else◌, Row, rows, scan_from, RowsClear, rises}
 use Rattle.refusals.specs.Answers.{refusal_of, reply_of}
 use Rattle.refusals.specs.declared.Refused.{Refused}
-use Rattle.refusals.specs.declared.Verdict.{Verdict}
-use Rattle.refusals.specs.declared.Verdict.TheVariants.{Accepted, Err}
+use Rattle.std.specs.Prelude.{Result, Ok, Err}
 use Rattle.refusals.proofs.First.{else_none, rows_clear, scan_start, scan_stop, scan-none, none-scan_from}
-use Rattle.slots.specs.Slot.{SlotFields, kind_of, directory_kind, count_of, first_of, name_of, map_of, slot_fields}
+use Rattle.slots.specs.Slot.{kind_of, directory_kind, count_of, first_of, name_of, map_of, slot_fields}
 use Rattle.names.specs.Name.{same_name}
-use Rattle.slots.specs.Rows.{own, own_reply, wasteful, release_rows, directory_rows, file_rows}
+use Rattle.slots.specs.Rows.{own, own_reply, release_rows, directory_rows, file_rows}
 use Rattle.slots.specs.Tracks.{data_count, data_bit, in_directory}
 use Rattle.slots.proofs.Tracks.{count_data, outside_data, empty_outside}
 use Rattle.directory.specs.Places.{slots}
 use Rattle.directory.specs.Directory.{fold_option, Directory, tracks_of, slots_read, directory, live_among}
-use Rattle.surveys.specs.Survey.{earlier, shared_rows, rows_at, survey_at, survey_by, survey, union, counted, used_map, refused_with}
+use Rattle.surveys.specs.Survey.{earlier, shared_rows, rows_at, survey_at, survey_by, survey, union, counted, used_map}
 use Rattle.surveys.specs.Filter.{Filtered}
 use Rattle.surveys.specs.Steps.{DisjointMaps, Reached, Surveyed}
 use Rattle.surveys.specs.declared.Survey.{Survey}
@@ -89,50 +88,39 @@ survey-live release n v i s e =
     rw e (rows_append (suc i) (own n (slot_fields s)) (release_rows release (slot_fields s) ++ shared_rows v i s))
     ∙ ap (λ (q : Reply). own_reply n (suc i) s else q) (rows_append (suc i) (release_rows release (slot_fields s)) (shared_rows v i s))
 
--- row 22 by whether it is asked for
-strict_row : (release : Bool) (x : SlotFields) (s : ℕ) (q : Reply) → (rows s (release_rows release x) else q) ≡ cond (release && wasteful x) (some (refuse 22 s)) q
-strict_row false x s q = refl
-strict_row true x s q = by (wasteful x)
-  where
-    by : (t : Bool) → (cond t (some (refuse 22 s)) none else q) ≡ cond t (some (refuse 22 s)) q
-    by true = refl
-    by false = refl
-
--- as the code meets a live slot: the verdict r on its own rows, the used map u so far
-module _ (release : Bool) (n : ℕ) (v : Directory) (i : ℕ) (s u : List ℕ) (here : v i ≡ some s) (used : u ≡ union v i) (r : Verdict) (own_is : reply_of r ≡ own_reply n (i + 1) s) where
+-- as the code meets a live slot: u is the used map so far
+module _ (release : Bool) (n : ℕ) (v : Directory) (i : ℕ) (s u : List ℕ) (here : v i ≡ some s) (used : u ≡ union v i) where
   at_slot : survey_at release n v i
-      ≡ (reply_of r else cond (release && wasteful (slot_fields s)) (some (refuse 22 (i + 1)))
-      (cond (share u (map_of s)) (some (refuse 8 (i + 1))) (cond (earlier v i (λ t. same_name (name_of t) (name_of s))) (some (refuse 9 (i + 1))) none)))
-  at_slot =
-      survey-live release n v i s here
-      ∙ ap (λ (q : Reply). own_reply n (suc i) s else q) (strict_row release (slot_fields s) (suc i) (rows (suc i) (shared_rows v i s)))
-      ∙ rw (own_is, add-one, used, share-union v i (map_of s))
+      ≡ (own_reply n (i + 1) s else rows (i + 1) (release_rows release (slot_fields s)) else
+      cond (share u (map_of s)) (some (refuse 8 (i + 1))) (cond (earlier v i (λ t. same_name (name_of t) (name_of s))) (some (refuse 9 (i + 1))) none))
+  at_slot = survey-live release n v i s here ∙ rw (add-one, used, share-union v i (map_of s))
 
-  pub slot-own : (f : Refused) → r ≡ Err f → reply_of (Err f) ≡ survey_at release n v i
-  slot-own f e = sym (at_slot ∙ rw e)
+  pub slot-own : {f : Refusal} → some f ≡ own_reply n (i + 1) s → some f ≡ survey_at release n v i
+  slot-own e = sym (at_slot ∙ rw (← e))
 
   -- its own rows hold nowhere
-  pub slot_waste : r ≡ Accepted → (release && wasteful (slot_fields s)) ≡ true → some (refuse 22 (i + 1)) ≡ survey_at release n v i
-  slot_waste e z = sym (at_slot ∙ rw (e, z))
+  module _ (e : none ≡ own_reply n (i + 1) s) where
+    pub slot_waste : {f : Refusal} → some f ≡ rows (i + 1) (release_rows release (slot_fields s)) → some f ≡ survey_at release n v i
+    slot_waste z = sym (at_slot ∙ rw (← e, ← z))
 
-  -- nor does row 22; q says whether its map m shares a bit with the used map
-  module _ (e : r ≡ Accepted) (z : (release && wasteful (slot_fields s)) ≡ false) {m : List ℕ} (em : m ≡ map_of s) {q : Bool} (eq : q ≡ share u m) where
-    shares : {t : Bool} → q ≡ t → share u (map_of s) ≡ t
-    shares w = ap (share u) (sym em) ∙ sym eq ∙ w
+    -- nor does row 22; q says whether its map m shares a bit with the used map
+    module _ (z : none ≡ rows (i + 1) (release_rows release (slot_fields s))) {m : List ℕ} (em : m ≡ map_of s) {q : Bool} (eq : q ≡ share u m) where
+      shares : {t : Bool} → q ≡ t → share u (map_of s) ≡ t
+      shares x = ap (share u) (sym em) ∙ sym eq ∙ x
 
-    pub slot_shared : q ≡ true → some (refuse 8 (i + 1)) ≡ survey_at release n v i
-    slot_shared w = sym (at_slot ∙ rw (e, z, shares w))
+      pub slot_shared : q ≡ true → some (refuse 8 (i + 1)) ≡ survey_at release n v i
+      slot_shared x = sym (at_slot ∙ rw (← e, ← z, shares x))
 
-    -- p says whether a slot before it has its name
-    module _ (w : q ≡ false) {m2 : List ℕ} (en : m2 ≡ name_of s) {p : Bool} (ep : p ≡ earlier v i (λ t. same_name (name_of t) m2)) where
-      twice : {t : Bool} → p ≡ t → earlier v i (λ t. same_name (name_of t) (name_of s)) ≡ t
-      twice x = ap (λ (l : List ℕ). earlier v i (λ t. same_name (name_of t) l)) (sym en) ∙ sym ep ∙ x
+      -- p says whether a slot before it has its name
+      module _ (x : q ≡ false) {m2 : List ℕ} (en : m2 ≡ name_of s) {p : Bool} (ep : p ≡ earlier v i (λ t. same_name (name_of t) m2)) where
+        twice : {t : Bool} → p ≡ t → earlier v i (λ t. same_name (name_of t) (name_of s)) ≡ t
+        twice y = ap (λ (l : List ℕ). earlier v i (λ t. same_name (name_of t) l)) (sym en) ∙ sym ep ∙ y
 
-      pub slot_twice : p ≡ true → some (refuse 9 (i + 1)) ≡ survey_at release n v i
-      slot_twice x = sym (at_slot ∙ rw (e, z, shares w, twice x))
+        pub slot_twice : p ≡ true → some (refuse 9 (i + 1)) ≡ survey_at release n v i
+        slot_twice y = sym (at_slot ∙ rw (← e, ← z, shares x, twice y))
 
-      pub slot_clear : p ≡ false → none ≡ survey_at release n v i
-      slot_clear x = sym (at_slot ∙ rw (e, z, shares w, twice x))
+        pub slot_clear : p ≡ false → none ≡ survey_at release n v i
+        slot_clear y = sym (at_slot ∙ rw (← e, ← z, shares x, twice y))
 
 -- a slot that either pass leaves is one that the first leaves
 pub plain_at : (release : Bool) (n : ℕ) (v : Directory) (i : ℕ) (s : List ℕ) → v i ≡ some s → survey_at release n v i ≡ none → survey_at false n v i ≡ none
@@ -230,34 +218,35 @@ module _ (d : List ℕ) (n i : ℕ) (u : UsedMap) (used : u ≡ counted n (union
         ∙ ap (λ (b : List ℕ). counted n (join (union (directory d) i) b)) em ∙ ap (counted n) (sym (union-live (directory d) i s here))
 
 -- what the pass gives: at a slot that is refused, and at the end
-module _ (release : Bool) (d : List ℕ) (r : Survey) (i : ℕ) (left : survey_by release (tracks_of d) (directory d) ≡ scan_from (slots - i) i (survey_at release (tracks_of d) (directory d))) where
-  pub pass_stops : (f : Refused) → i < slots_read d → reply_of (Err f) ≡ survey_at release (tracks_of d) (directory d) i → r ≡ refused_with (Err f)
-      → Surveyed (survey_by release (tracks_of d) (directory d)) d r
-  unfolding refused_with
-  pass_stops f h e p =
-      let z : survey_by release (tracks_of d) (directory d) ≡ some (refusal_of f) = left ∙ scan_stop slots i (survey_at release (tracks_of d) (directory d)) (refusal_of f) (omega (arith, read-most d)) (sym e) in
-      record { reply = rw (p, z); used = rw (p, z); files = rw (p, z) }
+module _ (release : Bool) (d : List ℕ) (i : ℕ) (left : survey_by release (tracks_of d) (directory d) ≡ scan_from (slots - i) i (survey_at release (tracks_of d) (directory d))) where
+  pub pass_stops : (f : Refused) → i < slots_read d → some (refusal_of f) ≡ survey_at release (tracks_of d) (directory d) i
+      → Surveyed (survey_by release (tracks_of d) (directory d)) d (Err f)
+  pass_stops f h e = record {
+    reply = sym (left ∙ scan_stop slots i (survey_at release (tracks_of d) (directory d)) (refusal_of f) (omega (arith, read-most d)) (sym e));
+    used = tt;
+    files = tt;
+  }
 
   -- past the slots that are read no row holds
-  pub pass_ends : slots_read d ≤ i → i ≤ slots → r.verdict ≡ Accepted → r.used ≡ counted (tracks_of d) (union (directory d) i) → r.files ≡ live_among (directory d) i
-      → Surveyed (survey_by release (tracks_of d) (directory d)) d r
+  pub pass_ends : slots_read d ≤ i → i ≤ slots → (r : Survey) → r.used ≡ counted (tracks_of d) (union (directory d) i) → r.files ≡ live_among (directory d) i
+      → Surveyed (survey_by release (tracks_of d) (directory d)) d (Ok r)
   unfolding used_map
-  pass_ends h l p w f =
+  pass_ends h l r w f =
       let n : i + (slots - i) ≡ slots = omega arith in
       let dead : (j : ℕ) → i ≤ j → directory d j ≡ none = λ j k. directory-unread d j (omega arith) in
       let z : survey_by release (tracks_of d) (directory d) ≡ none = left ∙ none-scan_from (slots - i) i (survey_at release (tracks_of d) (directory d)) (λ j k m. survey_dead release (tracks_of d) (directory d) j (dead j k)) in
       record {
-        reply = rw (p, z);
-        used = rw z (w ∙ ap (counted (tracks_of d)) (sym (ap (union (directory d)) (sym n) ∙ union-rest (directory d) i (slots - i) dead)));
-        files = rw z (f ∙ sym (live-read d i slots h l));
+        reply = sym z;
+        used = w ∙ ap (counted (tracks_of d)) (sym (ap (union (directory d)) (sym n) ∙ union-rest (directory d) i (slots - i) dead));
+        files = f ∙ sym (live-read d i slots h l);
       }
 
--- what its caller learns by the verdict
-pub surveyed_accepted : (q : Reply) (d : List ℕ) (r : Survey) → Surveyed q d r → r.verdict ≡ Accepted
-    → (q ≡ none) × (r.used ≡ used_map (tracks_of d) (directory d)) × (r.files ≡ live_among (directory d) slots)
-surveyed_accepted q d r h e =
-    let z : q ≡ none = sym h.reply ∙ ap reply_of e in
-    (z, h.used ∙ rw z, h.files ∙ rw z)
+-- what its caller learns by the answer
+pub surveyed_ok : (q : Reply) (d : List ℕ) (r : Result Survey Refused) (s : Survey) → Surveyed q d r → r ≡ Ok s
+    → (q ≡ none) × (s.used ≡ used_map (tracks_of d) (directory d)) × (s.files ≡ live_among (directory d) slots)
+surveyed_ok q d r s h e =
+    let w : Surveyed q d (Ok s) = subst (Surveyed q d) e h in
+    (sym w.reply, w.used, w.files)
 
-pub surveyed_err : (q : Reply) (d : List ℕ) (r : Survey) (f : Refused) → Surveyed q d r → r.verdict ≡ Err f → q ≡ some (refusal_of f)
+pub surveyed_err : (q : Reply) (d : List ℕ) (r : Result Survey Refused) (f : Refused) → Surveyed q d r → r ≡ Err f → q ≡ some (refusal_of f)
 surveyed_err q d r f h e = sym h.reply ∙ ap reply_of e

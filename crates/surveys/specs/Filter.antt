@@ -1,6 +1,6 @@
 -- The filter of row 9: 8,192 bits, of which each live slot's name sets four, the same for all its spellings. A name that finds
 -- one of its four clear is no earlier live slot's.
-use Rattle.std.specs.Prelude.{ℕ, zero, suc, ◌+◌, ◌%◌, ◌<◌, ◌≡◌, Bool, true, not, List, length}
+use Rattle.std.specs.Prelude.{ℕ, zero, suc, ◌+◌, ◌%◌, ◌<◌, ◌≡◌, Bool, true, not, List, [], ◌∷◌, length}
 use Rattle.std.proofs.Math.Option.{some}
 use Rattle.buffers.specs.Bytes.{any}
 use Rattle.maps.specs.Bits.{has, with_bit}
@@ -16,6 +16,10 @@ key_step key = key % 7741
 unfoldable pub key_bit : ℕ → ℕ → ℕ
 key_bit key zero = key % 8147
 key_bit key (suc j) = (key_bit key j + key_step key) % 8192
+
+-- the four of a key
+abbrev pub key_bits : ℕ → List ℕ
+key_bits key = key_bit key 0 ∷ key_bit key 1 ∷ key_bit key 2 ∷ key_bit key 3 ∷ []
 
 -- one of the first n bits of a key is clear; none of its four is
 unfoldable pub lacks_bit : List ℕ → ℕ → ℕ → Bool

@@ -1,11 +1,13 @@
 -- What the pass knows at a live slot, what a map is joined under, and what the pass gives.
-use Rattle.std.specs.Prelude.{ℕ, ◌<◌, ◌≡◌, false, List, length}
+use Rattle.std.specs.Prelude.{ℕ, ◌<◌, ◌≡◌, false, List, length, Result, IfOk}
 use Rattle.std.proofs.Math.Option.{some}
 use Rattle.maps.specs.Bits.{bits_of, share}
 use Rattle.refusals.specs.Order.{Reply}
 use Rattle.refusals.specs.Answers.{reply_of}
-use Rattle.directory.specs.Directory.{tracks_of, slots_read, directory}
-use Rattle.surveys.specs.Survey.{union, used_or, files_or}
+use Rattle.refusals.specs.declared.Refused.{Refused}
+use Rattle.directory.specs.Places.{slots}
+use Rattle.directory.specs.Directory.{tracks_of, slots_read, directory, live_among}
+use Rattle.surveys.specs.Survey.{union, used_map}
 use Rattle.surveys.specs.Filter.{Filtered}
 use Rattle.surveys.specs.declared.Survey.{Survey}
 use Rattle.surveys.specs.declared.UsedMap.{UsedMap}
@@ -24,9 +26,8 @@ pub record DisjointMaps (u : UsedMap) (m : List ℕ) (own : ℕ) : Type 0 where
   pub own-count : own ≡ bits_of m
   pub apart : share u.bytes m ≡ false
 
--- a pass's or a check's reply q, and the used map and the number of files of a disk that it does not refuse (a clear map and
--- 0 of another)
-pub record Surveyed (q : Reply) (d : List ℕ) (r : Survey) : Type 0 where
-  pub reply : reply_of r.verdict ≡ q
-  pub used : r.used ≡ used_or q (tracks_of d) (directory d)
-  pub files : r.files ≡ files_or q (directory d)
+-- a pass's or a check's reply q, and the used map and the number of files of a disk that it does not refuse
+pub record Surveyed (q : Reply) (d : List ℕ) (r : Result Survey Refused) : Type 0 where
+  pub reply : reply_of r ≡ q
+  pub used : IfOk r (λ s. s.used ≡ used_map (tracks_of d) (directory d))
+  pub files : IfOk r (λ s. s.files ≡ live_among (directory d) slots)

@@ -1,7 +1,7 @@
 -- The pass over rows 2 to 9, a function of the directory alone, and the used map. One pass serves both checks: `release` says
 -- whether it is that of the release check, which has row 22 beside.
 use Rattle.std.specs.Prelude.{ℕ, zero, suc, ◌-◌, Bool, false, List, [], ◌∷◌, ◌++◌}
-use Rattle.std.proofs.Math.Option.{none, some}
+use Rattle.std.proofs.Math.Option.{none}
 use Rattle.buffers.specs.Bytes.{any}
 use Rattle.maps.specs.Bits.{bits_of, share, clear_map, join}
 use Rattle.refusals.specs.Order.{Row, ◌when◌, Reply, rows, scan}
@@ -10,10 +10,8 @@ use Rattle.names.specs.Name.{same_name}
 use Rattle.slots.specs.Rows.{own, release_rows}
 use Rattle.slots.specs.Tracks.{data_count}
 use Rattle.directory.specs.Places.{slots}
-use Rattle.directory.specs.Directory.{fold_option, Directory, live_among}
-use Rattle.refusals.specs.declared.Verdict.{Verdict}
+use Rattle.directory.specs.Directory.{fold_option, Directory}
 use Rattle.surveys.specs.declared.UsedMap.{UsedMap}
-use Rattle.surveys.specs.declared.Survey.{Survey}
 
 -- an earlier live slot to which a test applies
 unfoldable pub earlier : Directory → ℕ → (List ℕ → Bool) → Bool
@@ -62,17 +60,3 @@ free_of u = data_count u.tracks - u.count
 
 unfoldable pub free : ℕ → Directory → ℕ
 free n v = free_of (used_map n v)
-
--- the used map of a directory that is not refused; a clear one of another
-abbrev pub used_or : Reply → ℕ → Directory → UsedMap
-used_or none n v = used_map n v
-used_or (some r) n v = counted 0 clear_map
-
--- how many files such a directory has; 0 of another
-abbrev pub files_or : Reply → Directory → ℕ
-files_or none v = live_among v slots
-files_or (some r) v = 0
-
--- what a check hands on that refuses: its verdict, a clear map and no files
-unfoldable pub refused_with : Verdict → Survey
-refused_with v = record { verdict = v; used = counted 0 clear_map; files = 0 }

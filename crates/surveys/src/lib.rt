@@ -4,16 +4,17 @@
 
 ghost use Rattle.std.specs.Prelude.{◌≡◌, ◌≤◌, ◌<◌};
 ghost use Rattle.maps.specs.Bits.{clear_map, join};
+ghost use Rattle.refusals.specs.Order.{rows};
 ghost use Rattle.refusals.specs.Answers.{reply_of};
 ghost use Rattle.names.specs.Name.{same_name};
-ghost use Rattle.slots.specs.Slot.{name_of};
-ghost use Rattle.slots.specs.Rows.{own_reply};
+ghost use Rattle.slots.specs.Slot.{name_of, slot_fields};
+ghost use Rattle.slots.specs.Rows.{own_reply, release_rows};
 ghost use Rattle.directory.specs.Directory.{tracks_of, slots_read, directory};
-ghost use Rattle.surveys.specs.Survey.{earlier, survey_at, survey_by, counted, free_of, refused_with};
-ghost use Rattle.surveys.specs.Filter.{key_bit, key_step, may_contain, inserted, Filtered};
+ghost use Rattle.surveys.specs.Survey.{earlier, survey_at, survey_by, counted, free_of};
+ghost use Rattle.surveys.specs.Filter.{key_bits, may_contain, inserted, Filtered};
 ghost use Rattle.surveys.specs.Steps.{DisjointMaps, Reached, Surveyed};
 
-use refusals::{Reason, Verdict};
+use refusals::{Reason, Refused};
 
 // The used map: 195 map bytes together with their number of set bits, and the number of directory tracks beyond four.
 #[derive(Clone, Copy)]
@@ -23,11 +24,9 @@ pub struct UsedMap {
     pub tracks: usize,
 }
 
-// What the pass over rows 2 to 9 gives: its verdict, and where that is accepted the used map and how many slots are live
-// (else a clear map and 0).
+// What the pass over rows 2 to 9 gives of a directory that it does not refuse: the used map and how many slots are live.
 #[derive(Clone, Copy)]
 pub struct Survey {
-    pub verdict: Verdict,
     pub used: UsedMap,
     pub files: usize,
 }
@@ -39,32 +38,27 @@ const FILTER_BITS: usize = 8192;
 
 const KEY_BITS: usize = 4;
 
-// The first bit of a key, and how far each of the others is from the one before.
-fn first_bit(key: u64) -> usize
-    ensures { (result ≡ key_bit key 0) × (result < 8192) }
+// The bits of a key: the first, and each of the others as far from the one before.
+#[tactic(auto, unfolding(crate::specs::Filter::key_bit, crate::specs::Filter::key_step))]
+fn key_bits(key: u64) -> [usize; KEY_BITS]
+    ensures { result ≡ key_bits key }
 {
-    (key % 8147) as usize
-}
-
-fn bit_step(key: u64) -> usize
-    ensures { (result ≡ key_step key) × (result < 8192) }
-{
-    (key % 7741) as usize
+    let step = (key % 7741) as usize;
+    let first = (key % 8147) as usize;
+    let second = (first + step) % FILTER_BITS;
+    let third = (second + step) % FILTER_BITS;
+    [first, second, third, (third + step) % FILTER_BITS]
 }
 
 // Whether the filter has all bits of a key.
 fn may_contain(filter: &[u8], key: u64) -> bool
     ensures { result ≡ may_contain filter.now key }
 {
-    let step = bit_step(key);
-    let mut b = first_bit(key);
-    let mut n: usize = 0;
-    while n < KEY_BITS {
+    let bits = key_bits(key);
+    for b in bits {
         if !maps::has_bit(filter, b) {
             return false;
         }
-        b = (b + step) % FILTER_BITS;
-        n += 1;
     }
     true
 }
@@ -73,13 +67,9 @@ fn may_contain(filter: &[u8], key: u64) -> bool
 fn insert(filter: &mut [u8], key: u64)
     ensures { filter.new ≡ inserted filter.old key }
 {
-    let step = bit_step(key);
-    let mut b = first_bit(key);
-    let mut n: usize = 0;
-    while n < KEY_BITS {
+    let bits = key_bits(key);
+    for b in bits {
         maps::set_bit(filter, b);
-        b = (b + step) % FILTER_BITS;
-        n += 1;
     }
 }
 
@@ -93,25 +83,31 @@ fn named_before(dir: &[u8], i: usize, name: &[u8], filter: &[u8]) -> bool
     if !may_contain(filter, key) {
         return false;
     }
-    let mut j: usize = 0;
-    while j < i {
+    for j in 0..i {
         let s = directory::slot_at(dir, j);
-        j += 1;
-        if names::key_of(slots::name_of(s)) == key {
-            if slots::is_named(s, name) {
-                return true;
-            }
+        if names::key_of(slots::name_of(s)) == key && slots::is_named(s, name) {
+            return true;
         }
     }
     false
 }
 
 // Rows 2 and 4 to 7 at a live slot.
-fn own_at(s: &[u8], slot: usize, tracks: usize) -> Verdict
+fn own_at(s: &[u8], slot: usize, tracks: usize) -> Result<(), Refused>
     ensures { reply_of result ≡ own_reply tracks slot s.now }
 {
     let inside = slots::is_inside(slots::map_of(s), tracks);
     slots::own_rows(s, slot, slots::data_count(tracks), inside)
+}
+
+// Row 22 at a live slot, where `release` asks for it.
+fn waste_at(s: &[u8], slot: usize, release: bool) -> Result<(), Refused>
+    ensures { reply_of result ≡ rows slot (release_rows release (slot_fields s.now)) }
+{
+    if release && slots::is_wasteful(s) {
+        return refusals::refuse(Reason::WasteSectors, slot);
+    }
+    Ok(())
 }
 
 // Rows 2 to 9 at the live slot `i`, whose bytes are `s`, and 22 after 7 where `release` asks for it; `used` is the used map
@@ -124,26 +120,20 @@ fn live_rows(
     filter: &[u8],
     release: bool,
     tracks: usize,
-) -> Verdict
+) -> Result<(), Refused>
     requires { Reached dir.now i s.now used.now filter.now }
     ensures { reply_of result ≡ survey_at release tracks (directory dir.now) i }
 {
     let slot = i + 1;
-    match own_at(s, slot, tracks) {
-        Verdict::Err(f) => Verdict::Err(f),
-        Verdict::Accepted => {
-            if release && slots::is_wasteful(s) {
-                return refusals::refused_verdict(Reason::WasteSectors, slot);
-            }
-            if maps::shares(used, slots::map_of(s)) {
-                return refusals::refused_verdict(Reason::SectorShared, slot);
-            }
-            if named_before(dir, i, slots::name_of(s), filter) {
-                return refusals::refused_verdict(Reason::NameTwice, slot);
-            }
-            Verdict::Accepted
-        }
+    own_at(s, slot, tracks)?;
+    waste_at(s, slot, release)?;
+    if maps::shares(used, slots::map_of(s)) {
+        return refusals::refuse(Reason::SectorShared, slot);
     }
+    if named_before(dir, i, slots::name_of(s), filter) {
+        return refusals::refuse(Reason::NameTwice, slot);
+    }
+    Ok(())
 }
 
 // The used map of no slot.
@@ -157,78 +147,39 @@ fn unused(tracks: usize) -> UsedMap
     }
 }
 
-// What a check hands on that refuses: no used map and no files.
-pub fn refused(verdict: Verdict) -> Survey
-    ensures { result ≡ refused_with verdict }
+// Joins one more map to the used map, which has no bit of it yet; `own` is that map's number of set bits, counted before.
+fn join(used: &mut UsedMap, map: &[u8], own: usize)
+    requires { DisjointMaps used.old map.now own }
+    ensures { used.new ≡ counted used.old.tracks (join used.old.bytes map.now) }
 {
-    let used = unused(0);
-    Survey {
-        verdict,
-        used,
-        files: 0,
-    }
-}
-
-// The used map with one more map, of which it has no bit yet; `own` is that map's number of set bits, counted before.
-fn joined(used: UsedMap, map: &[u8], own: usize) -> UsedMap
-    requires { DisjointMaps used map.now own }
-    ensures { result ≡ counted used.tracks (join used.bytes map.now) }
-{
-    let mut bytes = used.bytes;
-    maps::join_into(&mut bytes, map);
-    let count = used.count + own;
-    let tracks = used.tracks;
-    UsedMap {
-        bytes,
-        count,
-        tracks,
-    }
+    maps::join_into(&mut used.bytes, map);
+    used.count += own;
 }
 
 // Rows 2 to 9 at all slots, with 22 where `release` asks for it, the used map, and how many slots are live.
-pub fn survey_slots(dir: &[u8], release: bool) -> Survey
+pub fn survey_slots(dir: &[u8], release: bool) -> Result<Survey, Refused>
     ensures { Surveyed (survey_by release (tracks_of dir.now) (directory dir.now)) dir.now result }
 {
     let tracks = directory::tracks_of(dir);
-    let end = directory::slots_read(dir);
     let mut used = unused(tracks);
     let mut filter = [0u8; FILTER_BYTES];
     let mut files: usize = 0;
-    let mut i: usize = 0;
-    while i < end {
+    for i in 0..directory::slots_read(dir) {
         let s = directory::slot_at(dir, i);
-        let k = i;
-        i += 1;
         if slots::is_live(s) {
-            match live_rows(dir, k, s, &used.bytes, &filter, release, tracks) {
-                Verdict::Err(f) => {
-                    return refused(Verdict::Err(f));
-                }
-                Verdict::Accepted => {
-                    insert(&mut filter, names::key_of(slots::name_of(s)));
-                    files += 1;
-                    let next = joined(used, slots::map_of(s), slots::count_of(s));
-                    used = next;
-                }
-            }
+            live_rows(dir, i, s, &used.bytes, &filter, release, tracks)?;
+            insert(&mut filter, names::key_of(slots::name_of(s)));
+            files += 1;
+            join(&mut used, slots::map_of(s), slots::count_of(s));
         }
     }
-    Survey {
-        verdict: Verdict::Accepted,
-        used,
-        files,
-    }
+    Ok(Survey { used, files })
 }
 
 // The sectors that a used map leaves free: 0 where its count is no map's.
+#[tactic(auto, unfolding(crate::specs::Survey::free_of))]
 pub fn free_of(used: UsedMap) -> usize
     ensures { result ≡ free_of used }
 {
-    let count = used.count;
-    let tracks = used.tracks;
-    let most = slots::data_count(tracks);
-    if most < count {
-        return 0;
-    }
-    most - count
+    slots::data_count(used.tracks).saturating_sub(used.count)
 }

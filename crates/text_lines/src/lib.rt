@@ -38,7 +38,7 @@ fn put_digits(page: &mut [u8], at: usize, k: usize, n: usize) -> usize
     ensures { Wrote page.old at (digits k n) page.new result }
 {
     if k == 0 {
-        return buffers::lesser(at, page.len());
+        return at.min(page.len());
     }
     if n < 10 {
         let only = digit(n);
@@ -78,13 +78,7 @@ fn mark_of(s: &[u8]) -> [u8; 3]
 fn shown_byte(b: u8) -> u8
     ensures { result ≡ shown b }
 {
-    if b < 32 {
-        return 63;
-    }
-    if 126 < b {
-        return 63;
-    }
-    b
+    if b < 32 || 126 < b { b'?' } else { b }
 }
 
 // A slot's name as it is shown.
@@ -93,10 +87,8 @@ fn shown_name(s: &[u8]) -> [u8; 10]
 {
     let name = slots::name_of(s);
     let mut visible = [0u8; 10];
-    let mut k: usize = 0;
-    while k < 10 {
+    for k in 0..10 {
         visible[k] = shown_byte(buffers::byte_at(name, k));
-        k += 1;
     }
     visible
 }
@@ -119,11 +111,8 @@ fn put_line(page: &mut [u8], at: usize, number: usize, s: &[u8]) -> usize
 pub fn put_slot_line(page: &mut [u8], at: usize, number: usize, s: &[u8]) -> usize
     ensures { Wrote page.old at (slot_line number s.now) page.new result }
 {
-    if !slots::is_live(s) {
-        return buffers::lesser(at, page.len());
-    }
-    if slots::is_hidden(s) {
-        return buffers::lesser(at, page.len());
+    if !slots::is_live(s) || slots::is_hidden(s) {
+        return at.min(page.len());
     }
     put_line(page, at, number, s)
 }
@@ -141,9 +130,8 @@ pub fn put_free(page: &mut [u8], at: usize, n: usize) -> usize
 pub fn put_refusal(page: &mut [u8], refused: Refused) -> usize
     ensures { Wrote page.old 0 (refusal_line (refusal_of refused)) page.new result }
 {
-    let reason = refused.reason;
     let a = put_bytes(page, 0, b"refused ");
-    let b = put_decimal(page, a, refusals::refusal_number(reason));
+    let b = put_decimal(page, a, refused.reason.number());
     let c = put_bytes(page, b, b" slot ");
     let d = put_decimal(page, c, refused.slot);
     put_bytes(page, d, b"\n")

@@ -1,23 +1,21 @@
 -- 12, 13 and 15 of a directory's name, and its code, as the code meets them.
-use Prim.Native.Nat.{ℕ, suc, ◌+◌, ◌<◌}
-use mathlib.Core.Path.{◌≡◌, refl, sym, ap, ◌∙◌}
-use mathlib.Core.Bool.{Bool, true, false, not, cond}
+use Prim.Native.Nat.{ℕ, ◌+◌, ◌<◌}
+use mathlib.Core.Path.{◌≡◌, sym, ap, ◌∙◌}
+use mathlib.Core.Bool.{true, false}
 use mathlib.Core.List.{List}
-use mathlib.Core.Option.{Option, none, some}
+use mathlib.Core.Option.{none, some}
 use native.Mathlib.Numerals.{add-one}
 use borrow.Author.Tests.{eq-eqb, ne_eqb}
-use lib.Dec.{eqb}
 use lib.ListN.{length}
-use Rattle.refusals.specs.Order.{Refusal, refuse, row}
+use Rattle.refusals.specs.Order.{refuse}
 use Rattle.slots.specs.Slot.{is_directory, code_of}
 use Rattle.names.specs.Name.{askable}
 use Rattle.directory.specs.Places.{slots}
-use Rattle.directory.specs.Directory.{fold_option, directory, slot_or}
-use Rattle.directory.specs.Find.{find, found_at}
-use Rattle.directory.specs.declared.Found.{Found}
+use Rattle.directory.specs.Directory.{directory, slot_or}
+use Rattle.directory.specs.Find.{find}
 use Rattle.directory.proofs.Ends.{slot_read}
 use Rattle.directory.proofs.Live.{directory-some}
-use Rattle.directory.proofs.Search.{find-some, FoundBy}
+use Rattle.directory.proofs.Search.{find-some}
 use Rattle.tree_lists.specs.Call.{name_reply, asked_code}
 
 -- the slot found, by its bytes
@@ -30,10 +28,6 @@ found-slot d n i e s p =
 pub found_below : (d n : List ℕ) (i : ℕ) → find (directory d) n ≡ some i → i < slots
 found_below d n i e = (find-some (directory d) n i e).below
 
--- what the code's answer says
-pub found-is : (r x : Found) (o : Option ℕ) → found_at r ≡ o → r ≡ x → o ≡ found_at x
-found-is r x o p q = sym p ∙ ap found_at q
-
 module _ (d n : List ℕ) where
   pub root-reply : length n ≡ 0 → name_reply (directory d) n ≡ none
   unfolding name_reply
@@ -44,10 +38,6 @@ module _ (d n : List ℕ) where
   root-code e = rw (eq-eqb (length n) 0 e)
 
   module _ (h : length n ≡ 0 → ⊥) where
-    pub code-none : find (directory d) n ≡ none → asked_code (directory d) n ≡ 0
-    unfolding asked_code
-    code-none e = rw (ne_eqb (length n) 0 h, e)
-
     pub code-found : (i : ℕ) → find (directory d) n ≡ some i → (s : List ℕ) → s ≡ slot_or d i → asked_code (directory d) n ≡ code_of s
     unfolding asked_code
     code-found i e s p = rw (ne_eqb (length n) 0 h, e, found-slot d n i e s p)

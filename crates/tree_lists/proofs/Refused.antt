@@ -3,7 +3,7 @@
 -- answer.
 use Prim.Native.Nat.{ℕ, suc, ◌≤◌}
 use mathlib.Core.Path.{◌≡◌, refl, sym, ap, ◌∙◌, subst}
-use mathlib.Core.Bool.{Bool, true, false, not, cond, ◌&&◌, ◌||◌, true≢false}
+use mathlib.Core.Bool.{Bool, true, false, not, cond, ◌&&◌, true≢false}
 use mathlib.Core.List.{List, [], ◌∷◌}
 use mathlib.Core.Logic.{⊎_elim, ◌↔◌, ◌≢◌}
 use mathlib.Core.Option.{Option, none, some, some-ne-none}
@@ -13,7 +13,7 @@ use lib.Dec.{eqb, ltb}
 use lib.ListN.{length}
 use Rattle.buffers.specs.Bytes.{put}
 use Rattle.refusals.specs.Order.{Refusal, refuse, Reply, ◌else◌, ◌when◌, row, rises, without_slots}
-use Rattle.refusals.specs.Answers.{Outcome, done, refused, Out, filled}
+use Rattle.refusals.specs.Answers.{done, refused, Out, filled}
 use Rattle.refusals.proofs.First.{else_none, else_some, rows_clear, first_row, row_else, row_first, first-row}
 use Rattle.refusals.proofs.Lowest.{slot_positive}
 use Rattle.slots.specs.Slot.{is_directory, code_of}
@@ -23,7 +23,7 @@ use Rattle.directory.specs.Directory.{fold_option, Directory, directory}
 use Rattle.directory.specs.Find.{find}
 use Rattle.directory.proofs.Search.{find-some}
 use Rattle.disk.specs.View.{View, view, view_slots}
-use Rattle.disk.specs.Check.{check_view, check_disk}
+use Rattle.disk.specs.Check.{check_disk}
 use Rattle.disk.proofs.View.{view-slots}
 use Rattle.disk.proofs.Order.{check_positive}
 use Rattle.files.specs.Calls.{no_file, file_at, file_named}
@@ -35,7 +35,7 @@ use Rattle.trees.proofs.Numbers.{nested}
 use Rattle.trees.proofs.Order.{nesting_given, given-only}
 use Rattle.trees.proofs.Parts.{tree_lists}
 use Rattle.tree_lists.specs.Call.{name_reply, asked_code, fill_with, tree_view, tree_listing}
-use Rattle.tree_lists.specs.Refused.{is_root, tree_rows, RefusesTree, by_check, by_nesting, by_row, AskedFor, the_root, a_directory, TreeAnswered}
+use Rattle.tree_lists.specs.Refused.{tree_rows, RefusesTree, by_check, by_nesting, by_row, AskedFor, the_root, a_directory, TreeAnswered}
 
 -- ---- the rows
 

@@ -2,8 +2,8 @@
 use Prim.Native.Nat.{ℕ, ◌+◌, ◌≤◌, ◌<◌}
 use mathlib.Core.Path.{◌≡◌, refl, sym, ap, ap₂, ◌∙◌}
 use mathlib.Core.Bool.{true, false}
-use mathlib.Core.List.{List, []}
-use mathlib.Core.Option.{Option, none, some, some-ne-none}
+use mathlib.Core.List.{List}
+use mathlib.Core.Option.{none, some}
 use native.Mathlib.Omega.{arith}
 use borrow.Author.Tests.{lt-ltb, le-ltb, le-leb, leb-true, leb-false}
 use lib.Dec.{leb, ltb}
@@ -13,26 +13,26 @@ use Rattle.refusals.specs.Order.{Refusal, refuse, Reply, ◌else◌}
 use Rattle.refusals.specs.Answers.{Outcome, done, refused, out}
 use Rattle.directory.specs.Places.{slots}
 use Rattle.directory.specs.Directory.{Directory, directory}
-use Rattle.disk.specs.View.{view, view_slots}
+use Rattle.disk.specs.View.{view}
 use Rattle.disk.specs.Check.{check_view, check_disk}
 use Rattle.disk.proofs.View.{view-slots}
-use Rattle.trees.specs.Tree.{tree_reply, directories, beneath, tree}
+use Rattle.trees.specs.Tree.{tree_reply, beneath, tree}
 use Rattle.trees.proofs.Numbers.{nested}
 use Rattle.trees.proofs.Once.{tree-short}
 use Rattle.tree_lists.specs.Call.{name_reply, asked_code, fill_with, tree_view, tree_listing}
-use Rattle.tree_lists.specs.Steps.{FillRoom, NestingAccepted, ListPut}
+use Rattle.tree_lists.specs.Steps.{FillRoom, LinkedTree, ListPut}
 
 -- ---- the listing by a code
 
-module _ (d links : List ℕ) (m c : ℕ) (k : NestingAccepted d links m c) where
+module _ (d links : List ℕ) (m : ℕ) (k : LinkedTree d links m) (c : ℕ) where
   clean_tree : beneath m (directory d) c ≡ tree (directory d) c
   clean_tree = ap (λ (x : ℕ). beneath x (directory d) c) k.number
 
   short : length (tree (directory d) c) ≤ slots
   short = tree-short (directory d) (nested (directory d) k.none) c
 
-  pub clean_room : FillRoom d links m c 0
-  clean_room = record { linked = k.linked; coded = k.coded; room = omega (arith, short, ap length clean_tree) }
+  pub clean_room : c < 256 → FillRoom d m c 0
+  clean_room h = record { coded = h; room = omega (arith, short, ap length clean_tree) }
 
   -- a list as long as there are slots has room
   pub room-enough : (room : ℕ) → slots ≤ room → leb (length (tree (directory d) c)) room ≡ true

@@ -1,143 +1,103 @@
 // What lies beneath a directory, to any depth: how many, and their slots.
 #![tactic(auto)]
 
-ghost use Rattle.std.specs.Prelude.{◌≡◌, ◌+◌, ◌≤◌, ◌<◌, ◌∷◌, [], leb, length};
+ghost use Rattle.std.specs.Prelude.{◌≡◌, ◌<◌, leb, length};
 ghost use Rattle.std.proofs.Math.Option.{none};
-ghost use Rattle.buffers.specs.Bytes.{put};
-ghost use Rattle.refusals.specs.Answers.{reply_of, outcome_of, out};
+ghost use Rattle.refusals.specs.Answers.{outcome_of, out};
 ghost use Rattle.directory.specs.Directory.{directory};
 ghost use Rattle.trees.specs.Tree.{beneath, tree};
-ghost use Rattle.tree_lists.specs.Call.{name_reply, asked_code, fill_with, tree_listing};
-ghost use Rattle.tree_lists.specs.Steps.{FillRoom, NestingAccepted, ListPut};
+ghost use Rattle.tree_lists.specs.Call.{fill_with, tree_listing};
+ghost use Rattle.tree_lists.specs.Steps.{CodeAsked, FillRoom, LinkedTree, ListPut};
 
-use directory::Found;
-use refusals::{Answer, Reason, Verdict};
+use refusals::{Reason, Refused};
 
-// 12, 13 and 15 of a directory's name; an empty one is the root's.
-fn name_rows(dir: &[u8], name: &[u8]) -> Verdict
-    ensures { reply_of result ≡ name_reply (directory dir.now) name.now }
+// The slots of a disk of which none of 26 to 28 holds, linked by the directories that they are in, and how many directories there
+// are.
+#[derive(Clone, Copy)]
+struct Tree<'a> {
+    dir: &'a [u8],
+    links: &'a [u16; 1034],
+    number: usize,
+    ghost linked: { LinkedTree dir.now links.now number },
+}
+
+// The code of the directory that has the name, 0 for an empty one, the root's; or 12, 13 and 15 of it.
+fn asked_code(dir: &[u8], name: &[u8]) -> Result<usize, Refused>
+    ensures { CodeAsked (directory dir.now) name.now result }
 {
-    if name.len() == 0 {
-        return Verdict::Accepted;
+    if name.is_empty() {
+        return Ok(0);
     }
     if !names::is_askable(name) {
-        return refusals::refused_verdict(Reason::NameNotUsable, 0);
+        return refusals::refuse(Reason::NameNotUsable, 0);
     }
-    match directory::find(dir, name) {
-        Found::Nothing => refusals::refused_verdict(Reason::NameNotFound, 0),
-        Found::At(i) => {
-            if slots::is_directory(directory::slot_at(dir, i)) {
-                return Verdict::Accepted;
-            }
-            refusals::refused_verdict(Reason::WrongKind, i + 1)
-        }
+    let Some(i) = directory::find(dir, name) else {
+        return refusals::refuse(Reason::NameNotFound, 0);
+    };
+    let s = directory::slot_at(dir, i);
+    if !slots::is_directory(s) {
+        return refusals::refuse(Reason::WrongKind, i + 1);
     }
+    Ok(slots::code_of(s))
 }
 
-// The code of the directory that has the name; 0 for an empty name, and where there is none.
-fn asked_code(dir: &[u8], name: &[u8]) -> usize
-    ensures { (result ≡ asked_code (directory dir.now) name.now) × (result < 256) }
-{
-    if name.len() == 0 {
-        return 0;
-    }
-    match directory::find(dir, name) {
-        Found::Nothing => 0,
-        Found::At(i) => slots::code_of(directory::slot_at(dir, i)),
-    }
-}
-
-// Puts one number at a place of a list, where it has that place.
-fn put_number(list: &mut [u16], at: usize, n: usize)
-    requires { n < 65536 }
-    ensures { list.new ≡ put list.old at (n ∷ []) }
-{
-    if at < list.len() {
-        list[at] = n as u16;
-    }
-}
-
-// Puts what lies beneath the directory with a code at a place of a list, as far as the list goes, and gives the place after
-// all of it; `left` directories are not yet entered. It goes from slot to slot by the links, so that it looks at those alone that
-// it puts, and it calls itself for each directory that it enters, so it keeps no more than it must.
-fn fill(
-    dir: &[u8],
-    links: &[u16; 1034],
-    left: usize,
-    code: usize,
-    list: &mut [u16],
-    from: usize,
-) -> usize
-    requires { FillRoom dir.now links.now left code from }
-    ensures { ListPut list.old from (beneath left (directory dir.now) code) list.new result }
-{
-    let mut at = from;
-    let mut i = siblings::link_at(links, code);
-    while i < directory::SLOTS {
-        let s = directory::slot_at(dir, i);
-        put_number(list, at, i + 1);
-        at += 1;
-        i = siblings::link_at(links, 256 + i);
-        if slots::is_directory(s) {
-            if 0 < left {
-                at = fill(dir, links, left - 1, slots::code_of(s), list, at);
+impl Tree<'_> {
+    // Puts what lies beneath the directory with a code at a place of a list, as far as the list goes, and gives the place after
+    // all of it; `left` directories are not yet entered. It goes from slot to slot by the links, so that it looks at those alone
+    // that it puts, and it calls itself for each directory that it enters, so it keeps no more than it must.
+    fn fill(&self, left: usize, code: usize, list: &mut [u16], from: usize) -> usize
+        requires { FillRoom self.now.dir.now left code from }
+        ensures { ListPut list.old from (beneath left (directory self.now.dir.now) code) list.new result }
+    {
+        let mut at = from;
+        let mut i = siblings::link_at(self.links, code);
+        // no plainer: a walk along links, not over places that follow each other
+        while i < directory::SLOTS {
+            let s = directory::slot_at(self.dir, i);
+            buffers::put_number(list, at, (i + 1) as u16);
+            at += 1;
+            i = siblings::link_at(self.links, 256 + i);
+            if slots::is_directory(s) && 0 < left {
+                at = self.fill(left - 1, slots::code_of(s), list, at);
             }
         }
+        at
     }
-    at
-}
 
-// Whether a list of `room` numbers holds all that lies beneath the directory with a code. There are never more than slots, so
-// a list that holds as many need not be counted for.
-fn has_room(dir: &[u8], links: &[u16; 1034], number: usize, code: usize, room: usize) -> bool
-    requires { NestingAccepted dir.now links.now number code }
-    ensures { result ≡ leb (length (tree (directory dir.now) code)) room }
-{
-    if directory::SLOTS <= room {
-        return true;
+    // Whether a list of `room` numbers holds all that lies beneath the directory with a code. There are never more than slots, so
+    // a list that holds as many need not be counted for.
+    fn has_room(&self, code: usize, room: usize) -> bool
+        requires { code < 256 }
+        ensures { result ≡ leb (length (tree (directory self.now.dir.now) code)) room }
+    {
+        directory::SLOTS <= room || self.fill(self.number, code, &mut [], 0) <= room
     }
-    let mut none = [0u16; 1];
-    fill(dir, links, number, code, &mut none, 0) <= room
-}
 
-// The listing of a directory by its code.
-fn list_code(
-    dir: &[u8],
-    links: &[u16; 1034],
-    number: usize,
-    code: usize,
-    list: &mut [u16],
-) -> Answer
-    requires { NestingAccepted dir.now links.now number code }
-    ensures { out (outcome_of result) list.new ≡ fill_with (tree (directory dir.now) code) none list.old }
-{
-    if !has_room(dir, links, number, code, list.len()) {
-        return refusals::refused_answer(Reason::BufferTooShort, 0);
+    // The listing of a directory by its code.
+    fn list_code(&self, code: usize, list: &mut [u16]) -> Result<usize, Refused>
+        requires { code < 256 }
+        ensures { out (outcome_of result) list.new ≡ fill_with (tree (directory self.now.dir.now) code) none list.old }
+    {
+        if !self.has_room(code, list.len()) {
+            return refusals::refuse(Reason::BufferTooShort, 0);
+        }
+        Ok(self.fill(self.number, code, list, 0))
     }
-    let many = fill(dir, links, number, code, list, 0);
-    Answer::Done(many, 0)
 }
 
 // What lies beneath the directory of that name, the root where it is empty: how many, and their slots to the front of `list`,
 // in slot order at each level, a directory directly followed by all that lies beneath it.
-pub fn list_tree(image: &[u8], name: &[u8], list: &mut [u16]) -> Answer
+pub fn list_tree(image: &[u8], name: &[u8], list: &mut [u16]) -> Result<usize, Refused>
     ensures { out (outcome_of result) list.new ≡ tree_listing image.now name.now list.old }
 {
-    match disk::check(image) {
-        Verdict::Err(r) => Answer::Err(r),
-        Verdict::Accepted => {
-            let nesting = nesting::survey_nesting(image);
-            let verdict = nesting.verdict;
-            match verdict {
-                Verdict::Err(r) => Answer::Err(r),
-                Verdict::Accepted => match name_rows(image, name) {
-                    Verdict::Err(r) => Answer::Err(r),
-                    Verdict::Accepted => {
-                        let links = siblings::link_slots(image);
-                        list_code(image, &links, nesting.number, asked_code(image, name), list)
-                    }
-                },
-            }
-        }
-    }
+    disk::check(image)?;
+    let number = nesting::survey_nesting(image)?;
+    let code = asked_code(image, name)?;
+    let links = siblings::link_slots(image);
+    let tree = Tree {
+        dir: image,
+        links: &links,
+        number,
+    };
+    tree.list_code(code, list)
 }

@@ -30,11 +30,9 @@ use Rattle.surveys.specs.Survey.{free}
 use Rattle.directory.specs.Find.{find}
 use Rattle.disk.specs.View.{view, view_slots}
 use Rattle.disk.specs.Check.{check_view, check_disk, check_release}
-use Rattle.disk.proofs.View.{view-some}
-use Rattle.disk.proofs.Accepted.{accepted-disk}
 use Rattle.files.specs.Calls.{entries, listing, SlotLookup, found_slot, refused_lookup, lookup_by, lookup, address, file_start, start_at, start_address, read_at, reading}
-use Rattle.files.proofs.Listed.{listing-is}
-use Rattle.files.proofs.Named.{LookedUp, lookup_named, named_slot}
+use Rattle.files.proofs.Listing.{listing-is}
+use Rattle.files.proofs.Named.{lookup_named, named_slot}
 use Rattle.files.proofs.Reading.{read-refused, read_found}
 use Rattle.files.proofs.Starting.{start_refused, start_found}
 use Rattle.readers.proofs.Joined.{length-few}

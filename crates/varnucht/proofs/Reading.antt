@@ -3,6 +3,7 @@ use Prim.Native.Nat.{ℕ, ◌+◌, ◌*◌, ◌%◌, ◌-◌}
 use mathlib.Core.Path.{◌≡◌, refl, sym, ap, ap₂, ◌∙◌, subst}
 use mathlib.Core.List.{List, [], ◌∷◌, ◌++◌}
 use native.Mathlib.Omega.{arith}
+use Rattle.std.specs.Prelude.{Result, Ok, Err}
 use lib.ListN.{length, take}
 use Rattle.refusals.specs.Order.{Refusal}
 use Rattle.refusals.specs.Answers.{refused, Out, refusal_of}
@@ -19,8 +20,6 @@ use Rattle.readers.specs.Pieces.{read_place, next_bytes, place_after, next_place
 use Rattle.readers.specs.Opening.{FileOpening, opened_at, refused_opening, open_file, file_opening_of}
 use Rattle.readers.specs.declared.Place.{Place}
 use Rattle.readers.specs.declared.Piece.{Piece}
-use Rattle.readers.specs.declared.OpenAnswer.{OpenAnswer}
-use Rattle.readers.specs.declared.OpenAnswer.TheVariants.{At, Err}
 use Rattle.readers.proofs.Positions.{number_le}
 use Rattle.readers.proofs.PositionAt.{bounded}
 use Rattle.readers.proofs.Joined.{opened as file-opened, joined-first, each_left}
@@ -45,14 +44,14 @@ piece-fits d p room =
     let b = bounded d p room in
     record { sector-small = omega (arith, b.sector); value-small = omega (arith, b.few); offset-small = omega (arith, b.offset) }
 
-module _ (d n : List ℕ) (a : OpenAnswer) (w : file_opening_of a ≡ open_file d n) where
+module _ (d n : List ℕ) (a : Result Place Refused) (w : file_opening_of a ≡ open_file d n) where
   pub open_no : (r : Refused) → a ≡ Err r → (y : ℕ) → y ≡ clipped (refused (refusal_of r)) → y ≡ packed_opening (open_file d n)
   open_no r e y q =
       let z : open_file d n ≡ refused_opening (refusal_of r) = sym w ∙ ap file_opening_of e in
       q ∙ clipped-is (refused (refusal_of r)) (within_fits (refused (refusal_of r)) 795591 0 (omega arith) (omega arith) (refused_within d n (refusal_of r) z))
       ∙ ap packed_opening (sym z)
 
-  pub open_at : (p : Place) → a ≡ At p → (y : ℕ) → y ≡ clipped_at p.sector p.left p.offset → y ≡ packed_opening (open_file d n)
+  pub open_at : (p : Place) → a ≡ Ok p → (y : ℕ) → y ≡ clipped_at p.sector p.left p.offset → y ≡ packed_opening (open_file d n)
   open_at p e y q =
       let z : open_file d n ≡ opened_at p = sym w ∙ ap file_opening_of e in
       q ∙ clipped_at-is p.sector p.left p.offset (begin_fits d n p z) ∙ ap packed_opening (sym z)

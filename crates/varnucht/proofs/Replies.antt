@@ -1,19 +1,19 @@
 -- What the calls below answer is packed whole: every outcome of theirs fits.
-use Prim.Native.Nat.{ℕ, ◌*◌, ◌^◌, ◌<◌}
-use mathlib.Core.Path.{◌≡◌, sym, ap, ◌∙◌}
-use mathlib.Core.Bool.{false≢true}
+use Prim.Native.Nat.{ℕ, ◌^◌, ◌<◌}
+use mathlib.Core.Path.{◌≡◌, ap, ◌∙◌}
 use mathlib.Core.List.{List}
 use native.Mathlib.Omega.{arith}
-use borrow.Author.Tests.{eq-eqb, ne_eqb}
+use borrow.Author.Tests.{ne_eqb}
+use Rattle.std.specs.Prelude.{Some}
 use Rattle.geometry.specs.Disk.{spot_of}
-use Rattle.geometry.specs.declared.Spot.TheVariants.{At, NoSector}
-use Rattle.geometry.proofs.Laws.{spot_at, spot_none}
-use Rattle.refusals.specs.Order.{Reply}
-use Rattle.refusals.specs.Answers.{Outcome, Out, out}
+use Rattle.geometry.proofs.Laws.{spot_at}
+use Rattle.refusals.specs.Order.{refuse, Reply}
+use Rattle.refusals.specs.Answers.{refusal_number, Outcome, done, refused, Out, out}
+use Rattle.refusals.specs.declared.Reason.{Reason}
+use Rattle.refusals.proofs.Lowest.{positive}
 use Rattle.packing.specs.Packed.{packed, clipped, check_outcome, Within}
 use Rattle.packing.proofs.Parts.{within_fits, clipped-is}
 use Rattle.drives.specs.Raw.{raw_refusal}
-use Rattle.drives.proofs.Laws.{accepted}
 use Rattle.files.specs.Calls.{listing, reading, start_address}
 use Rattle.plans.specs.Change.{Change}
 use Rattle.plans.specs.Plan.{Changed, changed}
@@ -53,18 +53,13 @@ packed-change c d b o d' b' e n q = (
 
 -- ---- a raw sector
 
-module _ (one two : List ℕ) (d t s r : ℕ) (w : r ≡ raw_refusal one two d t s) where
-  pub sector-refused : (r ≡ 0 → ⊥) → r ≡ packed (raw_sector_call one two d t s)
-  unfolding raw_sector_call
-  sector-refused h = rw (← w, ne_eqb r 0 h) (omega arith)
+module _ (one two : List ℕ) (d t s : ℕ) where
+  pub sector-refused : (r : Reason) → refusal_number r ≡ raw_refusal one two d t s → (n : ℕ) → n ≡ clipped (refused (refuse (refusal_number r) 0)) → n ≡ packed (raw_sector_call one two d t s)
+  unfolding raw_sector_call clipped
+  sector-refused r w n e = e ∙ rw (← w, ne_eqb (refusal_number r) 0 (positive r)) (omega arith)
 
-  module _ (z : r ≡ 0) where
-    pub sector-placed : (p : ℕ) → spot_of t s ≡ At p → 16777216 * p ≡ packed (raw_sector_call one two d t s)
-    unfolding raw_sector_call
-    sector-placed p e = rw (← w, eq-eqb r 0 z, (spot_at t s p e).place) (omega arith)
-
-    pub sector-never : spot_of t s ≡ NoSector → ⊥
-    sector-never e = false≢true (sym (spot_none t s e) ∙ (accepted one two d t s (sym w ∙ z)).sector)
-
-pub place-fits : (t s p : ℕ) → spot_of t s ≡ At p → p < 2 ^ 24
-place-fits t s p e = let h = spot_at t s p e in omega arith
+  pub sector-placed : 0 ≡ raw_refusal one two d t s → (p : ℕ) → spot_of t s ≡ Some p → (n : ℕ) → n ≡ clipped (done p 0) → n ≡ packed (raw_sector_call one two d t s)
+  unfolding raw_sector_call clipped
+  sector-placed w p q n e =
+      let h = spot_at t s p q in
+      e ∙ rw (← w, ← h.place) (omega (arith, h))

@@ -7,8 +7,8 @@ use mathlib.Core.Option.{Option, none, some}
 use native.Mathlib.Omega.{arith}
 use lib.Dec.{eqb, ltb}
 use lib.ListN.{length}
-use Rattle.refusals.specs.Order.{refuse, Reply, ◌else◌, ◌when◌, Row, row, rows, scan}
-use Rattle.refusals.specs.Answers.{Outcome, done, Out, out, filled}
+use Rattle.refusals.specs.Order.{refuse, ◌else◌, row, rows, scan}
+use Rattle.refusals.specs.Answers.{Outcome, done, Out, out}
 use Rattle.refusals.proofs.First.{else_none}
 use Rattle.slots.specs.Slot.{is_directory, code_of, parent_of}
 use Rattle.names.specs.Name.{askable}

@@ -17,32 +17,31 @@ ghost use Rattle.varnucht.specs.Calls.{check_call, check_release_call, raw_secto
 ghost use Rattle.varnucht.specs.Reading.{packed_opening, packed_piece};
 
 use changes::Marking;
-use geometry::Spot;
-use readers::{OpenAnswer, Place};
-use refusals::Answer;
+use readers::Place;
+use refusals::Refused;
 
 // The check.
 pub fn varnucht_check(image: &[u8]) -> u64
     ensures { result ≡ packed (check_call image.now) }
 {
-    let verdict = disk::check(image);
-    packing::pack_verdict(verdict)
+    packing::pack_verdict(disk::check(image))
 }
 
 // The release check: the check, which here also refuses a carried kind with more sectors than its length needs.
 pub fn varnucht_check_release(image: &[u8]) -> u64
     ensures { result ≡ packed (check_release_call image.now) }
 {
-    let released = disk::check_release(image);
-    packing::pack_verdict(released)
+    packing::pack_verdict(disk::check_release(image))
 }
 
 // The listing, put to the front of `out`: how many, and the free sectors.
 pub fn varnucht_list(image: &[u8], out: &mut [u8]) -> u64
     ensures { (result ≡ packed (listing image.now out.old).outcome) × (out.new ≡ (listing image.now out.old).buffer) }
 {
-    let listed = files::list(image, out);
-    packing::pack(listed)
+    match files::list(image, out) {
+        Ok(listed) => packing::pack_done(listed.files, listed.free),
+        Err(r) => packing::pack_refused(r),
+    }
 }
 
 // A file's body, put to the front of `out`: its length.
@@ -66,8 +65,8 @@ pub fn varnucht_open(image: &[u8], name: &[u8]) -> u64
     ensures { result ≡ packed_opening (open_file image.now name.now) }
 {
     match readers::begin(image, name) {
-        OpenAnswer::Err(r) => packing::pack(Answer::Err(r)),
-        OpenAnswer::At(p) => packing::pack_place(p.sector, p.left, p.offset),
+        Ok(p) => packing::pack_place(p.sector, p.left, p.offset),
+        Err(r) => packing::pack_refused(r),
     }
 }
 
@@ -88,13 +87,9 @@ pub fn varnucht_next(image: &[u8], sector: u32, offset: u32, left: u32, out: &mu
 pub fn varnucht_sector(one: &[u8], two: &[u8], drive: u32, track: u32, sector: u32) -> u64
     ensures { result ≡ packed (raw_sector_call one.now two.now drive track sector) }
 {
-    let refusal = drives::raw_refusal(one, two, drive as usize, track as usize, sector as usize);
-    if refusal != 0 {
-        return refusal as u64;
-    }
-    match geometry::place(track as usize, sector as usize) {
-        Spot::At(place) => 16777216 * (place as u64),
-        Spot::NoSector => 0,
+    match drives::raw_place(one, two, drive as usize, track as usize, sector as usize) {
+        Ok(place) => packing::pack_done(place, 0),
+        Err(reason) => packing::pack_refused(Refused { reason, slot: 0 }),
     }
 }
 

@@ -1,16 +1,12 @@
 -- `allocation::free_slot` meets its contract: the answer is that of the slots from `i` on.
-use Prim.Native.Nat.{◌-◌, ◌≤◌, ◌<◌}
+use Prim.Native.Nat.{◌<◌}
 use mathlib.Core.Path.{◌≡◌, sym, ap, ◌∙◌}
 use mathlib.Core.Option.{some}
 use native.Mathlib.Omega.{arith}
-use borrow.Author.Tests.{not-true, not-false}
-use Rattle.refusals.specs.Order.{scan_from}
-use Rattle.directory.specs.Directory.{tracks_of, slots_in, slots_read, directory}
+use Rattle.directory.specs.Directory.{slots_in}
 use Rattle.directory.proofs.Ends.{read_in}
 use Rattle.directory.proofs.Live.{met_live, met_dead, directory-unread}
-use Rattle.plans.specs.Saving.{lowest_slot}
-use Rattle.allocation.proofs.Placed.{empty_at, slot_start, slot_held, slot-free, slot-none}
-use borrow.Author.Rules.{rules}
+use Rattle.allocation.proofs.Placed.{slot_start, slot_held, slot-free, slot-none}
 use Rattle.allocation.proofs.free_slot.Goals as goal
 
 pub loop-i-init : goal.loop-i-init
@@ -18,25 +14,24 @@ loop-i-init c = (omega arith, slot_start _)
 
 pub returns-then-not-is_live : goal.returns-then-not-is_live
 returns-then-not-is_live c =
-    let there : c.loop-i.i < slots_in c.args.image.now = omega (arith, c.loop-i-test.true, c.slots_read-end.ensures.0, read_in c.args.image.now) in
     let l = c.loop-i in
-    slot-free _ l.i l.invariant.1 there (met_dead _ _ c.slot_at-s.ensures c.is_live.ensures (c.if-not-is_live.true))
+    let there : l.i < slots_in c.args.image.now = omega (arith, c.loop-i-test.true, c.slots_read-end.ensures.0, read_in c.args.image.now) in
+    slot-free _ l.i l.invariant.1 there (met_dead _ _ c.slot_at.ensures c.is_live.ensures c.if-not-is_live.true)
 
 pub loop-i-preserved : goal.loop-i-preserved
 loop-i-preserved c =
-    let there : c.loop-i.i < slots_in c.args.image.now = omega (arith, c.loop-i-test.true, c.slots_read-end.ensures.0, read_in c.args.image.now) in
     let l = c.loop-i in
-    (omega arith, slot_held _ l.i l.invariant.1 there _ (met_live _ _ c.slot_at-s.ensures c.is_live.ensures (omega arith) (c.if-not-is_live.false)))
+    let there : l.i < slots_in c.args.image.now = omega (arith, c.loop-i-test.true, c.slots_read-end.ensures.0, read_in c.args.image.now) in
+    (omega arith, slot_held _ l.i l.invariant.1 there _ (met_live _ _ c.slot_at.ensures c.is_live.ensures (omega arith) c.if-not-is_live.false))
 
 pub returns-then-end-slots_in : goal.returns-then-end-slots_in
 returns-then-end-slots_in c =
-    let at_end : c.loop-i.i ≡ c.slots_read-end.result = let l = c.loop-i in omega arith in
     let l = c.loop-i in
-    let z = at_end in
-    ap some (sym z) ∙ slot-free _ l.i l.invariant.1 (omega (arith, c.if-end-slots_in.true, c.slots_in.ensures.0)) (directory-unread _ _ (omega (arith, c.slots_read-end.ensures.0)))
+    let at_end : l.i ≡ c.slots_read-end.result = omega arith in
+    ap some (sym at_end) ∙ slot-free _ l.i l.invariant.1 (omega (arith, c.if-end-slots_in.true, c.slots_in.ensures.0)) (directory-unread _ _ (omega (arith, c.slots_read-end.ensures.0)))
 
 pub returns : goal.returns
 returns c =
-    let at_end : c.loop-i.i ≡ c.slots_read-end.result = let l = c.loop-i in omega arith in
     let l = c.loop-i in
-    slot-none _ l.i l.invariant.1 (omega (arith, at_end, c.if-end-slots_in.false, c.slots_in.ensures.0))
+    let at_end : l.i ≡ c.slots_read-end.result = omega arith in
+    slot-none _ l.i l.invariant.1 (omega (arith, c.if-end-slots_in.false, c.slots_in.ensures.0))

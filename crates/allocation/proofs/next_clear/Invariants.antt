@@ -1,9 +1,6 @@
 -- `allocation::next_clear` meets its contract: before each turn no bit from `from` on and below `b` is clear.
 use Prim.Native.Nat.{◌-◌}
-use mathlib.Core.Path.{sym, ◌∙◌}
-use borrow.Author.Tests.{not-true, not-false}
-use Rattle.allocation.proofs.Next.{NoneClear, passed_none, passed_full, passed_set, passed_clear, passed_all}
-use borrow.Author.Rules.{rules}
+use Rattle.allocation.proofs.Next.{NoneClear}
 use Rattle.allocation.proofs.next_clear.Given as goal
 
 abbrev pub invariant-loop-b : goal.invariant-loop-b

@@ -1,10 +1,6 @@
 -- `allocation::pick_bits` meets its contract: before each turn `j` of the bits are found among those below `b`.
 use Prim.Native.Nat.{◌-◌}
-use mathlib.Core.Path.{sym, ◌∙◌}
-use native.Mathlib.Omega.{arith}
-use borrow.Author.Tests.{not-true, not-false}
-use Rattle.allocation.proofs.Picked.{PickLoop, picked_none, picked_full, picked_set, picked_clear, picked_long, picked_all, picked_room, picked_end}
-use borrow.Author.Rules.{rules}
+use Rattle.allocation.proofs.Picked.{PickLoop}
 use Rattle.allocation.proofs.pick_bits.Given as goal
 
 abbrev pub invariant-loop-b : goal.invariant-loop-b

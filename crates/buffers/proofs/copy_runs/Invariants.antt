@@ -1,11 +1,8 @@
--- `buffers::copy_runs` meets its contract: after each turn the first `done` bytes are put.
-use borrow.Author.Rules.{rules}
-use Prim.Native.Nat.{◌≤◌, ◌+◌, ◌-◌}
-use mathlib.Core.Path.{◌≡◌, refl, ◌∙◌}
-use native.Mathlib.Omega.{arith}
+-- `buffers::copy_runs`: before each turn the first `done` bytes are put.
+use Prim.Native.Nat.{◌≤◌, ◌-◌}
+use mathlib.Core.Path.{◌≡◌}
 use lib.ListN.{length, take}
 use Rattle.buffers.specs.Bytes.{put}
-use Rattle.buffers.proofs.Lists.{put-none, put-run, put_all_lem}
 use Rattle.buffers.proofs.copy_runs.Given as goal
 
 abbrev pub invariant-loop-done : goal.invariant-loop-done

@@ -1,25 +1,25 @@
 -- `byte_lists::erase` meets its contract: the call below is lent room for the one number that it can name.
-use mathlib.Core.Path.{ap}
 use mathlib.Core.List.{[], ◌∷◌}
 use native.Mathlib.Omega.{arith}
-use Rattle.refusals.specs.Answers.{outcome_of}
 use Rattle.plans.specs.Change.{erase}
 use Rattle.byte_lists.proofs.Lent.{lent_long, back_long}
-use Rattle.byte_lists.proofs.Bounds.{counted, changing_is}
-use borrow.Author.Rules.{rules}
+use Rattle.byte_lists.proofs.Bounds.{named_room, changing_is, changing_refused}
+use Rattle.std.proofs.lemmas.Result.{err_from_is_err_and}
 use Rattle.byte_lists.proofs.erase.Goals as goal
 
 pub slice_bounds-erase-end : goal.slice_bounds-erase-end
-slice_bounds-erase-end c = lent_long _ _ _ c.lesser-room.ensures
+slice_bounds-erase-end c = lent_long _ _ _ c.min-room.ensures
 
-pub slice_bounds-put_counted-end : goal.slice_bounds-put_counted-end
-slice_bounds-put_counted-end c =
-    back_long (0 ∷ []) c.erase-erased.new.list c.lesser-room.result c.erase-erased.auto.list
+pub slice_bounds-put_numbers-end : goal.slice_bounds-put_numbers-end
+slice_bounds-put_numbers-end c = back_long (0 ∷ []) c.erase.new.list c.min-room.result c.erase.auto.list
 
-pub put_counted-requires : goal.put_counted-requires
-put_counted-requires c = counted (erase _) _ _ _ _ c.lesser-room.ensures (omega arith) _ _ _ c.erase-erased.ensures
+pub put_numbers-requires : goal.put_numbers-requires
+put_numbers-requires c = named_room (erase _) _ _ _ _ c.min-room.ensures (omega arith) _ _ _ c.in_ok-erased.ensures
+
+pub returns-in_err-erased : goal.returns-in_err-erased
+returns-in_err-erased c =
+    let p = err_from_is_err_and c.from_residual.result c.from_residual.ensures.1 in
+    rw (p.1, p.2) (changing_refused (erase _) _ _ _ _ c.min-room.ensures (omega arith) _ _ _ c.in_err-erased.ensures)
 
 pub returns : goal.returns
-returns c =
-    changing_is (erase _) _ _ _ _ c.lesser-room.ensures (omega arith) _ _ _
-    c.erase-erased.ensures _ (ap outcome_of c.put_counted.ensures.0) _ c.put_counted.ensures.1
+returns c = changing_is (erase _) _ _ _ _ c.min-room.ensures (omega arith) _ _ _ c.in_ok-erased.ensures _ c.put_numbers.ensures

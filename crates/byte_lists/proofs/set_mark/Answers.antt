@@ -1,25 +1,25 @@
 -- `byte_lists::set_mark` meets its contract: the call below is lent room for the one number that it can name.
-use mathlib.Core.Path.{ap}
 use mathlib.Core.List.{[], ◌∷◌}
 use native.Mathlib.Omega.{arith}
-use Rattle.refusals.specs.Answers.{outcome_of}
 use Rattle.plans.specs.Change.{mark}
 use Rattle.byte_lists.proofs.Lent.{lent_long, back_long}
-use Rattle.byte_lists.proofs.Bounds.{counted, changing_is}
-use borrow.Author.Rules.{rules}
+use Rattle.byte_lists.proofs.Bounds.{named_room, changing_is, changing_refused}
+use Rattle.std.proofs.lemmas.Result.{err_from_is_err_and}
 use Rattle.byte_lists.proofs.set_mark.Goals as goal
 
 pub slice_bounds-set_mark-end : goal.slice_bounds-set_mark-end
-slice_bounds-set_mark-end c = lent_long _ _ _ c.lesser-room.ensures
+slice_bounds-set_mark-end c = lent_long _ _ _ c.min-room.ensures
 
-pub slice_bounds-put_counted-end : goal.slice_bounds-put_counted-end
-slice_bounds-put_counted-end c =
-    back_long (0 ∷ []) c.set_mark-marked.new.list c.lesser-room.result c.set_mark-marked.auto.list
+pub slice_bounds-put_numbers-end : goal.slice_bounds-put_numbers-end
+slice_bounds-put_numbers-end c = back_long (0 ∷ []) c.set_mark.new.list c.min-room.result c.set_mark.auto.list
 
-pub put_counted-requires : goal.put_counted-requires
-put_counted-requires c = counted (mark _ _) _ _ _ _ c.lesser-room.ensures (omega arith) _ _ _ c.set_mark-marked.ensures
+pub put_numbers-requires : goal.put_numbers-requires
+put_numbers-requires c = named_room (mark _ _) _ _ _ _ c.min-room.ensures (omega arith) _ _ _ c.in_ok-marked.ensures
+
+pub returns-in_err-marked : goal.returns-in_err-marked
+returns-in_err-marked c =
+    let p = err_from_is_err_and c.from_residual.result c.from_residual.ensures.1 in
+    rw (p.1, p.2) (changing_refused (mark _ _) _ _ _ _ c.min-room.ensures (omega arith) _ _ _ c.in_err-marked.ensures)
 
 pub returns : goal.returns
-returns c =
-    changing_is (mark _ _) _ _ _ _ c.lesser-room.ensures (omega arith) _ _ _
-    c.set_mark-marked.ensures _ (ap outcome_of c.put_counted.ensures.0) _ c.put_counted.ensures.1
+returns c = changing_is (mark _ _) _ _ _ _ c.min-room.ensures (omega arith) _ _ _ c.in_ok-marked.ensures _ c.put_numbers.ensures

@@ -12,15 +12,15 @@ use Rattle.catalogue.proofs.Laws.{lines_none, lines_turn, lines-read}
 use Rattle.catalogue.proofs.put_lines.Goals as goal
 
 pub loop-i-init : goal.loop-i-init
-loop-i-init c = (omega arith, refl, wrote_none _ _ _ (lines_none _) _ (omega arith))
+loop-i-init c = (refl, wrote_none _ _ _ (lines_none _) _ (omega arith))
 
 pub loop-i-preserved : goal.loop-i-preserved
 loop-i-preserved c =
     let l = c.loop-i in
-    (omega arith, search rules, lines_turn _ l.i (omega arith) c.slot_at-s.ensures l.invariant.2 c.put_slot_line-at.ensures)
+    (search rules, lines_turn _ l.i (omega arith) c.slot_at.ensures l.invariant.1 c.put_slot_line-at.ensures)
 
 pub returns : goal.returns
 returns c =
     let l = c.loop-i in
     let e : l.i ≡ slots_read c.args.dir.now = omega arith in
-    wrote_as _ (lines-read _) (rw e at l.invariant.2)
+    wrote_as _ (lines-read _) (rw e at l.invariant.1)

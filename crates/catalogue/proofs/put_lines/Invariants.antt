@@ -12,7 +12,4 @@ use Rattle.catalogue.proofs.Laws.{lines_none, lines_turn, lines-read}
 use Rattle.catalogue.proofs.put_lines.Given as goal
 
 abbrev pub invariant-loop-i : goal.invariant-loop-i
-invariant-loop-i l = (l.i ≤ slots_read l.dir) × (length l.page ≡ length l.initial.page) × Wrote l.initial.page 0 (lines (directory l.dir) l.i) l.page l.at
-
-abbrev pub decreases-loop-i : goal.decreases-loop-i
-decreases-loop-i l = l.end - l.i
+invariant-loop-i l = (length l.page ≡ length l.initial.page) × Wrote l.initial.page 0 (lines (directory l.dir) l.i) l.page l.at

@@ -1,31 +1,20 @@
 -- `changes::erase_at` meets its contract: 17, then 29, and else what is written.
-use mathlib.Core.Path.{sym, ◌∙◌}
-use native.Mathlib.Omega.{arith}
+use mathlib.Core.Path.{sym, ap, ◌∙◌}
+use Rattle.refusals.specs.Answers.{outcome_of}
 use Rattle.changes.proofs.Laws.{settled_no, settled_as, erase-protected, erase-occupied, erase-free}
-use borrow.Author.Rules.{rules}
 use Rattle.changes.proofs.erase_at.Goals as goal
-
-pub overflow_add-i : goal.overflow_add-i
-overflow_add-i c = omega (arith, c.requires.below)
 
 pub returns-then-is_protected : goal.returns-then-is_protected
 returns-then-is_protected c =
     settled_as _ _ _ _ (erase-protected _ _ c.requires _ c.slot_at-erased.ensures (sym c.is_protected.ensures ∙ c.if-is_protected.true))
-    _ (settled_no _ _ _ _ c.refused_answer.ensures)
-
-pub overflow_add-i-then-is_occupied : goal.overflow_add-i-then-is_occupied
-overflow_add-i-then-is_occupied c = omega (arith, c.requires.below)
+    _ (settled_no _ _ _ _ (ap outcome_of c.refuse.ensures))
 
 pub returns-then-is_occupied : goal.returns-then-is_occupied
 returns-then-is_occupied c =
     settled_as _ _ _ _
     (erase-occupied _ _ c.requires _ c.slot_at-erased.ensures (sym c.is_protected.ensures ∙ c.if-is_protected.false) _ c.slot_at.ensures
     (sym c.is_occupied.ensures ∙ c.if-is_occupied.true))
-    _ (settled_no _ _ _ _ c.refused_answer-then-is_occupied.ensures)
-
-pub touch-requires : goal.touch-requires
-touch-requires c =
-    record { slot = c.requires; inside = omega arith }
+    _ (settled_no _ _ _ _ (ap outcome_of c.refuse-then-is_occupied.ensures))
 
 pub returns : goal.returns
 returns c =

@@ -1,6 +1,5 @@
 -- `changes::put_in_slot` meets its contract: the place is the slot's and o more.
 use Rattle.changes.proofs.Laws.{slot-put}
-use borrow.Author.Rules.{rules}
 use Rattle.changes.proofs.put_in_slot.Goals as goal
 
 pub returns : goal.returns

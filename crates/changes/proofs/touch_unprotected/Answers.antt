@@ -1,17 +1,13 @@
 -- `changes::touch_unprotected` meets its contract: 17 where the slot says so, and else what is written.
-use mathlib.Core.Path.{sym, ◌∙◌}
-use native.Mathlib.Omega.{arith}
+use mathlib.Core.Path.{sym, ap, ◌∙◌}
+use Rattle.refusals.specs.Answers.{outcome_of}
 use Rattle.changes.proofs.Laws.{settled_no, settled_as, plan-protected, plan_released}
-use borrow.Author.Rules.{rules}
 use Rattle.changes.proofs.touch_unprotected.Goals as goal
-
-pub overflow_add-i : goal.overflow_add-i
-overflow_add-i c = omega (arith, c.requires.slot.below)
 
 pub returns-then-is_protected : goal.returns-then-is_protected
 returns-then-is_protected c =
     settled_as _ _ _ _ (plan-protected _ _ _ _ c.requires.slot _ c.slot_at.ensures (sym c.is_protected.ensures ∙ c.if-is_protected.true))
-    _ (settled_no _ _ _ _ c.refused_answer.ensures)
+    _ (settled_no _ _ _ _ (ap outcome_of c.refuse.ensures))
 
 pub returns : goal.returns
 returns c =

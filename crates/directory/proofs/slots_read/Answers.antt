@@ -1,11 +1,9 @@
 -- `directory::slots_read` meets its contract: the end is that of the slots from `i` on.
-use Prim.Native.Nat.{◌-◌, ◌≤◌, ◌<◌}
-use mathlib.Core.Path.{◌≡◌, sym, ◌∙◌}
+use Prim.Native.Nat.{◌<◌}
+use mathlib.Core.Path.{sym, ◌∙◌}
 use native.Mathlib.Omega.{arith}
-use Rattle.refusals.specs.Order.{scan_from}
-use Rattle.directory.specs.Directory.{slots_in, end_at, end_of}
+use Rattle.directory.specs.Directory.{slots_in}
 use Rattle.directory.proofs.Ends.{end_start, end_past, end_here, end_on}
-use borrow.Author.Rules.{rules}
 use Rattle.directory.proofs.slots_read.Goals as goal
 
 pub loop-i-init : goal.loop-i-init

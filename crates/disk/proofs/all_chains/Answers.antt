@@ -1,18 +1,15 @@
 -- `disk::all_chains` meets its contract: the reply is that of the slots from `i` on.
-use Prim.Native.Nat.{ℕ, ◌+◌, ◌-◌, ◌≤◌, ◌<◌}
+use Prim.Native.Nat.{ℕ, ◌+◌, ◌-◌, ◌<◌}
 use mathlib.Core.Option.{some}
 use mathlib.Core.Path.{◌≡◌, sym, ap, ◌∙◌}
 use native.Mathlib.Omega.{arith}
-use Rattle.refusals.specs.Order.{scan, scan_from}
-use Rattle.refusals.specs.Answers.{reply_of}
 use Rattle.refusals.proofs.First.{scan_start, scan_skip, scan_stop}
 use Rattle.directory.specs.Places.{slots}
-use Rattle.directory.specs.Directory.{slots_read, directory, live_among}
+use Rattle.directory.specs.Directory.{slots_read, directory}
 use Rattle.directory.proofs.Ends.{read-most}
 use Rattle.directory.proofs.Live.{met_live, met_dead, among_none, among_live, among_dead, among_seen, among_read}
-use Rattle.disk.specs.View.{view}
-use Rattle.disk.specs.Check.{chain_at}
 use Rattle.disk.proofs.View.{chain_met, chain-none, chain-rest}
+use Rattle.std.proofs.lemmas.Result.{err_from_is_err_and}
 use borrow.Author.Rules.{rules}
 use Rattle.disk.proofs.all_chains.Goals as goal
 
@@ -22,28 +19,22 @@ loop-seen-init c = (omega arith, scan_start slots _, sym (among_none _))
 pub overflow_add-seen : goal.overflow_add-seen
 overflow_add-seen c = omega (arith, among_seen _ _ _ c.loop-seen.invariant.2)
 
-pub returns-in-Err : goal.returns-in-Err
-returns-in-Err c =
+pub returns-in_err-chain_pass_rows : goal.returns-in_err-chain_pass_rows
+returns-in_err-chain_pass_rows c =
     let more : c.loop-seen.i < slots_read c.args.image.now = let a = c.loop-seen in among_read _ a.i a.invariant.0 (omega (arith, a.invariant.2, c.requires, c.loop-seen-test.true)) in
     let next : c.loop-seen.i < slots = omega (arith, more, read-most c.args.image.now) in
     let live : directory c.args.image.now c.loop-seen.i ≡ some c.slot_at-s.result.now = met_live _ _ c.slot_at-s.ensures c.is_live.ensures more c.if-is_live.true in
     let a = c.loop-seen in
-    sym (a.invariant.1 ∙ scan_stop slots a.i _ _ next (sym (c.chain_pass_rows.ensures ∙ chain_met _ _ _ live) ∙ ap reply_of c.in-Err.is))
+    let e = err_from_is_err_and c.from_residual.result c.from_residual.ensures.1 in rw (e.1, e.2) (sym (a.invariant.1 ∙ scan_stop slots a.i _ _ next (sym (c.in_err-chain_pass_rows.ensures ∙ chain_met _ _ _ live))))
 
-pub loop-seen-smaller-in-Accepted : goal.loop-seen-smaller-in-Accepted
-loop-seen-smaller-in-Accepted c =
-    let more : c.loop-seen.i < slots_read c.args.image.now = let a = c.loop-seen in among_read _ a.i a.invariant.0 (omega (arith, a.invariant.2, c.requires, c.loop-seen-test.true)) in
-    let next : c.loop-seen.i < slots = omega (arith, more, read-most c.args.image.now) in
-    omega (arith, next)
-
-pub loop-seen-preserved-in-Accepted : goal.loop-seen-preserved-in-Accepted
-loop-seen-preserved-in-Accepted c =
+pub loop-seen-preserved-in-Continue-1 : goal.loop-seen-preserved-in-Continue-1
+loop-seen-preserved-in-Continue-1 c =
     let more : c.loop-seen.i < slots_read c.args.image.now = let a = c.loop-seen in among_read _ a.i a.invariant.0 (omega (arith, a.invariant.2, c.requires, c.loop-seen-test.true)) in
     let next : c.loop-seen.i < slots = omega (arith, more, read-most c.args.image.now) in
     let live : directory c.args.image.now c.loop-seen.i ≡ some c.slot_at-s.result.now = met_live _ _ c.slot_at-s.ensures c.is_live.ensures more c.if-is_live.true in
     let a = c.loop-seen in (
       omega (arith, next),
-      a.invariant.1 ∙ scan_skip slots a.i _ next (sym (c.chain_pass_rows.ensures ∙ chain_met _ _ _ live) ∙ ap reply_of c.in-Accepted.is),
+      a.invariant.1 ∙ scan_skip slots a.i _ next (sym (c.in_ok-chain_pass_rows.ensures ∙ chain_met _ _ _ live)),
       ap (λ (n : ℕ). n + 1) a.invariant.2 ∙ sym (among_live _ a.i _ live),
     )
 

@@ -1,7 +1,7 @@
 -- `files::copy_body` meets its contract: before each turn the bytes of the sectors passed stand in front.
 use Prim.Native.Nat.{◌-◌}
 use native.Mathlib.Omega.{arith}
-use Rattle.files.proofs.Body.{BodyCopyLoop, nothing_yet, at-inside, turn, body_copy_long, all_of_it}
+use Rattle.files.proofs.Body.{nothing_yet, at-inside, turn, body_copy_long, all_of_it}
 use borrow.Author.Rules.{rules}
 use Rattle.files.proofs.copy_body.Goals as goal
 
@@ -21,7 +21,7 @@ overflow_add-at-in-loop-done-2 c =
 pub loop-done-preserved : goal.loop-done-preserved
 loop-done-preserved c =
     turn _ _ c.requires _ _ _ _ _ _ c.loop-done.invariant c.loop-done-test.true _ _ _ _ _ _ c.num_at-track.ensures.0 c.num_at-number.ensures.0
-    c.lesser-n.ensures c.part_at.ensures c.copy_into.ensures c.data_place-at.ensures
+    c.min-n.ensures c.part_at.ensures c.copy_into.ensures c.data_place-at.ensures
 
 pub shape_of-buf : goal.shape_of-buf
 shape_of-buf c = body_copy_long c.loop-done.invariant

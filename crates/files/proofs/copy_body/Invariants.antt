@@ -1,7 +1,6 @@
 -- `files::copy_body` meets its contract: before each turn the bytes of the sectors passed stand in front.
 use Prim.Native.Nat.{◌-◌}
-use native.Mathlib.Omega.{arith}
-use Rattle.files.proofs.Body.{BodyCopyLoop, nothing_yet, at-inside, turn, body_copy_long, all_of_it}
+use Rattle.files.proofs.Body.{BodyCopyLoop}
 use borrow.Author.Rules.{rules}
 use Rattle.files.proofs.copy_body.Given as goal
 

@@ -1,11 +1,11 @@
 -- `files::list_into` meets its contract: the entries of the first `i` slots are put.
-use Prim.Native.Nat.{◌-◌, ◌*◌, ◌≤◌, ◌<◌}
+use Prim.Native.Nat.{◌-◌, ◌<◌}
 use native.Mathlib.Omega.{arith}
 use Rattle.directory.specs.Places.{slots}
 use Rattle.directory.specs.Directory.{slots_read}
 use Rattle.directory.proofs.Ends.{read-most}
 use Rattle.directory.proofs.Live.{met_live, met_dead}
-use Rattle.files.proofs.Listed.{ListLoop, listed_none, listed_more, listed_same, listed_long, listed_next, listed_end}
+use Rattle.files.proofs.Listing.{listed_none, listed_more, listed_same, listed_long, listed_next, listed_end}
 use borrow.Author.Rules.{rules}
 use Rattle.files.proofs.list_into.Goals as goal
 

@@ -1,9 +1,6 @@
 -- `free_runs::find_run` meets its contract: before each turn the last `len` bits before `b` are clear, and no run begins before them.
 use Prim.Native.Nat.{◌-◌}
-use mathlib.Core.Path.{sym, ◌∙◌}
-use native.Mathlib.Omega.{arith}
-use Rattle.free_runs.proofs.Pass.{UniformBits, alike, RunLoop, trail_zero, trail_start, trail_set, trail_clear, trail_found, trail_none}
-use borrow.Author.Rules.{rules}
+use Rattle.free_runs.proofs.Pass.{RunLoop}
 use Rattle.free_runs.proofs.find_run.Given as goal
 
 abbrev pub invariant-loop-b : goal.invariant-loop-b

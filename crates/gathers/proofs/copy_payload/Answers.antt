@@ -1,8 +1,6 @@
 -- `gathers::copy_payload` meets its contract: before each turn the first `j` bytes are copied.
 use Prim.Native.Nat.{◌-◌}
-use native.Mathlib.Omega.{arith}
-use Rattle.gathers.proofs.Moving.{PayloadCopyLoop, copied_none, copied_more, copied_all}
-use borrow.Author.Rules.{rules}
+use Rattle.gathers.proofs.Moving.{copied_none, copied_more, copied_all}
 use Rattle.gathers.proofs.copy_payload.Goals as goal
 
 pub loop-j-init : goal.loop-j-init

@@ -1,59 +1,35 @@
 -- `gathers::move_chain` meets its contract: before each turn `k` sectors are moved, and what is left to write makes the whole.
-use Prim.Native.Nat.{◌+◌, ◌-◌, ◌≤◌}
-use mathlib.Core.Path.{◌≡◌, ap, ◌∙◌}
+use mathlib.Core.Path.{◌≡◌}
 use native.Mathlib.Omega.{arith}
-use Rattle.slots.specs.Slot.{count_of, first_of}
 use Rattle.gathers.specs.Moving.{count_in}
-use Rattle.gathers.proofs.ChainOrder.{end_le}
-use Rattle.gathers.proofs.Moving.{MoveLoop, moving_none, turn_bits, moving_turn, moving_all}
-use borrow.Author.Rules.{rules}
+use Rattle.gathers.proofs.Moving.{moving_none, turn_bits, moving_turn, moving_all}
 use Rattle.gathers.proofs.move_chain.Goals as goal
 
 pub loop-k-init : goal.loop-k-init
-loop-k-init c = moving_none _ _ _ _ (c.first_of-bit.ensures.0 ∙ ap first_of c.slot_at-2.ensures)
-
-pub overflow_add-at : goal.overflow_add-at
-overflow_add-at c = let h = end_le _ _ c.bit_place-at.ensures in omega arith
-
-pub overflow_add-at-in-loop-k : goal.overflow_add-at-in-loop-k
-overflow_add-at-in-loop-k c = let h = end_le _ _ c.bit_place-at.ensures in omega arith
-
-pub overflow_add-to : goal.overflow_add-to
-overflow_add-to c =
-    let counted : c.count_of-count.result ≡ count_in c.args.image.now c.args.i = c.count_of-count.ensures.0 ∙ ap count_of c.slot_at.ensures in
-    let inside : c.args.b + c.count_of-count.result ≤ 1560 = omega (arith, counted, c.requires.small) in
-    let h = c.loop-k-test.true in
-    omega (arith, inside)
+loop-k-init c = moving_none _ _ _ _ (cc (c.first_of-bit.ensures.0))
 
 pub overflow_add-b : goal.overflow_add-b
 overflow_add-b c =
-    let counted : c.count_of-count.result ≡ count_in c.args.image.now c.args.i = c.count_of-count.ensures.0 ∙ ap count_of c.slot_at.ensures in
-    let inside : c.args.b + c.count_of-count.result ≤ 1560 = omega (arith, counted, c.requires.small) in
-    let h = c.loop-k-test.true in
-    omega (arith, inside)
+    let counted : c.count_of-count.result ≡ count_in c.args.image.now c.args.i = cc (c.count_of-count.ensures.0) in
+    omega (arith, c.requires.small, c.loop-k-test.true)
 
 pub link_to-link-requires : goal.link_to-link-requires
 link_to-link-requires c =
-    let counted : c.count_of-count.result ≡ count_in c.args.image.now c.args.i = c.count_of-count.ensures.0 ∙ ap count_of c.slot_at.ensures in
-    let inside : c.args.b + c.count_of-count.result ≤ 1560 = omega (arith, counted, c.requires.small) in
-    let h = c.loop-k-test.true in
-    omega (arith, inside)
+    let counted : c.count_of-count.result ≡ count_in c.args.image.now c.args.i = cc (c.count_of-count.ensures.0) in
+    omega (arith, c.requires.small, c.loop-k-test.true)
 
 pub move_sector-requires : goal.move_sector-requires
 move_sector-requires c =
-    let counted : c.count_of-count.result ≡ count_in c.args.image.now c.args.i = c.count_of-count.ensures.0 ∙ ap count_of c.slot_at.ensures in
-    turn_bits _ _ _ c.requires _ c.loop-k.bit c.loop-k.k c.loop-k.invariant _ counted c.loop-k-test.true
+    turn_bits _ _ _ c.requires _ c.loop-k.bit c.loop-k.k c.loop-k.invariant c.count_of-count.result (cc (c.count_of-count.ensures.0)) c.loop-k-test.true
 
 pub loop-k-preserved : goal.loop-k-preserved
 loop-k-preserved c =
-    let counted : c.count_of-count.result ≡ count_in c.args.image.now c.args.i = c.count_of-count.ensures.0 ∙ ap count_of c.slot_at.ensures in
-    moving_turn _ _ _ c.requires _ c.loop-k.bit c.loop-k.k c.loop-k.invariant _ counted c.loop-k-test.true _ _ _ _ c.bit_place-at.ensures c.num_at-track.ensures.0
-    c.num_at-number.ensures.0 c.bit_or_end-bit.ensures.0 _ c.link_to-link.ensures _ c.move_sector.ensures
+    moving_turn _ _ _ c.requires _ c.loop-k.bit c.loop-k.k c.loop-k.invariant c.count_of-count.result (cc (c.count_of-count.ensures.0)) c.loop-k-test.true
+    _ c.bit_after-next.ensures _ c.link_to-link.ensures _ c.move_sector.ensures
 
 pub shape_of-image : goal.shape_of-image
 shape_of-image c = c.loop-k.invariant.long
 
 pub returns : goal.returns
 returns c =
-    let counted : c.count_of-count.result ≡ count_in c.args.image.now c.args.i = c.count_of-count.ensures.0 ∙ ap count_of c.slot_at.ensures in
-    moving_all _ _ _ c.requires _ c.loop-k.bit c.loop-k.k c.loop-k.invariant _ counted c.loop-k-test.false
+    moving_all _ _ _ c.requires _ c.loop-k.bit c.loop-k.k c.loop-k.invariant c.count_of-count.result (cc (c.count_of-count.ensures.0)) c.loop-k-test.false

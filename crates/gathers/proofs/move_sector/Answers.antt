@@ -1,8 +1,7 @@
 -- `gathers::move_sector` meets its contract: the payload, and then the link.
 use native.Mathlib.Omega.{arith}
-use Rattle.gathers.proofs.ChainOrder.{end_le}
+use Rattle.sector_writes.proofs.Links.{end_le}
 use Rattle.gathers.proofs.Moving.{places_are, sector-is}
-use borrow.Author.Rules.{rules}
 use Rattle.gathers.proofs.move_sector.Goals as goal
 
 pub copy_payload-requires : goal.copy_payload-requires

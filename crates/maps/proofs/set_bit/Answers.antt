@@ -1,5 +1,4 @@
 -- `maps::set_bit` meets its contract: one bit is or-ed to its byte, and past the end nothing changes.
-use borrow.Author.Rules.{rules}
 use Prim.Native.Nat.{◌/◌, ◌%◌, ◌^◌}
 use mathlib.Core.Path.{sym, ap, ◌∙◌}
 use native.Mathlib.Nat.{one-mul}
@@ -16,8 +15,8 @@ pub returns-then-k-m : goal.returns-then-k-m
 unfolding with_bit
 returns-then-k-m c =
     let a = c.args in
-    ap (set a.m.now (a.b / 8))
-    (c.or8.ensures ∙ ap (bit_or (get_or a.m.now (a.b / 8) 0)) (shl_exact {a = 1} 1 (a.b % 8) 8 (lit< tt) (omega arith) ∙ one-mul (2 ^ (a.b % 8))))
+    ap (λ x. set a.m.now (a.b / 8) (bit_or (get_or a.m.now (a.b / 8) 0) x))
+    (shl_exact {a = 1} 1 (a.b % 8) 8 (lit< tt) (omega arith) ∙ one-mul (2 ^ (a.b % 8)))
 
 pub returns-else-k-m : goal.returns-else-k-m
 unfolding with_bit

@@ -3,7 +3,6 @@ use Prim.Native.Nat.{ℕ, ◌<◌}
 use native.Mathlib.Omega.{arith}
 use lib.ListN.{get_or}
 use Rattle.names.proofs.Keys.{key_is}
-use borrow.Author.Rules.{rules}
 use Rattle.names.proofs.key_of.Goals as goal
 
 pub returns : goal.returns

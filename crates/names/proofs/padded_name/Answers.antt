@@ -1,7 +1,6 @@
 -- `names::padded_name` meets its contract.
 use mathlib.Core.Path.{◌∙◌}
 use Rattle.names.proofs.Names.{padded-put}
-use borrow.Author.Rules.{rules}
 use Rattle.names.proofs.padded_name.Goals as goal
 
 pub returns : goal.returns

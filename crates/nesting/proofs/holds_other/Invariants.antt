@@ -1,20 +1,10 @@
 -- `nesting::holds_other` meets its contract: of the first `j` slots none is it.
-use Prim.Native.Nat.{◌-◌, ◌≤◌, ◌<◌}
-use mathlib.Core.Path.{◌≡◌, refl, sym, ◌∙◌}
+use mathlib.Core.Path.{◌≡◌}
 use mathlib.Core.Bool.{false}
-use native.Mathlib.Omega.{arith}
 use Rattle.buffers.specs.Bytes.{any}
-use Rattle.directory.specs.Places.{slots}
-use Rattle.directory.specs.Directory.{directory, slots_read}
-use Rattle.directory.proofs.Ends.{read-most}
-use Rattle.directory.proofs.Live.{met_live, met_dead}
-use Rattle.nesting.specs.Steps.{in_other}
-use Rattle.nesting.proofs.Others.{other_start, other-same, other_dead, other-elsewhere, other-found, other_end}
-use borrow.Author.Rules.{rules}
+use Rattle.directory.specs.Directory.{directory}
+use Rattle.nesting.specs.Steps.{not_erased, in_other}
 use Rattle.nesting.proofs.holds_other.Given as goal
 
 abbrev pub invariant-loop-j : goal.invariant-loop-j
-invariant-loop-j l = (l.j ≤ slots_read l.dir) × (any l.j (in_other (directory l.dir) l.i l.code) ≡ false)
-
-abbrev pub decreases-loop-j : goal.decreases-loop-j
-decreases-loop-j l = l.end - l.j
+invariant-loop-j l = any l.j (in_other (not_erased (directory l.dir) l.erased) l.i l.code) ≡ false

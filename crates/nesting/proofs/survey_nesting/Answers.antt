@@ -1,19 +1,19 @@
 -- `nesting::survey_nesting` meets its contract: the first pass that refuses, or neither.
-use mathlib.Core.Path.{refl}
-use Rattle.nesting.proofs.Results.{codes_accepted, nests_codes, nests_places, nests_all}
-use borrow.Author.Rules.{rules}
+use mathlib.Core.Path.{sym, ◌∙◌}
+use Rattle.std.proofs.lemmas.Result.{err_from_is_err_and}
+use Rattle.nesting.proofs.Results.{tree-first, tree-second}
 use Rattle.nesting.proofs.survey_nesting.Goals as goal
 
-pub all_places-placed-requires : goal.all_places-placed-requires
-all_places-placed-requires c = codes_accepted _ _ c.all_codes-codes.ensures c.in-Accepted.is
+pub returns-in_err-number : goal.returns-in_err-number
+returns-in_err-number c =
+    let e = err_from_is_err_and c.from_residual.result c.from_residual.ensures.1 in
+    rw (e.1, e.2) (record { reply = sym (tree-first _ _ (sym c.in_err-number.ensures.reply)); number = tt })
 
-pub returns-in-Err : goal.returns-in-Err
-returns-in-Err c = nests_codes _ _ c.all_codes-codes.ensures _ c.in-Err.is _ refl refl
+pub returns-in_err-all_places : goal.returns-in_err-all_places
+returns-in_err-all_places c =
+    let e = err_from_is_err_and c.from_residual-in_err-all_places.result c.from_residual-in_err-all_places.ensures.1 in
+    rw (e.1, e.2) (record { reply = c.in_err-all_places.ensures ∙ sym (tree-second _ (sym c.in_ok-number.ensures.reply)); number = tt })
 
-pub returns-in-Err-placed : goal.returns-in-Err-placed
-returns-in-Err-placed c =
-    nests_places _ _ c.all_codes-codes.ensures c.in-Accepted.is _ c.all_places-placed.ensures _ refl _ c.in-Err-placed.is refl
-
-pub returns-in-Accepted-placed : goal.returns-in-Accepted-placed
-returns-in-Accepted-placed c =
-    nests_all _ _ c.all_codes-codes.ensures c.in-Accepted.is _ c.all_places-placed.ensures _ refl c.in-Accepted-placed.is refl
+pub returns : goal.returns
+returns c =
+    record { reply = c.in_ok-all_places.ensures ∙ sym (tree-second _ (sym c.in_ok-number.ensures.reply)); number = c.in_ok-number.ensures.table.number }

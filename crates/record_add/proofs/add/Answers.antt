@@ -1,21 +1,20 @@
 -- `record_add::add` meets its contract: a refused check is the answer; on an accepted disk 30, or the piece as it is added there.
 use mathlib.Core.Path.{sym, ap, ◌∙◌}
-use Rattle.refusals.specs.Answers.{reply_of}
-use Rattle.files.proofs.Listed.{checked_disk}
+use Rattle.std.proofs.lemmas.Result.{err_from_is_err_and}
+use Rattle.refusals.specs.Answers.{outcome_of}
+use Rattle.files.proofs.Listing.{checked_disk}
 use Rattle.record_add.proofs.PieceResult.{add_err, trail_lost, trail_on}
-use borrow.Author.Rules.{rules}
 use Rattle.record_add.proofs.add.Goals as goal
+
+pub returns-in_err-used : goal.returns-in_err-used
+returns-in_err-used c =
+    let p = err_from_is_err_and c.from_residual.result c.from_residual.ensures.1 in
+    rw (p.1, p.2) (add_err _ _ _ _ _ (sym c.in_err-used.ensures.reply))
 
 pub add_at-requires : goal.add_at-requires
 add_at-requires c =
-    trail_on _ _ (checked_disk _ _ c.examine-found.ensures c.in-Accepted.is) _ _ c.sectors_of-n.ensures _ (sym c.follow.ensures ∙ c.in-NextBit.is)
+    trail_on _ _ (checked_disk _ _ c.in_ok-used.ensures) _ _ c.sectors_of-n.ensures _ (sym c.follow.ensures ∙ c.in-Some.is)
 
-pub returns-in-Err : goal.returns-in-Err
-returns-in-Err c = add_err _ _ _ _ _ (sym c.examine-found.ensures.reply ∙ ap reply_of c.in-Err.is)
-
-pub returns-in-Stale : goal.returns-in-Stale
-returns-in-Stale c =
-    trail_lost _ _ (checked_disk _ _ c.examine-found.ensures c.in-Accepted.is) _ _ c.sectors_of-n.ensures _ _ (sym c.follow.ensures ∙ c.in-Stale.is) _ c.refused_piece.ensures.0 _ c.refused_piece.ensures.1
-
-pub returns-in-NextBit : goal.returns-in-NextBit
-returns-in-NextBit c = c.add_at.ensures
+pub returns-in-None : goal.returns-in-None
+returns-in-None c =
+    trail_lost _ _ (checked_disk _ _ c.in_ok-used.ensures) _ _ c.sectors_of-n.ensures _ _ (sym c.follow.ensures ∙ c.in-None.is) _ (ap outcome_of c.refuse.ensures)

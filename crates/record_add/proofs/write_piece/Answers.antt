@@ -2,7 +2,6 @@
 use native.Mathlib.Omega.{arith}
 use Rattle.record_add.proofs.Longer.{last_le}
 use Rattle.record_add.proofs.Blocks.{goes_along, made_one, made_more}
-use borrow.Author.Rules.{rules}
 use Rattle.record_add.proofs.write_piece.Goals as goal
 
 pub write_sectors-requires : goal.write_sectors-requires
@@ -20,4 +19,4 @@ write_sectors-requires-2 c = goes_along _ _ _ _ _ _ c.requires _ (omega arith)
 
 pub returns : goal.returns
 returns c =
-    made_more _ _ _ _ _ _ c.requires _ _ _ c.if-long-le501.false _ c.last_from.ensures _ _ c.held_bytes-held.ensures c.part_at-wait.ensures c.write_sectors-2.ensures
+    made_more _ _ _ _ _ _ c.requires _ _ _ c.if-long-le501.false _ c.last_from.ensures (omega arith) _ c.part_at-wait.ensures c.write_sectors-2.ensures

@@ -1,13 +1,7 @@
 -- `record_add::write_sectors` meets its contract: before each turn the sectors so far are written and named, and the bit is the next one's.
-use Prim.Native.Nat.{◌-◌}
 use mathlib.Core.List.{◌++◌}
-use native.Mathlib.Omega.{arith}
-use Rattle.record_add.proofs.Sectors.{SectorsLoop, written_none, written-long, written-room, written-bit, written-more, written_all}
-use borrow.Author.Rules.{rules}
+use Rattle.record_add.proofs.Sectors.{SectorsLoop}
 use Rattle.record_add.proofs.write_sectors.Given as goal
 
 abbrev pub invariant-loop-j : goal.invariant-loop-j
 invariant-loop-j l = SectorsLoop l.map l.bit l.count l.from (l.front ++ l.back) l.initial.image l.initial.list l.image l.list l.j l.b
-
-abbrev pub decreases-loop-j : goal.decreases-loop-j
-decreases-loop-j l = l.count - l.j

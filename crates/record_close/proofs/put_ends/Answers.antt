@@ -1,26 +1,15 @@
 -- `record_close::put_ends` meets its contract.
-use mathlib.Core.Path.{sym, ap, ◌∙◌, subst}
+use mathlib.Core.Path.{ap, ◌∙◌}
 use lib.ListN.{length-set}
-use native.Mathlib.Omega.{arith}
-use Prim.Native.Nat.{◌<◌}
 use Rattle.geometry.specs.Disk.{bit_number}
 use Rattle.record_close.proofs.Ends.{room_one, room-both, put_one_end, put_both_ends}
-use borrow.Author.Rules.{rules}
 use Rattle.record_close.proofs.put_ends.Goals as goal
-
-pub sector_number-first-requires : goal.sector_number-first-requires
-sector_number-first-requires c =
-    subst (λ b. b < 1560) (sym c.bit_at.ensures) (c.requires.0.small 0 c.requires.1)
 
 pub bounds-list-0 : goal.bounds-list-0
 bounds-list-0 c = room_one _ _ c.requires.2
 
 pub returns-then-n-lt2 : goal.returns-then-n-lt2
-returns-then-n-lt2 c = put_one_end _ _ c.if-n-lt2.true _ (c.sector_number-first.ensures ∙ ap bit_number c.bit_at.ensures)
-
-pub sector_number-requires : goal.sector_number-requires
-sector_number-requires c =
-    subst (λ b. b < 1560) (sym c.bit_at-2.ensures) (c.requires.0.small _ (omega (arith, c.if-n-lt2.false)))
+returns-then-n-lt2 c = put_one_end _ _ c.if-n-lt2.true _ (c.sector_number-first.ensures ∙ ap bit_number c.from.ensures)
 
 pub bounds-list-0-2 : goal.bounds-list-0-2
 bounds-list-0-2 c = room_one _ _ c.requires.2
@@ -30,4 +19,4 @@ bounds-list-1 c = simp length-set (room-both _ _ c.if-n-lt2.false c.requires.2)
 
 pub returns : goal.returns
 returns c =
-    put_both_ends _ _ c.if-n-lt2.false _ _ (c.sector_number.ensures ∙ ap bit_number c.bit_at-2.ensures) (c.sector_number-first.ensures ∙ ap bit_number c.bit_at.ensures)
+    put_both_ends _ _ c.if-n-lt2.false _ _ (c.sector_number.ensures ∙ ap bit_number c.from-2.ensures) (c.sector_number-first.ensures ∙ ap bit_number c.from.ensures)

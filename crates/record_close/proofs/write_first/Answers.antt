@@ -1,6 +1,5 @@
 -- `record_close::write_first` meets its contract.
 use Rattle.record_close.proofs.Ends.{first-sector}
-use borrow.Author.Rules.{rules}
 use Rattle.record_close.proofs.write_first.Goals as goal
 
 pub returns : goal.returns

@@ -1,11 +1,6 @@
 -- `record_close::write_last` meets its contract.
-use native.Mathlib.Omega.{arith}
 use Rattle.record_close.proofs.Ends.{last_from_lem, last-sector}
-use borrow.Author.Rules.{rules}
 use Rattle.record_close.proofs.write_last.Goals as goal
-
-pub overflow_mul-from : goal.overflow_mul-from
-overflow_mul-from c = omega (arith, c.requires.2)
 
 pub overflow_sub-kept : goal.overflow_sub-kept
 overflow_sub-kept c = (last_from_lem _ _ c.requires.0 c.requires.1).1

@@ -1,6 +1,5 @@
 -- `record_open::fresh` meets its contract.
 use Rattle.record_open.proofs.Opening.{fresh_by}
-use borrow.Author.Rules.{rules}
 use Rattle.record_open.proofs.fresh.Goals as goal
 
 pub returns : goal.returns

@@ -1,38 +1,30 @@
 -- `record_open::open` meets its contract: a refused check is the answer; on an accepted disk what refuses the slot, 19 where no sector is
 -- free, or the record.
-use mathlib.Core.Path.{sym, ap, ◌∙◌}
-use Rattle.refusals.specs.Answers.{reply_of}
-use Rattle.files.specs.Calls.{lookup_of}
-use Rattle.files.proofs.Listed.{checked_disk}
-use Rattle.record_open.proofs.Opening.{shuts, reply_err, reply_no_slot, reply-few, running}
-use borrow.Author.Rules.{rules}
+use mathlib.Core.Path.{sym, ◌∙◌}
+use Rattle.std.proofs.lemmas.Result.{err_from_is_err_and}
+use Rattle.files.proofs.Listing.{checked_disk}
+use Rattle.record_open.proofs.Opening.{reply_err, reply_no_slot, reply-few, running}
 use Rattle.record_open.proofs.open.Goals as goal
+
+pub returns-in_err-used : goal.returns-in_err-used
+returns-in_err-used c =
+    let p = err_from_is_err_and c.from_residual.result c.from_residual.ensures.1 in
+    rw (p.1, p.2) (record { reply = sym (reply_err _ _ _ _ _ _ (sym c.in_err-used.ensures.reply)); opened = tt })
+
+pub returns-in_err-slot_for : goal.returns-in_err-slot_for
+returns-in_err-slot_for c =
+    let p = err_from_is_err_and c.from_residual-in_err-slot_for.result c.from_residual-in_err-slot_for.ensures.1 in
+    rw (p.1, p.2) (record { reply = sym (reply_no_slot _ _ _ _ _ (checked_disk _ _ c.in_ok-used.ensures).accepted _ c.in_err-slot_for.ensures); opened = tt })
 
 pub returns-then-free_of-lt1 : goal.returns-then-free_of-lt1
 returns-then-free_of-lt1 c =
-    shuts _ _ _
-    (reply-few _ _ _ _ _ _ _
+    rw c.refuse.ensures
     (record {
-      disk = checked_disk _ _ c.examine-found.ensures c.in-Accepted.is;
-      place = sym (ap lookup_of c.in-At.is) ∙ c.slot_for.ensures;
-    }) _ c.free_of.ensures c.if-free_of-lt1.true) _
-    (ap reply_of c.refused_opening-then-free_of-lt1.ensures.0 ∙ c.refused_verdict.ensures) _ c.refused_opening-then-free_of-lt1.ensures.1
+      reply = sym (reply-few _ _ _ _ _ _ _ (record { disk = checked_disk _ _ c.in_ok-used.ensures; place = c.in_ok-slot_for.ensures }) _ c.free_of.ensures c.if-free_of-lt1.true);
+      opened = tt;
+    })
 
-pub returns-in-Err : goal.returns-in-Err
-returns-in-Err c =
-    let z = ap reply_of c.in-Err.is in
-    shuts _ _ _ (reply_err _ _ _ _ _ _ (sym c.examine-found.ensures.reply ∙ z)) _ (ap reply_of c.refused_opening.ensures.0 ∙ z) _ c.refused_opening.ensures.1
-
-pub returns-in-Err-slot_for : goal.returns-in-Err-slot_for
-returns-in-Err-slot_for c =
-    shuts _ _ _
-    (reply_no_slot _ _ _ _ _ (checked_disk _ _ c.examine-found.ensures c.in-Accepted.is).accepted _ (sym (ap lookup_of c.in-Err-slot_for.is) ∙ c.slot_for.ensures)) _
-    (ap reply_of c.refused_opening-in-Err-slot_for.ensures.0) _ c.refused_opening-in-Err-slot_for.ensures.1
-
-pub returns-else-free_of-lt1 : goal.returns-else-free_of-lt1
-returns-else-free_of-lt1 c =
-    running _ _ _ _ _ _ _
-    (record {
-      disk = checked_disk _ _ c.examine-found.ensures c.in-Accepted.is;
-      place = sym (ap lookup_of c.in-At.is) ∙ c.slot_for.ensures;
-    }) _ c.free_of.ensures c.if-free_of-lt1.false _ (ap reply_of c.in-Accepted.is) _ c.fresh-record.ensures
+pub returns : goal.returns
+returns c =
+    let r = running _ _ _ _ _ _ _ (record { disk = checked_disk _ _ c.in_ok-used.ensures; place = c.in_ok-slot_for.ensures }) _ c.free_of.ensures c.if-free_of-lt1.false in
+    record { reply = r.0; opened = c.fresh.ensures ∙ r.1 }

@@ -1,9 +1,6 @@
 -- `recording_links::continuation_along` meets its contract: before each turn the sectors of the first k bits lead on to bit b.
-use Prim.Native.Nat.{◌-◌}
 use mathlib.Core.Path.{sym, ◌∙◌}
-use borrow.Author.Tests.{not-true, not-false}
-use Rattle.recording_links.proofs.LinkLoop.{Walked, no_first, walk_start, walk_done, walk_short, walk_last, walk_fault, walk_on}
-use borrow.Author.Rules.{rules}
+use Rattle.recording_links.proofs.LinkLoop.{no_first, walk_start, walk_done, walk_short, walk_last, walk_fault, walk_on}
 use Rattle.recording_links.proofs.continuation_along.Goals as goal
 
 pub returns-then-first-ge1560 : goal.returns-then-first-ge1560
@@ -18,9 +15,6 @@ returns-then-b-ge1560 c = walk_short _ _ _ _ _ c.loop-k.invariant c.loop-k-test.
 pub returns-then-c-ge1560 : goal.returns-then-c-ge1560
 returns-then-c-ge1560 c =
     walk_last _ _ _ _ _ c.loop-k.invariant c.loop-k-test.true c.if-b-ge1560.false _ c.next_clear-c.ensures c.if-c-ge1560.true
-
-pub leads_to-requires : goal.leads_to-requires
-leads_to-requires c = (c.if-b-ge1560.false, c.if-c-ge1560.false)
 
 pub returns-then-not-leads_to : goal.returns-then-not-leads_to
 returns-then-not-leads_to c =

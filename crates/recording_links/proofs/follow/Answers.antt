@@ -1,7 +1,5 @@
 -- `recording_links::follow` meets its contract: each way out has the tests that led there.
-use borrow.Author.Tests.{not-true, not-false}
 use Rattle.recording_links.proofs.FollowLaws.{other-map, other-tracks, same_map}
-use borrow.Author.Rules.{rules}
 use Rattle.recording_links.proofs.follow.Goals as goal
 
 pub returns-then-not-same_bytes : goal.returns-then-not-same_bytes

@@ -2,7 +2,6 @@
 use native.Mathlib.Omega.{arith}
 use Rattle.sector_writes.proofs.Links.{end_le}
 use Rattle.recording_links.proofs.Leads.{leads_not, leads_so}
-use borrow.Author.Rules.{rules}
 use Rattle.recording_links.proofs.leads_to.Goals as goal
 
 pub overflow_add-at : goal.overflow_add-at

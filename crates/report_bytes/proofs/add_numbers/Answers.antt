@@ -1,7 +1,7 @@
 -- `report_bytes::add_numbers` meets its contract: before each turn the numbers before place `k` are added.
-use Rattle.std.proofs.Common.{◌-◌, arith, rules}
+use Rattle.std.proofs.Common.{arith}
 use Rattle.report_bytes.proofs.Raising.{rest-room}
-use Rattle.report_bytes.proofs.Counting.{JoinLoop, joining_none, joining_more, joining_all}
+use Rattle.report_bytes.proofs.Counting.{joining_none, joining_more, joining_all}
 use Rattle.report_bytes.proofs.add_numbers.Goals as goal
 
 pub loop-k-init : goal.loop-k-init

@@ -1,5 +1,5 @@
 -- `report_bytes::count_accepted` meets its contract: the three numbers are raised one after the other.
-use Rattle.std.proofs.Common.{arith, rules}
+use Rattle.std.proofs.Common.{arith}
 use Rattle.report_bytes.proofs.Raising.{rest-room}
 use Rattle.report_bytes.proofs.Counting.{three}
 use Rattle.report_bytes.proofs.count_accepted.Goals as goal

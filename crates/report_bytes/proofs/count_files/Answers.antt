@@ -1,11 +1,11 @@
 -- `report_bytes::count_files` meets its contract: before each turn the files of the first `i` slots are counted.
-use Rattle.std.proofs.Common.{◌≡◌, ◌-◌, ◌<◌, arith, rules}
+use Rattle.std.proofs.Common.{◌≡◌, ◌<◌, arith}
 use mathlib.Core.Option.{some}
 use Rattle.directory.specs.Places.{slots}
 use Rattle.directory.specs.Directory.{slots_read, directory}
 use Rattle.directory.proofs.Ends.{read-most}
 use Rattle.directory.proofs.Live.{met_live, met_dead, among_seen, among_read}
-use Rattle.report_bytes.proofs.Counting.{CountLoop, counting_none, counting_dead, counting_live, counting_all}
+use Rattle.report_bytes.proofs.Counting.{counting_none, counting_dead, counting_live, counting_all}
 use Rattle.report_bytes.proofs.count_files.Goals as goal
 
 pub loop-seen-init : goal.loop-seen-init

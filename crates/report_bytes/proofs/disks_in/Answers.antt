@@ -1,7 +1,6 @@
 -- `report_bytes::disks_in` meets its contract: before each turn the first `k` numbers are added up.
-use Rattle.std.proofs.Common.{◌-◌, arith, rules}
-use Rattle.report_bytes.specs.Bytes.{report_numbers_in}
-use Rattle.reports.proofs.Raised.{SumLoop, summed_none, summed_more, summed_few, summed_all}
+use Rattle.std.proofs.Common.{arith}
+use Rattle.reports.proofs.Raised.{summed_none, summed_more, summed_few, summed_all}
 use Rattle.report_bytes.proofs.disks_in.Goals as goal
 
 pub loop-k-init : goal.loop-k-init

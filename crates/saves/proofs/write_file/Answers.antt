@@ -1,6 +1,5 @@
 -- `saves::write_file` meets its contract: the data sectors, and then the directory's part.
 use Rattle.saves.proofs.Whole.{file-written}
-use borrow.Author.Rules.{rules}
 use Rattle.saves.proofs.write_file.Goals as goal
 
 pub returns : goal.returns

@@ -1,13 +1,7 @@
 -- `saves::write_save` meets its contract: the bits, the file with that chain, and the list.
-use mathlib.Core.Path.{sym}
 use native.Mathlib.Omega.{arith}
-use lib.Seq.{length-take-le}
 use Rattle.saves.proofs.Whole.{front_writable, saved-is}
-use borrow.Author.Rules.{rules}
 use Rattle.saves.proofs.write_save.Goals as goal
-
-pub slice_bounds-write_file-end-2 : goal.slice_bounds-write_file-end-2
-slice_bounds-write_file-end-2 c = sym (length-take-le _ _ (omega (arith, c.requires.0.room)))
 
 pub write_file-requires : goal.write_file-requires
 write_file-requires c = (front_writable _ _ _ _ _ _ _ c.requires.0 _ c.pick_bits.ensures, c.requires.1)

@@ -13,24 +13,6 @@ use Rattle.siblings.proofs.link_slots.Goals as goal
 pub loop-i-init : goal.loop-i-init
 loop-i-init c = let s = c.slots_read-i.ensures in (omega (arith, s.0), linking_none _ _ _ refl (λ k h. directory-unread _ k (omega (arith, s.0))))
 
-pub overflow_add-links : goal.overflow_add-links
-overflow_add-links c =
-    let read : c.loop-i.i - 1 < slots_read c.args.dir.now = omega (arith, c.loop-i.invariant.0, c.loop-i-test.true) in
-    let low : c.loop-i.i - 1 < slots = omega (arith, read, read-most c.args.dir.now) in
-    omega (arith, low)
-
-pub bounds-links-i : goal.bounds-links-i
-bounds-links-i c =
-    let read : c.loop-i.i - 1 < slots_read c.args.dir.now = omega (arith, c.loop-i.invariant.0, c.loop-i-test.true) in
-    let low : c.loop-i.i - 1 < slots = omega (arith, read, read-most c.args.dir.now) in
-    omega (arith, low)
-
-pub overflow_cast-links : goal.overflow_cast-links
-overflow_cast-links c =
-    let read : c.loop-i.i - 1 < slots_read c.args.dir.now = omega (arith, c.loop-i.invariant.0, c.loop-i-test.true) in
-    let low : c.loop-i.i - 1 < slots = omega (arith, read, read-most c.args.dir.now) in
-    omega (arith, low)
-
 pub loop-i-preserved-then-is_live : goal.loop-i-preserved-then-is_live
 loop-i-preserved-then-is_live c =
     let read : c.loop-i.i - 1 < slots_read c.args.dir.now = omega (arith, c.loop-i.invariant.0, c.loop-i-test.true) in

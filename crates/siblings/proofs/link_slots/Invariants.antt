@@ -12,6 +12,3 @@ use Rattle.siblings.proofs.link_slots.Given as goal
 
 abbrev pub invariant-loop-i : goal.invariant-loop-i
 invariant-loop-i l = (l.i ≤ slots_read l.dir) × Linking (directory l.dir) l.i l.links
-
-abbrev pub decreases-loop-i : goal.decreases-loop-i
-decreases-loop-i l = l.i

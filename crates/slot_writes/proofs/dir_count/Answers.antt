@@ -3,7 +3,6 @@ use mathlib.Core.Path.{sym, ap, ◌∙◌}
 use native.Mathlib.Omega.{arith}
 use lib.ListN.{length}
 use Rattle.slot_writes.proofs.Dirs.{two_long, one_long, dirs_none, dirs_some}
-use borrow.Author.Rules.{rules}
 use Rattle.slot_writes.proofs.dir_count.Goals as goal
 
 pub returns-then-i-ge-SLOTS : goal.returns-then-i-ge-SLOTS

@@ -1,7 +1,6 @@
 -- `slot_writes::fresh_slot` meets its contract: the pieces are put from the front to the back.
 use Rattle.buffers.proofs.Lists.{put_one}
 use Rattle.slot_writes.proofs.Slot.{slot-put}
-use borrow.Author.Rules.{rules}
 use Rattle.slot_writes.proofs.fresh_slot.Goals as goal
 
 pub returns : goal.returns

@@ -1,21 +1,42 @@
--- `slot_writes::has_old_name` meets its contract.
+-- `slot_writes::has_old_name` meets its contract: the first test that fails, or all that hold.
+use mathlib.Core.Path.{sym, ◌∙◌}
+use mathlib.Core.Bool.{true≢false}
 use native.Mathlib.Omega.{arith}
-use borrow.Author.Tests.{not-true, not-false}
+use borrow.Author.Tests.{le-ltb, ltb-true, ltb-false}
 use Rattle.slot_writes.proofs.Dirs.{old_far, old_named, old-last, old_by}
-use borrow.Author.Rules.{rules}
 use Rattle.slot_writes.proofs.has_old_name.Goals as goal
+use Rattle.slot_writes.proofs.has_old_name.Goals.{then-i-lt-LAST_SLOT, else-i-lt-LAST_SLOT, then-is_nameless, else-is_nameless}
 
-pub returns-then-i-ge777 : goal.returns-then-i-ge777
-returns-then-i-ge777 c = old_far _ _ c.if-i-ge777.true
+pub returns-then-i-slots_in : goal.returns-then-i-slots_in
+returns-then-i-slots_in c =
+    let yes = c.if-i-slots_in.true in
+    elim c.if-is_nameless.branch [
+      | then-is_nameless w ↦
+          elim c.if-i-lt-LAST_SLOT.branch [
+            | then-i-lt-LAST_SLOT v ↦
+                old_by _ _ (omega (arith, v.if-i-lt-LAST_SLOT.true)) v.slot_at.ensures v.is_nameless.ensures (sym v.value-is ∙ w.if-is_nameless.true)
+                (omega (arith, ltb-true _ _ (sym w.value-is ∙ yes), w.slots_in.ensures.0)) c.slot_at-then-i-slots_in.ensures c.is_nameless-then-i-slots_in.ensures
+            | else-i-lt-LAST_SLOT v ↦ absurd (true≢false (sym w.if-is_nameless.true ∙ v.value-is ∙ le-ltb _ _ v.if-i-lt-LAST_SLOT.false))
+          ]
+      | else-is_nameless w ↦ absurd (true≢false (sym yes ∙ w.value-is ∙ w.if-is_nameless.false))
+    ]
 
-pub returns-then-not-is_nameless : goal.returns-then-not-is_nameless
-returns-then-not-is_nameless c =
-    old_named _ _ (omega (arith, c.if-i-ge777.false)) c.slot_at.ensures c.is_nameless.ensures (c.if-not-is_nameless.true)
-
-pub returns-then-slots_in-next : goal.returns-then-slots_in-next
-returns-then-slots_in-next c =
-    old-last _ _ (omega (arith, c.if-i-ge777.false)) c.slot_at.ensures c.is_nameless.ensures (c.if-not-is_nameless.false) (omega (arith, c.if-slots_in-next.true, c.slots_in.ensures.0))
-
-pub returns : goal.returns
-returns c =
-    old_by _ _ (omega (arith, c.if-i-ge777.false)) c.slot_at.ensures c.is_nameless.ensures (c.if-not-is_nameless.false) (omega (arith, c.if-slots_in-next.false, c.slots_in.ensures.0)) c.slot_at-2.ensures c.is_nameless-2.ensures
+pub returns-else-i-slots_in : goal.returns-else-i-slots_in
+returns-else-i-slots_in c =
+    let no = c.if-i-slots_in.false in
+    elim c.if-is_nameless.branch [
+      | then-is_nameless w ↦
+          elim c.if-i-lt-LAST_SLOT.branch [
+            | then-i-lt-LAST_SLOT v ↦
+                no
+                ∙ old-last _ _ (omega (arith, v.if-i-lt-LAST_SLOT.true)) v.slot_at.ensures v.is_nameless.ensures (sym v.value-is ∙ w.if-is_nameless.true)
+                (omega (arith, ltb-false _ _ (sym w.value-is ∙ no), w.slots_in.ensures.0))
+            | else-i-lt-LAST_SLOT v ↦ no ∙ old_far _ _ v.if-i-lt-LAST_SLOT.false
+          ]
+      | else-is_nameless w ↦
+          elim c.if-i-lt-LAST_SLOT.branch [
+            | then-i-lt-LAST_SLOT v ↦
+                no ∙ old_named _ _ (omega (arith, v.if-i-lt-LAST_SLOT.true)) v.slot_at.ensures v.is_nameless.ensures (sym v.value-is ∙ w.if-is_nameless.false)
+            | else-i-lt-LAST_SLOT v ↦ no ∙ old_far _ _ v.if-i-lt-LAST_SLOT.false
+          ]
+    ]

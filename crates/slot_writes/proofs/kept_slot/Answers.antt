@@ -2,7 +2,6 @@
 use mathlib.Core.Path.{ap, ◌∙◌}
 use Rattle.buffers.specs.Bytes.{put}
 use Rattle.slot_writes.proofs.KeptSlot.{kept-other, kept-first}
-use borrow.Author.Rules.{rules}
 use Rattle.slot_writes.proofs.kept_slot.Goals as goal
 
 pub returns-then-i-ne0 : goal.returns-then-i-ne0

@@ -1,6 +1,5 @@
 -- `slot_writes::put_slot` meets its contract: no old name behind the slot, and then the slot.
 use Rattle.slot_writes.proofs.Dirs.{behind_next, filed_none, filed_some}
-use borrow.Author.Rules.{rules}
 use Rattle.slot_writes.proofs.put_slot.Goals as goal
 
 pub returns-then-i-ge-SLOTS : goal.returns-then-i-ge-SLOTS

@@ -1,20 +1,13 @@
 -- `slots::inner_map` meets its contract: it marks the bits from 1 on and below ten for each track.
-use borrow.Author.Rules.{rules}
-use Prim.Native.Nat.{ℕ, ◌-◌, ◌*◌}
+use Prim.Native.Nat.{ℕ, ◌*◌}
 use mathlib.Core.Path.{ap}
 use native.Mathlib.Omega.{arith}
 use lib.ListN.{length-replicate}
-use Rattle.slots.proofs.Tracks.{InnerLoop, inner_first, inner_turn, inner_done}
+use Rattle.slots.proofs.Tracks.{inner_first, inner_turn, inner_done}
 use Rattle.slots.proofs.inner_map.Goals as goal
 
-pub overflow_mul-end : goal.overflow_mul-end
-overflow_mul-end c = omega (arith, c.lesser-end.ensures)
-
 pub loop-b-init : goal.loop-b-init
-loop-b-init c = record { first = omega arith; few = omega arith; ends = ap (λ (k : ℕ). 10 * k) c.lesser-end.ensures; long = length-replicate {A = ℕ} 195 0; made = inner_first _ }
-
-pub overflow_add-b : goal.overflow_add-b
-overflow_add-b c = let w = c.loop-b.invariant in omega (arith, w.few)
+loop-b-init c = record { first = omega arith; few = omega arith; ends = ap (λ (k : ℕ). 10 * k) c.min-end.ensures; long = length-replicate {A = ℕ} 195 0; made = inner_first _ }
 
 pub loop-b-preserved : goal.loop-b-preserved
 loop-b-preserved c =

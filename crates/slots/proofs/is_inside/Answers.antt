@@ -1,27 +1,17 @@
 -- `slots::is_inside` meets its contract: no bit from 1 on and below `b` is set.
-use Prim.Native.Nat.{ℕ, ◌-◌, ◌*◌, ◌≤◌, min}
-use mathlib.Core.Path.{◌≡◌, sym, ap, ◌∙◌}
+use Prim.Native.Nat.{ℕ, ◌*◌}
+use mathlib.Core.Path.{sym, ap, ◌∙◌}
 use native.Mathlib.Omega.{arith}
-use Rattle.slots.proofs.Tracks.{NoneTo, none_first, none_more, none-word, inside_not, inside_met}
-use borrow.Author.Rules.{rules}
+use Rattle.slots.proofs.Tracks.{none_first, none_more, none-word, inside_not, inside_met}
 use Rattle.slots.proofs.is_inside.Goals as goal
 
-pub overflow_mul-end : goal.overflow_mul-end
-overflow_mul-end c = omega (arith, c.lesser-end.ensures)
-
 pub loop-b-init : goal.loop-b-init
-loop-b-init c = let p = none_first _ _ c.past_first-b.ensures in (p.0, ap (λ (k : ℕ). 10 * k) c.lesser-end.ensures, p.1)
-
-pub overflow_add-b : goal.overflow_add-b
-overflow_add-b c = omega (arith, c.loop-b-test.true, c.loop-b.invariant.1)
+loop-b-init c = let p = none_first _ _ c.past_first-b.ensures in (p.0, ap (λ (k : ℕ). 10 * k) c.min-end.ensures, p.1)
 
 pub loop-b-preserved-then-is_clear : goal.loop-b-preserved-then-is_clear
 loop-b-preserved-then-is_clear c =
     let a = c.loop-b in
     (omega arith, a.invariant.1, none-word _ a.b a.invariant.2 (sym c.is_clear.ensures ∙ c.if-is_clear.true))
-
-pub overflow_add-b-else-is_clear : goal.overflow_add-b-else-is_clear
-overflow_add-b-else-is_clear c = omega (arith, c.loop-b-test.true, c.loop-b.invariant.1)
 
 pub returns-then-has_bit : goal.returns-then-has_bit
 returns-then-has_bit c =

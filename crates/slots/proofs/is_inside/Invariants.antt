@@ -1,9 +1,7 @@
 -- `slots::is_inside` meets its contract: no bit from 1 on and below `b` is set.
-use Prim.Native.Nat.{ℕ, ◌-◌, ◌*◌, ◌≤◌, min}
-use mathlib.Core.Path.{◌≡◌, sym, ap, ◌∙◌}
-use native.Mathlib.Omega.{arith}
-use Rattle.slots.proofs.Tracks.{NoneTo, none_first, none_more, none-word, inside_not, inside_met}
-use borrow.Author.Rules.{rules}
+use Prim.Native.Nat.{◌-◌, ◌*◌, ◌≤◌, min}
+use mathlib.Core.Path.{◌≡◌}
+use Rattle.slots.proofs.Tracks.{NoneTo}
 use Rattle.slots.proofs.is_inside.Given as goal
 
 abbrev pub invariant-loop-b : goal.invariant-loop-b

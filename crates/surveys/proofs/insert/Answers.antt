@@ -1,31 +1,24 @@
--- `surveys::insert` meets its contract: one mark after the other.
-use Prim.Native.Nat.{◌-◌, ◌≤◌, ◌<◌}
+-- `surveys::insert` meets its contract: one bit after the other.
 use mathlib.Core.Path.{◌≡◌, refl, ap, ◌∙◌}
 use native.Mathlib.Omega.{arith}
 use lib.ListN.{length}
 use borrow.Author.Rules.{rules}
-use Rattle.surveys.specs.Filter.{key_bit, inserted_to}
-use Rattle.surveys.proofs.Filter.{bit-next, length_noted, noted_more}
+use Rattle.surveys.specs.Filter.{inserted_to}
+use Rattle.surveys.proofs.Filter.{key_bits-at, length_noted, noted_more}
 use Rattle.surveys.proofs.insert.Goals as goal
 
-pub loop-n-init : goal.loop-n-init
+pub loop-b-init : goal.loop-b-init
 unfolding inserted_to
-loop-n-init c = (omega arith, c.first_bit-b.ensures.1, c.first_bit-b.ensures.0, refl)
+loop-b-init c = refl
 
-pub loop-n-preserved : goal.loop-n-preserved
-loop-n-preserved c =
-    let a = c.loop-n in (
-      omega (arith, c.loop-n-test.true),
-      omega arith,
-      bit-next _ a.n a.invariant.2 c.bit_step-step.ensures.0,
-      noted_more _ _ a.n a.invariant.3 a.invariant.2 c.set_bit.ensures,
-    )
+pub loop-b-preserved : goal.loop-b-preserved
+loop-b-preserved c =
+    let j = c.loop-b.b-index in noted_more _ _ j c.loop-b.invariant (key_bits-at _ j c.key_bits-bits.ensures c.loop-b-test.true) c.set_bit.ensures
 
 pub shape_of-filter : goal.shape_of-filter
-shape_of-filter c = let a = c.loop-n in ap length a.invariant.3 ∙ length_noted _ _ a.n
+shape_of-filter c = let a = c.loop-b in ap length a.invariant ∙ length_noted _ _ a.b-index
 
 pub returns : goal.returns
 returns c =
-    let a = c.loop-n in
-    let e : a.n ≡ 4 = omega arith in
-    rw e at a.invariant.3
+    let e : c.loop-b.b-index ≡ 4 = omega arith in
+    rw e at c.loop-b.invariant

@@ -7,7 +7,7 @@ use Rattle.text_lines.proofs.Laws.{wrote_none, wrote_then, wrote_as, digits-none
 use Rattle.text_lines.proofs.+put_digits.Goals as goal
 
 pub returns-then-k-eq0 : goal.returns-then-k-eq0
-returns-then-k-eq0 t c = wrote_none _ _ _ (digits-none _ _ c.if-k-eq0.true) _ c.lesser.ensures
+returns-then-k-eq0 t c = wrote_none _ _ _ (digits-none _ _ c.if-k-eq0.true) _ c.min.ensures
 
 pub returns-then-n-lt10 : goal.returns-then-n-lt10
 returns-then-n-lt10 t c = wrote_as _ (c.digit-only.ensures ∙ sym (digits_one _ _ c.if-k-eq0.false c.if-n-lt10.true)) c.put_bytes.ensures

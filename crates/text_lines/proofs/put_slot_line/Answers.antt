@@ -4,14 +4,16 @@ use mathlib.Core.Path.{◌≡◌, sym, ◌∙◌}
 use borrow.Author.Tests.{not-true, not-false}
 use Rattle.text_lines.specs.Lines.{line, slot_line}
 use Rattle.text_lines.proofs.Laws.{wrote_none, wrote_as, entry_dead, entry-hidden, entry-line}
+use Rattle.text_lines.proofs.put_slot_line.Goals.{then-not-is_live-via-then-not-is_live, then-not-is_live-via-else-not-is_live+then-is_hidden}
 use Rattle.text_lines.proofs.put_slot_line.Goals as goal
 
 pub returns-then-not-is_live : goal.returns-then-not-is_live
-returns-then-not-is_live c = wrote_none _ _ _ (entry_dead _ _ (sym c.is_live.ensures ∙ c.if-not-is_live.true)) _ c.lesser.ensures
-
-pub returns-then-is_hidden : goal.returns-then-is_hidden
-returns-then-is_hidden c =
-    wrote_none _ _ _ (entry-hidden _ _ (sym c.is_live.ensures ∙ c.if-not-is_live.false) (sym c.is_hidden.ensures ∙ c.if-is_hidden.true)) _ c.lesser-then-is_hidden.ensures
+returns-then-not-is_live c =
+    elim c.then-not-is_live.branch [
+      | then-not-is_live-via-then-not-is_live w ↦ wrote_none _ _ _ (entry_dead _ _ (sym c.is_live.ensures ∙ w.if-not-is_live.true)) _ c.min.ensures
+      | then-not-is_live-via-else-not-is_live+then-is_hidden w ↦
+          wrote_none _ _ _ (entry-hidden _ _ (sym c.is_live.ensures ∙ w.if-not-is_live.false) (sym w.is_hidden.ensures ∙ w.if-is_hidden.true)) _ c.min.ensures
+    ]
 
 pub returns : goal.returns
 returns c =

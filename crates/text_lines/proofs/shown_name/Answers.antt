@@ -11,15 +11,15 @@ use Rattle.text_lines.proofs.shown_name.Goals as goal
 
 pub loop-k-init : goal.loop-k-init
 unfolding tab
-loop-k-init c = (search rules, refl, refl)
+loop-k-init c = (refl, refl)
 
 pub loop-k-preserved : goal.loop-k-preserved
 loop-k-preserved c =
     let l = c.loop-k in
-    (search rules, simp length-set l.invariant.1, fill_more _ _ _ _ (omega arith) l.invariant.2 (c.shown_byte.ensures ∙ ap shown c.byte_at.ensures))
+    (simp length-set l.invariant.0, fill_more _ _ _ _ (omega arith) l.invariant.1 (c.shown_byte.ensures ∙ ap shown c.byte_at.ensures))
 
 pub returns : goal.returns
 returns c =
     let l = c.loop-k in
     let e : l.k ≡ 10 = omega arith in
-    fill_done _ 10 _ l.invariant.1 (rw e at l.invariant.2) ∙ ap (λ n. tab 10 (λ k. shown (get_or n k 0))) c.name_of-name.ensures
+    fill_done _ 10 _ l.invariant.0 (rw e at l.invariant.1) ∙ ap (λ n. tab 10 (λ k. shown (get_or n k 0))) c.name_of-name.ensures

@@ -10,7 +10,4 @@ use Rattle.text_lines.specs.Lines.{shown}
 use Rattle.text_lines.proofs.shown_name.Given as goal
 
 abbrev pub invariant-loop-k : goal.invariant-loop-k
-invariant-loop-k l = (l.k ≤ 10) × (length l.visible ≡ 10) × (take l.k l.visible ≡ tab l.k (λ j. shown (get_or l.name j 0)))
-
-abbrev pub decreases-loop-k : goal.decreases-loop-k
-decreases-loop-k l = 10 - l.k
+invariant-loop-k l = (length l.visible ≡ 10) × (take l.k l.visible ≡ tab l.k (λ j. shown (get_or l.name j 0)))

@@ -1,7 +1,6 @@
 -- `varnucht::mark` meets its contract: the change's answer is packed whole.
 use Rattle.plans.specs.Change.{mark}
 use Rattle.varnucht.proofs.Replies.{packed-change}
-use borrow.Author.Rules.{rules}
 use Rattle.varnucht.proofs.mark.Goals as goal
 
 pub returns : goal.returns

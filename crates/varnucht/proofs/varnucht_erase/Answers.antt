@@ -1,7 +1,6 @@
 -- `varnucht::varnucht_erase` meets its contract: the change's answer is packed whole.
 use Rattle.plans.specs.Change.{erase}
 use Rattle.varnucht.proofs.Replies.{packed-change}
-use borrow.Author.Rules.{rules}
 use Rattle.varnucht.proofs.varnucht_erase.Goals as goal
 
 pub returns : goal.returns

@@ -1,6 +1,5 @@
 -- `varnucht::varnucht_erase_many` meets its contract: the answer is packed whole.
 use Rattle.varnucht.proofs.EraseMany.{packed-many}
-use borrow.Author.Rules.{rules}
 use Rattle.varnucht.proofs.varnucht_erase_many.Goals as goal
 
 pub returns : goal.returns

@@ -1,7 +1,6 @@
 -- `varnucht::varnucht_gather` meets its contract: the change's answer is packed whole.
 use Rattle.plans.specs.Change.{gather}
 use Rattle.varnucht.proofs.Replies.{packed-change}
-use borrow.Author.Rules.{rules}
 use Rattle.varnucht.proofs.varnucht_gather.Goals as goal
 
 pub returns : goal.returns

@@ -1,6 +1,5 @@
 -- `varnucht::varnucht_next` meets its contract: how many came and where the next byte stands are packed whole.
 use Rattle.varnucht.proofs.Reading.{next_reported}
-use borrow.Author.Rules.{rules}
 use Rattle.varnucht.proofs.varnucht_next.Goals as goal
 
 pub returns : goal.returns

@@ -1,6 +1,5 @@
 -- `varnucht::varnucht_read` meets its contract: the reading's answer is packed whole.
 use Rattle.varnucht.proofs.Replies.{packed-read}
-use borrow.Author.Rules.{rules}
 use Rattle.varnucht.proofs.varnucht_read.Goals as goal
 
 pub returns : goal.returns

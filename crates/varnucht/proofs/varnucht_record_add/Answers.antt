@@ -1,6 +1,5 @@
 -- `varnucht::varnucht_record_add` meets its contract: the answer is packed whole.
 use Rattle.varnucht.proofs.Records.{packed-piece}
-use borrow.Author.Rules.{rules}
 use Rattle.varnucht.proofs.varnucht_record_add.Goals as goal
 
 pub returns : goal.returns

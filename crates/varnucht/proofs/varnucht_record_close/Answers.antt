@@ -1,6 +1,5 @@
 -- `varnucht::varnucht_record_close` meets its contract: the answer is packed whole.
 use Rattle.varnucht.proofs.Records.{packed_close}
-use borrow.Author.Rules.{rules}
 use Rattle.varnucht.proofs.varnucht_record_close.Goals as goal
 
 pub returns : goal.returns

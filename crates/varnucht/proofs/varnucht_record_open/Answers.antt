@@ -1,6 +1,5 @@
 -- `varnucht::varnucht_record_open` meets its contract: the answer is packed whole.
 use Rattle.varnucht.proofs.Records.{packed_opening_lem}
-use borrow.Author.Rules.{rules}
 use Rattle.varnucht.proofs.varnucht_record_open.Goals as goal
 
 pub returns : goal.returns

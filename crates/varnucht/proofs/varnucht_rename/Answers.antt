@@ -1,7 +1,6 @@
 -- `varnucht::varnucht_rename` meets its contract: the change's answer is packed whole.
 use Rattle.plans.specs.Change.{rename}
 use Rattle.varnucht.proofs.Replies.{packed-change}
-use borrow.Author.Rules.{rules}
 use Rattle.varnucht.proofs.varnucht_rename.Goals as goal
 
 pub returns : goal.returns

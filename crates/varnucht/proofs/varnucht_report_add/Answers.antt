@@ -1,6 +1,5 @@
 -- `varnucht::varnucht_report_add` meets its contract: the answer is packed whole.
 use Rattle.varnucht.proofs.Reports.{packed-add}
-use borrow.Author.Rules.{rules}
 use Rattle.varnucht.proofs.varnucht_report_add.Goals as goal
 
 pub returns : goal.returns

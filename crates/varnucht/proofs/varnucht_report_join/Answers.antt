@@ -1,6 +1,5 @@
 -- `varnucht::varnucht_report_join` meets its contract: the answer is packed whole.
 use Rattle.varnucht.proofs.Reports.{packed_join}
-use borrow.Author.Rules.{rules}
 use Rattle.varnucht.proofs.varnucht_report_join.Goals as goal
 
 pub returns : goal.returns

@@ -1,7 +1,6 @@
 -- `varnucht::varnucht_save` meets its contract: the change's answer is packed whole.
 use Rattle.plans.specs.Change.{save}
 use Rattle.varnucht.proofs.Replies.{packed-change}
-use borrow.Author.Rules.{rules}
 use Rattle.varnucht.proofs.varnucht_save.Goals as goal
 
 pub returns : goal.returns

@@ -2,7 +2,6 @@
 use native.Mathlib.Omega.{arith}
 use Rattle.varnucht.proofs.Bounds.{Bytes}
 use Rattle.varnucht.proofs.Replies.{packed_start}
-use borrow.Author.Rules.{rules}
 use Rattle.varnucht.proofs.varnucht_start.Goals as goal
 
 pub returns : goal.returns

@@ -1,6 +1,5 @@
 -- `varnucht::varnucht_tree` meets its contract: the answer is packed whole.
 use Rattle.varnucht.proofs.Trees.{packed-tree}
-use borrow.Author.Rules.{rules}
 use Rattle.varnucht.proofs.varnucht_tree.Goals as goal
 
 pub returns : goal.returns

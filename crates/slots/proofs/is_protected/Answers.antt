@@ -1,9 +1,0 @@
--- `slots::is_protected` meets its contract.
-use mathlib.Core.Path.{ap}
-use Prim.Native.Nat.{ℕ, ◌-◌, ◌/◌, ◌%◌}
-use lib.Dec.{eqb}
-use borrow.Author.Rules.{rules}
-use Rattle.slots.proofs.is_protected.Goals as goal
-
-pub returns : goal.returns
-returns c = ap (λ (n : ℕ). eqb (n / 64 % 2) 1) c.byte_at.ensures
