@@ -36,20 +36,29 @@ def functions():
             yield path, line, m, text[m.end():i - 1]
 
 
-def option_enums():
+def types():
+    """Of each struct and enum: its file, which of the two it is, its name and what stands between its braces."""
     for path, text in sources():
-        for m in re.finditer(r"^(?:pub )?enum (\w+)[^{]*\{(.*?)^\}", text, re.M | re.S):
-            variants = [v for v in re.findall(r"^    (\w+)(\(|\b)", m.group(2), re.M)]
-            data = [v for v in variants if v[1] == "("]
-            if data and len(variants) - len(data) <= 1:
-                yield f"{path}: enum {m.group(1)}"
+        for m in re.finditer(r"^(?:pub )?(struct|enum) (\w+)[^{;]*\{(.*?)^\}", text, re.M | re.S):
+            yield path, *m.groups()
+
+
+def structs_with(field):
+    for path, kind, name, inside in types():
+        if kind == "struct" and re.search(field, inside):
+            yield f"{path}: struct {name}"
+
+
+def option_enums():
+    for path, kind, name, inside in types():
+        variants = re.findall(r"^    (\w+)(\(|\b)", inside, re.M)
+        data = [v for v in variants if v[1] == "("]
+        if kind == "enum" and data and len(variants) - len(data) <= 1:
+            yield f"{path}: enum {name}"
 
 
 def flags_with_values():
-    for path, text in sources():
-        for m in re.finditer(r"^(?:pub )?struct (\w+)[^{;]*\{(.*?)^\}", text, re.M | re.S):
-            if re.search(r"\b(verdict|answer):", m.group(2)):
-                yield f"{path}: struct {m.group(1)}"
+    yield from structs_with(r"\b(verdict|answer):")
 
 
 def numbers_for_refusals():
@@ -80,10 +89,9 @@ def twins():
             text = re.sub(rf"\b{re.escape(a)}\b", f"p{k}", text)
         if len(text) > 12:
             groups[text].append(f"{path}:{line}: {m['name']}")
-    for path, text in sources():
-        for m in re.finditer(r"^(?:pub )?(struct|enum) (\w+)[^{;]*\{(.*?)^\}", text, re.M | re.S):
-            body = " ".join(re.sub(r"\bpub ", "", m.group(3)).split())
-            groups[f"{m.group(1)} {body}"].append(f"{path}: {m.group(1)} {m.group(2)}")
+    for path, kind, name, inside in types():
+        body = " ".join(re.sub(r"\bpub ", "", inside).split())
+        groups[f"{kind} {body}"].append(f"{path}: {kind} {name}")
     for body, places in sorted(groups.items(), key=lambda g: g[1]):
         if len(places) > 1:
             yield " = ".join(places)
@@ -129,10 +137,7 @@ def travelling_parameters():
 
 def fixed_buffers():
     """An array with a length beside it: of a struct's fields, or made in a function that hands on a front of it; a table of indices."""
-    for path, text in sources():
-        for m in re.finditer(r"^(?:pub )?struct (\w+)[^{;]*\{(.*?)^\}", text, re.M | re.S):
-            if re.search(r": \[\w+; [^\]]+\]", m.group(2)):
-                yield f"{path}: struct {m.group(1)}"
+    yield from structs_with(r": \[\w+; [^\]]+\]")
     for path, line, m, body in functions():
         for name in re.findall(r"let mut (\w+) = (?:\[[^\]]*; ?[^\]]*\]|(?:no_\w+|blank|tracks)\(\));", body):
             if re.search(rf"\b{name}\[\.\.", body):
