@@ -119,7 +119,11 @@ pub fn count_of(s: &[u8]) -> usize
 pub fn two_at(s: &[u8], i: usize) -> usize
     ensures { (result ≡ get_or s.now i 0 + 256 * get_or s.now (i + 1) 0) × (result ≤ 65535) }
 {
-    let high = if i < s.len() { buffers::byte_at(s, i + 1) } else { 0 };
+    let high = if i < s.len() {
+        buffers::byte_at(s, i + 1)
+    } else {
+        0
+    };
     usize::from(u16::from_le_bytes([buffers::byte_at(s, i), high]))
 }
 
