@@ -27,8 +27,8 @@
  * Nothing outside is called but memcpy, memset and their like. On x86-64 a save needs less than 6 KiB of stack, the calls of
  * a recording less than 8 KiB, an erase of many less than 5 KiB, a gather less than 3 KiB, every other call less than 2 KiB;
  * but varnucht_tree less than 7 KiB where no more than ten subdirectories lie inside each other, and 48 bytes more for each
- * beyond them: less than 19 KiB on any disk. "Stack:" at a call is x86-64's too. README.md has a table of each call on each
- * target (section 8): on none is it 8 KiB, but of varnucht_tree less than 23 KiB on iOS and less than 19 KiB on other phones.
+ * beyond them: less than 17 KiB on any disk. "Stack:" at a call is x86-64's too. README.md has a table of each call on each
+ * target (section 8): on none is it 8 KiB, but of varnucht_tree less than 21 KiB on iOS and less than 17 KiB on other phones.
  *
  * Every call answers one number with four parts, which the functions below take apart:
  *
@@ -333,7 +333,7 @@ uint64_t varnucht_start(const uint8_t *image, varnucht_length image_len, const u
  * room for L / 2 numbers. A listing has all else that the slots say, and varnucht_entry_code and varnucht_entry_parent tell
  * which of them is in which.
  * Refusals: 1 to 11, 24, 25, 26, 27, 28, 12, 13 (not a subdirectory), 15, 20. On a disk with 255 subdirectories, each inside
- * the one before, which are as many as there can be, Stack: 18,400 bytes. */
+ * the one before, which are as many as there can be, Stack: 16,816 bytes. */
 uint64_t varnucht_tree(const uint8_t *image, varnucht_length image_len, const uint8_t *name, varnucht_length name_len,
                        uint8_t *slots, varnucht_length slots_len);
 

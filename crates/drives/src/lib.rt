@@ -29,7 +29,7 @@ pub fn raw_place(
 }
 
 // The 512 bytes of a sector of the chosen drive, uncopied.
-pub fn raw_sector<'a>(
+pub fn raw_part<'a>(
     one: &'a [u8],
     two: &'a [u8],
     drive: usize,
@@ -42,4 +42,20 @@ pub fn raw_sector<'a>(
     let start = raw_place(one, two, drive, track, sector)?;
     let image = if drive == 1 { one } else { two };
     Ok(&image[start..start + 512])
+}
+
+// The same, and an empty part on a refusal.
+pub fn raw_sector<'a>(
+    one: &'a [u8],
+    two: &'a [u8],
+    drive: usize,
+    track: usize,
+    sector: usize,
+) -> &'a [u8]
+    ensures { result.now ≡ raw_sector one.now two.now drive track sector }
+{
+    match raw_part(one, two, drive, track, sector) {
+        Ok(part) => part,
+        Err(_) => &[],
+    }
 }

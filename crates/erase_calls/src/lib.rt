@@ -97,7 +97,11 @@ impl NameIndex<'_> {
         if slots::is_protected(s) {
             return Err(Reason::FileProtected);
         }
-        if nesting::is_occupied_yet(self.dir, self.end, map, i, s) {
+        let read = nesting::ReadSlots {
+            dir: self.dir,
+            end: self.end,
+        };
+        if nesting::is_occupied_yet(&read, map, i, s) {
             return Err(Reason::DirectoryNotEmpty);
         }
         maps::set_bit(map, i);

@@ -155,21 +155,38 @@ fn holds_other(dir: &[u8], end: usize, erased: &[u8], i: usize, code: usize) -> 
     false
 }
 
-// Row 29 over the slots that are not in a map of erased ones, of which `end` are read.
-pub fn is_occupied_yet(dir: &[u8], end: usize, erased: &[u8], i: usize, s: &[u8]) -> bool
-    requires { end ≡ slots_read dir.now }
-    ensures { result ≡ occupied (not_erased (directory dir.now) erased.now) i s.now }
+// A directory, with how many of its slots are read: a caller that asks for many slots counts them once.
+#[derive(Clone, Copy)]
+pub struct ReadSlots<'a> {
+    pub dir: &'a [u8],
+    pub end: usize,
+    ghost counted: { end ≡ slots_read dir.now },
+}
+
+// Row 29 over the slots that are not in a map of erased ones.
+pub fn is_occupied_yet(read: &ReadSlots, erased: &[u8], i: usize, s: &[u8]) -> bool
+    ensures { result ≡ occupied (not_erased (directory read.now.dir.now) erased.now) i s.now }
 {
     if !slots::is_directory(s) {
         return false;
     }
     let code = slots::code_of(s);
-    code != 0 && holds_other(dir, end, erased, i, code)
+    code != 0 && holds_other(read.dir, read.end, erased, i, code)
 }
 
 // Row 29 of slot `i`, counted from 0, whose bytes are `s`: a directory whose code, not 0, is another live slot's byte 254.
 pub fn is_occupied(dir: &[u8], i: usize, s: &[u8]) -> bool
     ensures { result ≡ occupied (directory dir.now) i s.now }
 {
-    is_occupied_yet(dir, directory::slots_read(dir), &[], i, s)
+    // The slots are counted only for a slot that another can be in.
+    let can_hold = slots::is_directory(s);
+    if !can_hold {
+        return false;
+    }
+    let code = slots::code_of(s);
+    if code == 0 {
+        return false;
+    }
+    let end = directory::slots_read(dir);
+    is_occupied_yet(&ReadSlots { dir, end }, &[], i, s)
 }

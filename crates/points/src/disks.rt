@@ -5,12 +5,10 @@ ghost use Rattle.std.specs.Prelude.{◌<◌};
 use geometry::Address;
 
 // A slot's first bytes: kind, name, and then the count, the first address and the map's first byte.
-pub fn entry(image: &mut [u8], at: usize, kind: u8, name: &[u8], rest: &[u8])
-    requires { at < 40960 }
-{
+pub fn entry(image: &mut [u8], at: usize, kind: u8, name: &[u8], rest: &[u8]) {
     crate::set(image, at, kind);
-    buffers::copy_into(image, at + 1, name);
-    buffers::copy_into(image, at + 11, rest);
+    buffers::copy_into(image, at.saturating_add(1), name);
+    buffers::copy_into(image, at.saturating_add(11), rest);
 }
 
 // A slot's start page 29 and offset 32,768, and its length of 505: one sector's 501 bytes and four more.
@@ -73,14 +71,6 @@ pub fn rubbish(image: &mut [u8]) {
     buffers::copy_into(image, 513, &bytes);
 }
 
-// The link of the sector at a place.
-fn link(image: &mut [u8], at: usize, to: Address) {
-    if at < image.len() {
-        let bytes = [crate::low(to.track), crate::low(to.sector)];
-        buffers::copy_into(image, at + 510, &bytes);
-    }
-}
-
 // Every data sector linked to that of the next map bit; the last, and that before bit `count`, to none.
 pub fn chain(image: &mut [u8], count: usize) {
     for bit in 0..1560 {
@@ -93,7 +83,7 @@ pub fn chain(image: &mut [u8], count: usize) {
             track: 0,
             sector: 0,
         });
-        link(image, geometry::bit_place(bit), to);
+        crate::link(image, geometry::bit_place(bit), to.track, to.sector);
     }
 }
 
@@ -127,11 +117,9 @@ pub fn small_file(image: &mut [u8], i: usize, bit: usize, letters: &[u8]) {
 }
 
 // The same with a name of three letters, AAA in slot 0.
-pub fn lettered_file(image: &mut [u8], i: usize, bit: usize)
-    requires { i < 778 }
-{
+pub fn lettered_file(image: &mut [u8], i: usize, bit: usize) {
     let letters = [
-        b'A' + (i / 100) as u8,
+        b'A' + (i / 100 % 10) as u8,
         b'A' + (i / 10 % 10) as u8,
         b'A' + (i % 10) as u8,
     ];

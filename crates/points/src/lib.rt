@@ -13,6 +13,8 @@ pub mod disks; // disks of few files, and full ones
 
 pub use calls::{BASIC, CODE, erased, erased_as, marked, renamed, saved, saved_as};
 
+pub const LARGEST: usize = usize::MAX;
+
 // An empty disk.
 pub fn blank() -> [u8; 819200]
     ensures zeros { result ≡ replicate 819200 0 }
@@ -32,11 +34,20 @@ pub fn low(n: usize) -> u8 {
     n.to_le_bytes()[0]
 }
 
+// The link of the sector at a place.
+pub fn link(image: &mut [u8], at: usize, track: usize, sector: usize) {
+    if at < 819200 {
+        set(image, at + 510, low(track));
+        set(image, at + 511, low(sector));
+    }
+}
+
 // Two bytes at a place, and those that were there.
-pub fn exchange(bytes: &mut [u8], at: usize, new: [u8; 2]) -> [u8; 2]
-    requires { at < 819200 }
-{
-    let old = [buffers::byte_at(bytes, at), buffers::byte_at(bytes, at + 1)];
+pub fn exchange(bytes: &mut [u8], at: usize, new: [u8; 2]) -> [u8; 2] {
+    let old = [
+        buffers::byte_at(bytes, at),
+        buffers::byte_at(bytes, at.saturating_add(1)),
+    ];
     buffers::copy_into(bytes, at, &new);
     old
 }

@@ -73,7 +73,10 @@ fn rubbish(image: &[u8]) {
     four(image, place(80, 9, 795592));
     four(image, place(80, 510, 4));
     four(image, place(1600, 0, 4));
-    four(image, place(usize::MAX, usize::MAX, usize::MAX));
+    four(
+        image,
+        place(points::LARGEST, points::LARGEST, points::LARGEST),
+    );
     four(buffers::part_at(image, 0, 819199), place(80, 9, 505));
 }
 

@@ -49,14 +49,14 @@ fn sectors() {
     sector_line(208, 1);
     sector_line(4, 0);
     sector_line(4, 11);
-    sector_line(usize::MAX, 1);
-    sector_line(4, usize::MAX);
+    sector_line(points::LARGEST, 1);
+    sector_line(4, points::LARGEST);
     bit_line(0);
     bit_line(759);
     bit_line(760);
     bit_line(1559);
     bit_line(1560);
-    bit_line(usize::MAX);
+    bit_line(points::LARGEST);
 }
 
 fn count_line(high: u8, low: u8) {

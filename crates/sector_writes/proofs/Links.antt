@@ -85,3 +85,7 @@ to_some bs j h l r e = e ∙ link_bit (get_or bs j 0) l ∙ sym (rw (from bs j h
 pub end_le : (b p : ℕ) → p ≡ place_or_end b → p ≤ image_size
 end_le b p e =
     ⊎_elim (λ (h : b < 1560). omega (arith, place_or_end_lem b h, place_inside b h)) (λ (h : 1560 ≤ b). omega (arith, place_end b h)) (below_or_not b 1560)
+
+-- the number of a map bit's sector, of its place
+pub number-of : (b n : ℕ) → b < 1560 → n ≡ place_or_end b / 512 → n ≡ bit_number b
+number-of b n h e = omega (arith, place_or_end_lem b h)

@@ -1,9 +1,9 @@
 // The data sectors of a file: the header in front of its body, the link to a sector, and a sector with its payload and its link.
 #![tactic(auto)]
 
-ghost use Rattle.std.specs.Prelude.{◌≡◌, ◌++◌, ◌∷◌, [], ◌≤◌, ◌<◌};
+ghost use Rattle.std.specs.Prelude.{◌≡◌, ◌++◌, ◌∷◌, [], ◌/◌, ◌≤◌};
 ghost use Rattle.buffers.specs.Bytes.{put};
-ghost use Rattle.geometry.specs.Disk.{bit_number, place_or_end};
+ghost use Rattle.geometry.specs.Disk.{place_or_end};
 ghost use Rattle.plans.specs.Saving.{sector_bytes};
 ghost use Rattle.sector_writes.specs.Sector.{header, bytes_from, link_to_bit};
 
@@ -53,11 +53,10 @@ pub fn link_of(bit: usize) -> Link
     }
 }
 
-// The number of the sector of a map bit.
-#[tactic(auto, using(geometry::proofs::Laws::place_or_end_lem, geometry::proofs::Laws::number_small))]
+// The number of the sector of a map bit; 1,600, the number of no sector, where there is no such bit.
+#[tactic(auto, using(crate::proofs::Links::end_le))]
 pub fn sector_number(bit: usize) -> u16
-    requires { bit < 1560 }
-    ensures { result ≡ bit_number bit }
+    ensures { result ≡ place_or_end bit / 512 }
 {
     (geometry::bit_place(bit) / 512) as u16
 }

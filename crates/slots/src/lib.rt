@@ -114,12 +114,17 @@ pub fn count_of(s: &[u8]) -> usize
     buffers::num_at(s, 11) * 256 + buffers::num_at(s, 12)
 }
 
-// Two bytes as one number, low byte first.
+// Two bytes of any place as one number, low byte first.
+#[tactic(auto, using(buffers::proofs::Lists::past_end))]
 pub fn two_at(s: &[u8], i: usize) -> usize
-    requires { i < 256 }
     ensures { (result ≡ get_or s.now i 0 + 256 * get_or s.now (i + 1) 0) × (result ≤ 65535) }
 {
-    usize::from(u16::from_le_bytes([buffers::byte_at(s, i), buffers::byte_at(s, i + 1)]))
+    let high = if i < s.len() {
+        buffers::byte_at(s, i + 1)
+    } else {
+        0
+    };
+    usize::from(u16::from_le_bytes([buffers::byte_at(s, i), high]))
 }
 
 // The first sector as a map bit: 1,560 where the slot names no data sector. A number and no Option, as the definition has it: no map

@@ -93,7 +93,8 @@ pub fn list_tree(image: &[u8], name: &[u8], list: &mut [u16]) -> Result<usize, R
     disk::check(image)?;
     let number = nesting::survey_nesting(image)?;
     let code = asked_code(image, name)?;
-    let links = siblings::link_slots(image);
+    let mut links = [directory::SLOTS as u16; 1034];
+    siblings::link_into(image, &mut links);
     let tree = Tree {
         dir: image,
         links: &links,

@@ -66,7 +66,7 @@ fn stack_said() -> Vec<(String, usize)> {
 /// record by value is 1,300 wherever it is handed on. A piece that grows the record where it lies takes 7,032, and a close, which is lent
 /// the record, 7,384. The frames in the compiled code have fixed sizes and no call leads back to itself, so that their sum, about the
 /// same, holds for every input; but for the tree, which calls itself once for each directory around: at most 255 times, and one of
-/// the disks is as deep as that.
+/// the disks is as deep as that. Where no directory lies in another it takes less than 7 KiB, 5,736 when the header said so.
 #[test]
 fn the_calls_need_little_stack() {
     let folder = Folder::new("stack");
@@ -75,7 +75,7 @@ fn the_calls_need_little_stack() {
     let text = String::from_utf8_lossy(&output.stdout);
     println!("{text}");
     assert!(output.status.success());
-    let (mut calls, said) = (BTreeSet::new(), stack_said());
+    let (mut calls, said, mut trees) = (BTreeSet::new(), stack_said(), 0);
     assert!(!said.is_empty(), "the header says nothing of the stack");
     for line in text.lines() {
         let words: Vec<&str> = line.split(' ').collect();
@@ -90,7 +90,11 @@ fn the_calls_need_little_stack() {
             "record_open" | "record_add" | "record_close" => 8192,
             "erase_many" => 5120,
             "gather" => 3072,
-            "tree" => 19 * 1024,
+            // The deep disk is the last of the four.
+            "tree" => {
+                trees += 1;
+                if trees < 4 { 7 * 1024 } else { 17 * 1024 }
+            }
             _ => 2048,
         };
         assert!(bytes > 0 && bytes < most, "{line}");

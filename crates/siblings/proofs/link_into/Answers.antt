@@ -1,17 +1,25 @@
--- `siblings::link_slots` meets its contract: the slots from slot `i` on are linked.
+-- `siblings::link_into` meets its contract: the slots from slot `i` on are linked.
 use Prim.Native.Nat.{ℕ, ◌-◌, ◌≤◌, ◌<◌}
-use mathlib.Core.Path.{◌≡◌, refl, ap, ◌∙◌}
+use mathlib.Core.Path.{◌≡◌, sym, ◌∙◌}
+use mathlib.Core.List.{List}
 use native.Mathlib.Omega.{arith}
+use lib.ListN.{length, get_or, replicate, length-replicate, get_or-replicate}
+use lib.Seq.{ext_get_or}
 use Rattle.directory.specs.Places.{slots}
-use Rattle.directory.specs.Directory.{directory, slots_read}
+use Rattle.directory.specs.Directory.{slots_read}
 use Rattle.directory.proofs.Ends.{read-most}
 use Rattle.directory.proofs.Live.{met_live, met_dead, directory-unread}
-use Rattle.siblings.proofs.Linking.{Linking, linking_none, linking_dead, linking_live, linking_all}
-use borrow.Author.Rules.{rules}
-use Rattle.siblings.proofs.link_slots.Goals as goal
+use Rattle.siblings.proofs.Linking.{linking_none, linking_dead, linking_live, linking_all}
+use Rattle.siblings.proofs.link_into.Goals as goal
+
+-- a table of so many numbers 778 and no others
+all-none : (l : List ℕ) (k : ℕ) → length l ≡ 1034 → ((j : ℕ) → j < k → get_or l j 0 ≡ slots) → 1034 ≤ k → l ≡ replicate 1034 slots
+all-none l k e f h =
+    ext_get_or 0 l (replicate 1034 slots) (e ∙ sym (length-replicate {A = ℕ} 1034 slots))
+    (λ i m. f i (omega (arith, e)) ∙ sym (get_or-replicate 1034 i slots 0 (omega (arith, e))))
 
 pub loop-i-init : goal.loop-i-init
-loop-i-init c = let s = c.slots_read-i.ensures in (omega (arith, s.0), linking_none _ _ _ refl (λ k h. directory-unread _ k (omega (arith, s.0))))
+loop-i-init c = let s = c.slots_read-i.ensures in (omega (arith, s.0), linking_none _ _ _ (all-none _ c.loop-k.k c.loop-k.invariant.0 c.loop-k.invariant.1 (omega arith)) (λ k h. directory-unread _ k (omega (arith, s.0))))
 
 pub loop-i-preserved-then-is_live : goal.loop-i-preserved-then-is_live
 loop-i-preserved-then-is_live c =
