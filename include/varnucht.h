@@ -239,7 +239,7 @@ uint64_t varnucht_check(const uint8_t *image, varnucht_length image_len);
 
 /* Whether the disk is accepted and fit to go out: no file of a carried kind has waste sectors behind it, where old texts hide.
  * A file has them where its count is above the least that its length needs. Every other call accepts such a disk still.
- * Value: 0. Refusals: 1 to 11, 22, 24, 25. Stack: 1,720 bytes. */
+ * Value: 0. Refusals: 1 to 11, 22, 24, 25. Stack: 1,704 bytes. */
 uint64_t varnucht_check_release(const uint8_t *image, varnucht_length image_len);
 
 /* Every file, hidden ones too, by rising slot, at 258 bytes each from the front of `out`; section 6 says how to read them.
@@ -277,7 +277,7 @@ uint64_t varnucht_read(const uint8_t *image, varnucht_length image_len, const ui
 
 /* Finds a file. Value: the length of its body in bytes, 0 to 795,591. Slot: the sector that the body begins in, 0 to 1,599.
  * Free: the place of its first byte there, 9. Refusals: 1 to 11, 24, 25, 12, 13, 15, as varnucht_read has them.
- * Stack: 1,768 bytes. */
+ * Stack: 1,752 bytes. */
 uint64_t varnucht_open(const uint8_t *image, varnucht_length image_len, const uint8_t *name, varnucht_length name_len);
 
 /* The next bytes, to the front of `out`: as many as it holds or as are left.
@@ -377,7 +377,7 @@ enum varnucht_report_place {
 
 /* Adds a disk to a report: any bytes, which are only read. A disk that varnucht_check refuses is counted by the number that
  * it gives, and nowhere else. Value: how many disks are in the report then, 1 to 65,535. Refusals: 20 where `report` is too
- * short to be one, then 31 where 65,535 disks are in it. Stack: 1,768 bytes. */
+ * short to be one, then 31 where 65,535 disks are in it. Stack: 1,752 bytes. */
 uint64_t varnucht_report_add(const uint8_t *image, varnucht_length image_len, uint8_t *report, varnucht_length report_len);
 
 /* Joins `other`, which is only read, to `report`. Value: how many disks are in the report then, 0 to 65,535. Refusals: 20
@@ -471,7 +471,7 @@ uint64_t varnucht_erase(uint8_t *image, varnucht_length image_len, const uint8_t
  * EACH SECTOR OF THE LIST IS A CHANGE OF ITS OWN. Where the writing is stopped, the files erased in the sectors written are
  * gone, all others are still there, and varnucht_check accepts the disk. A file may be left there whose subdirectory is
  * gone: varnucht_tree refuses such a disk 27, and the same names given again erase the rest.
- * Refusals: 1 to 11, 24, 25, 23, 20 (`answers` or `list` too short). Stack: 4,728 bytes. */
+ * Refusals: 1 to 11, 24, 25, 23, 20 (`answers` or `list` too short). Stack: 4,712 bytes. */
 uint64_t varnucht_erase_many(uint8_t *image, varnucht_length image_len, const uint8_t *names, varnucht_length names_len,
                              uint8_t *answers, varnucht_length answers_len, uint8_t *list, varnucht_length list_len);
 
@@ -502,7 +502,7 @@ uint64_t varnucht_release(uint8_t *image, varnucht_length image_len, const uint8
  * long enough. A protected file may be gathered, and any kind with sectors; a subdirectory is refused 13.
  * Value: the file's sectors and one of the directory, named in this order, the first in that of the chain; 0 where the file
  * is left. `list`: two bytes for each; a file that moves has at most 780 sectors, so VARNUCHT_GATHER_LIST_BYTES always
- * suffice. Refusals: 1 to 11, 24, 25, 12, 13 (kind 21), 15, 32, 20. Stack: 2,472 bytes. */
+ * suffice. Refusals: 1 to 11, 24, 25, 12, 13 (kind 21), 15, 32, 20. Stack: 2,456 bytes. */
 uint64_t varnucht_gather(uint8_t *image, varnucht_length image_len, const uint8_t *name, varnucht_length name_len,
                          uint8_t *list, varnucht_length list_len);
 
@@ -538,7 +538,7 @@ uint64_t varnucht_gather(uint8_t *image, varnucht_length image_len, const uint8_
 
 /* Begins a recording: `record` gets its record. The image is only read. The arguments are those of varnucht_save, but for
  * the body and the list. Value: 0. `record`: VARNUCHT_RECORD_BYTES. Refusals: those of a save with an empty body, 1 to 11,
- * 24, 25, 12, 13, 14, 16, 18, 19; then 20 (`record` too short). Stack: 2,344 bytes. */
+ * 24, 25, 12, 13, 14, 16, 18, 19; then 20 (`record` too short). Stack: 2,328 bytes. */
 uint64_t varnucht_record_open(const uint8_t *image, varnucht_length image_len, uint32_t kind, const uint8_t *name,
                               varnucht_length name_len, uint32_t page, uint32_t offset, const uint8_t *exec,
                               varnucht_length exec_len, const uint8_t *info, varnucht_length info_len, uint8_t *record,
@@ -548,7 +548,7 @@ uint64_t varnucht_record_open(const uint8_t *image, varnucht_length image_len, u
  * when a byte beyond it comes; till then its bytes wait in the record. Value: how many sectors, in the order of the chain;
  * 0 is usual for a small piece. `list`: two bytes for each, and a piece of L bytes names at most L / 510 + 1;
  * VARNUCHT_PIECE_LIST_BYTES always suffice. Refusals: 1 to 11, 24, 25, 20 (`record` too short), 30, 19 (the joined pieces
- * take more sectors than are free), 20 (`list` too short). Stack: 7,032 bytes. */
+ * take more sectors than are free), 20 (`list` too short). Stack: 7,016 bytes. */
 uint64_t varnucht_record_add(uint8_t *image, varnucht_length image_len, const uint8_t *piece, varnucht_length piece_len,
                              uint8_t *record, varnucht_length record_len, uint8_t *list, varnucht_length list_len);
 
@@ -556,7 +556,7 @@ uint64_t varnucht_record_add(uint8_t *image, varnucht_length image_len, const ui
  * varnucht_save does. The record is only read. Value: 2 to 4. `list`: VARNUCHT_CLOSE_LIST_BYTES always suffice. Refusals: 1
  * to 11, 24, 25, 20 (`record` too short), 30, 12, 13, 14, 16 (the name was given to a file since), 18 (the last slot was
  * taken since), 19, 20 (`list` too short); of a record made by these calls 12, 13, 14 and 19 do not come.
- * Stack: 7,384 bytes. */
+ * Stack: 7,368 bytes. */
 uint64_t varnucht_record_close(uint8_t *image, varnucht_length image_len, const uint8_t *record,
                                varnucht_length record_len, uint8_t *list, varnucht_length list_len);
 

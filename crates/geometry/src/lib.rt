@@ -22,11 +22,19 @@ pub struct Address {
     pub sector: usize,
 }
 
+// Is there such a sector? The side is asked for by a branch: as one expression it is chosen by value, and a check pays for that
+// at every link of a chain.
 #[tactic(auto, unfolding(crate::specs::Disk::is_sector))]
 pub fn is_sector(track: usize, sector: usize) -> bool
     ensures { result ≡ is_sector track sector }
 {
-    1 <= sector && sector <= 10 && (track < 80 || 128 <= track && track < 208)
+    if sector < 1 || sector > 10 {
+        return false;
+    }
+    if track < 128 {
+        return track < 80;
+    }
+    track < 208
 }
 
 // Has the map a bit for it?

@@ -63,8 +63,8 @@ fn stack_said() -> Vec<(String, usize)> {
 /// `stack.c` says of each call how many bytes of painted stack it wrote over. A save took less than 5,900 bytes, the calls on
 /// reports less than 3,000 and every other call less than 2,030 when bigger directories came; an erase of many 6,392 when it
 /// came, the most of it an index of the names and the list as numbers; a piece of a recording 8,360 and its close 9,016, of which the
-/// record by value is 1,300 wherever it is handed on. A piece that grows the record where it lies takes 7,032, and a close, which is lent
-/// the record, 7,384. The frames in the compiled code have fixed sizes and no call leads back to itself, so that their sum, about the
+/// record by value is 1,300 wherever it is handed on. A piece that grows the record where it lies takes 7,016, and a close, which is lent
+/// the record, 7,368. The frames in the compiled code have fixed sizes and no call leads back to itself, so that their sum, about the
 /// same, holds for every input; but for the tree, which calls itself once for each directory around: at most 255 times, and one of
 /// the disks is as deep as that. Where no directory lies in another it takes less than 7 KiB, 5,736 when the header said so.
 #[test]
